@@ -18,7 +18,7 @@ import * as say from "../../words/help.js";
 /** The titles of the manual's sections about instructions, and about the cells of the machine (registers, RAM, ports ..). */
 export const INSTRUCTIONS = say.INSTRUCTIONS;
 export const CELLS = say.CELLS;
-/** The titles of the manual's sections that describe a bench line in each table row. */
+/** The titles of the manual's sections whose table rows each describe a bench line. */
 const BENCH_LINE_SECTIONS = say.SECTIONS_OF_LINES;
 
 /**
@@ -104,8 +104,8 @@ export function readLineForms(manual) {
 }
 
 /**
- * Returns the bench lines that match a typed text. If a blank follows the first word, returns the lines with this first word. Otherwise,
- * returns the lines that start with the typed text. Returns no lines for a blank text.
+ * Returns the bench lines that match the typed text. If a blank follows the first word, returns the lines with this first word. Otherwise,
+ * returns the lines that start with the typed text. Returns no lines if the typed text is blank.
  * @param {{ form: string, effect: string }[]} lines
  * @param {string} typedText
  */

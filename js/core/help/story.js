@@ -1,5 +1,5 @@
-// Parses the story of an example: a text in steps, with links that run actions on the page. The first line is `# TITLE`. Each step starts
-// with `## TITLE`. Blank lines separate paragraphs. `[WORDS](ACTION)` is a link. The actions are:
+// Parses the story of an example: guided text in steps, with links that run actions on the page. The first line is `# TITLE`. Each step
+// starts with `## TITLE`. Blank lines separate paragraphs. `[WORDS](ACTION)` is a link. The actions are:
 //
 //     run, stop, back, forward                runs the machine; pauses it; goes back to the previous stop; undoes the last move back
 //     go to LABEL, run to LABEL               shows a line of the program; runs the machine to a line
@@ -41,7 +41,7 @@ function parseAction(words) {
 }
 
 /**
- * Splits a paragraph into texts and links. The words of a link without a valid action become a text.
+ * Splits a paragraph into strings of plain text and links. The words of a link without a valid action become plain text.
  * @param {string} text
  * @returns {ParagraphPiece[]}
  */
@@ -69,7 +69,7 @@ function parseStep(text) {
 }
 
 /**
- * Returns the steps of a story; an empty list for an empty text.
+ * Returns the steps of a story; an empty list if the text has no steps.
  * @param {string} text
  * @returns {TourStep[]}
  */

@@ -23,7 +23,7 @@ import * as say from "../../words/help.js";
  * @property {(goal: BackGoal) => Promise<void>} goBack Goes back in time to a goal. Resolves when the session is at the goal.
  * @property {() => Promise<void>} goForward Undoes the last move back: returns to the moment from which that move started.
  * @property {(address: number) => void} goTo Shows an address in the source and in the listing.
- * @property {() => boolean} isRunning Returns whether the machine runs; key changes are then queued.
+ * @property {() => boolean} isRunning Returns whether the machine runs; while it runs, key changes are queued.
  * @property {(key: BoardKey) => boolean} isDown Returns whether a key will be down after all queued changes.
  * @property {(key: BoardKey) => void} press Clicks a key: presses it, or releases it if it is down.
  * @property {(name: string) => void} showText Shows the tab with a name, such as `board`.
@@ -31,7 +31,7 @@ import * as say from "../../words/help.js";
  */
 
 /**
- * Calls a function with the address of a label. Resolves to an error message, "" for none.
+ * Calls a function with the address of a label. Resolves to an error message, or "" if there is none.
  * @param {string} label
  * @param {ActionCallbacks} callbacks
  * @param {(address: number) => unknown} callback
@@ -44,7 +44,7 @@ async function callWithAddress(label, callbacks, callback) {
 }
 
 /**
- * Calls a function with the key that has a legend. Returns an error message, "" for none.
+ * Calls a function with the key that has a legend. Returns an error message, or "" if there is none.
  * @param {string} legend
  * @param {ActionCallbacks} callbacks
  * @param {(key: BoardKey) => unknown} callback
@@ -57,7 +57,7 @@ function callWithKey(legend, callbacks, callback) {
 }
 
 /**
- * The functions that run the actions, by the name of the action. Each function resolves to an error message, "" for none.
+ * The functions that run the actions, by the name of the action. Each function resolves to an error message, or "" if there is none.
  * @type {Record<import("./story.js").ActionName, (argument: string, callbacks: ActionCallbacks) => Promise<string>>}
  */
 const ACTIONS = {
@@ -75,7 +75,7 @@ const ACTIONS = {
 };
 
 /**
- * Calls a function whose action needs no check. Resolves to "", because there is no error message.
+ * Calls the function for an action whose argument needs no check. Always resolves to "", which means that there is no error.
  * @param {() => unknown} callback
  */
 async function perform(callback) {
@@ -84,7 +84,7 @@ async function perform(callback) {
 }
 
 /**
- * Runs the action of a link. Resolves to an error message, "" for none.
+ * Runs the action of a link. Resolves to an error message, or "" if there is none.
  * @param {StoryAction} action
  * @param {ActionCallbacks} callbacks
  */

@@ -1,5 +1,5 @@
-// Defines the tour of the page, which explains a first program in five steps. Each step has a text, a program to type, and a function that
-// returns whether the step is done.
+// Defines the tour of the page, which explains a first program in five steps. Each step has explanatory paragraphs, a program to type, and
+// a function that returns whether the step is done.
 
 import * as say from "../../words/help.js";
 
@@ -11,14 +11,14 @@ import * as say from "../../words/help.js";
  * - `end`: the reason for the last stop in this step, such as `break` or `watch`; "" for none.
  * @typedef {{ lamps: string, patterns: number, keysDown: number, end: string }} TourState
  *
- * A piece of a paragraph: a text, or a link with an action. Only stories have links.
+ * A piece of a paragraph: plain text, or a link with an action. Only stories have links.
  * @typedef {string | { linkText: string, action: import("./story.js").StoryAction }} ParagraphPiece
  *
  * The control that a step highlights: the assemble button, a key of the board, the margin of the source, or a RAM nibble.
  * @typedef {"send" | "key" | "margin" | "ram"} Target
  *
- * A step: its title, its paragraphs, the program to type ("" for no change), the highlighted control, and a function that returns whether
- * the step is done.
+ * A step: its title, its paragraphs, the program to type ("" if the program stays the same), the highlighted control, and a function that
+ * returns whether the step is done.
  * @typedef {{ title: string, paragraphs: (string | ParagraphPiece[])[], program: string, target?: Target,
  *   isDone: (state: TourState) => boolean }} TourStep
  */
@@ -67,7 +67,7 @@ export const TOUR = [
 ];
 
 /**
- * Returns whether the tour can replace a program text: true if the text is empty or the program of a step.
+ * Returns whether the tour can replace a program text: true if the text is empty or is the program of a step.
  * @param {string} text
  */
 export function isTourText(text) {

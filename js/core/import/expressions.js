@@ -1,5 +1,5 @@
-// Evaluates expressions in the syntax of Intel's assembler and of the AS macro assembler. They contain names, numbers, parentheses and the
-// operators + - * / and &. The prefixes < and > select the low and the high byte. As an operand, $ or * is the address of the line.
+// Evaluates expressions in the syntax of Intel's assembler and of the AS macro assembler. Expressions contain names, numbers, parentheses
+// and the operators + - * / and &. The prefixes < and > select the low and the high byte. As an operand, $ or * is the address of the line.
 
 import { toAsciiUpperCase } from "./source_lines.js";
 import * as say from "../../words/import.js";
@@ -224,7 +224,7 @@ class Evaluation {
 }
 
 /**
- * Returns whether all characters of a text are ASCII characters other than NUL.
+ * Returns whether all characters of a string are ASCII characters other than NUL.
  * @param {string} text
  */
 export function isAscii(text) {

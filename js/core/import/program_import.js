@@ -46,7 +46,7 @@ const CONDITION_BITS = { Z: 4, C: 2, T: 1 };
 class LineError extends Error {}
 
 /**
- * Returns a text, padded with blanks to a column. A text that already reaches the column gets one blank.
+ * Pads text with blanks to a column. If the text already reaches the column, appends one blank.
  * @param {string} text
  * @param {number} column
  */
@@ -83,7 +83,7 @@ class ProgramImport {
     if (this.errors.length > 0) return [];
     this.chooseSpellings();
     let passes = MAX_PASSES;
-    // The value of a name can depend on later lines, so the passes continue until no value changes.
+    // The value of a name can depend on later lines, so the passes are repeated until no value changes, at most MAX_PASSES times.
     while (passes > 0 && this.computeValues()) passes -= 1;
     return this.lines.map((line, at) => this.attemptLine(at + 1, () => this.formatOutputLine(line), ""));
   }

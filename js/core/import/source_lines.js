@@ -43,7 +43,7 @@ const DIRECTIVES = new Set([...BYTE_DIRECTIVES, ...RESERVE_DIRECTIVES, "EQU", "=
 /** The directives that cannot be imported. */
 export const UNSUPPORTED_DIRECTIVES = new Set(["MACRO", "ENDM", "IF", "ELSE", "ENDIF", "IFDEF", "IFNDEF", "INCLUDE", "BINCLUDE", "REPT",
   "IRP", "WHILE", "STRUCT", "SECTION", "DW"]);
-/** The mnemonic of the instruction that writes to program RAM, which the bench does not have. */
+/** The mnemonic of the instruction that writes to program RAM. The bench has no program RAM. */
 export const PROGRAM_RAM_MNEMONIC = "WPM";
 /** The mnemonics and directives. At the start of a line, such a word is a label only if a colon or a comma follows. */
 const NON_LABEL_WORDS = [OPERAND_KINDS, INSTRUCTIONS_OF_4040, COMMENTED_DIRECTIVES, DIRECTIVES, UNSUPPORTED_DIRECTIVES,
@@ -56,7 +56,7 @@ const DEFINITION = /^(=|EQU|SET|:=)(?=[ \t]|$|[^A-Za-z0-9_=])/i;
 const NAMED_DEFINITION = new RegExp(`^(${NAME})[ \\t]*(?:=|[ \\t]EQU[ \\t]|[ \\t]SET[ \\t])`, "i");
 
 /**
- * Converts the ASCII letters in a text to upper case.
+ * Converts the ASCII letters in a string to upper case.
  * @param {string} text
  */
 export function toAsciiUpperCase(text) {
@@ -64,7 +64,7 @@ export function toAsciiUpperCase(text) {
 }
 
 /**
- * Returns a text without the blanks and tabs at both ends.
+ * Removes the blanks and tabs at both ends of a string.
  * @param {string} text
  */
 export function trimBlanks(text) {
@@ -115,8 +115,8 @@ function splitLabel(line) {
 }
 
 /**
- * Splits the statement after a label into its first word and its operands. A definition of a name has the form `X = 5` or `X EQU 5`, with
- * or without a colon after X.
+ * Splits the statement after a label into its first word and its operands. A definition of a name has a form such as `X = 5` or `X EQU 5`,
+ * with or without a colon after X.
  * @param {string} label
  * @param {string} code
  */

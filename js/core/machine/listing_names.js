@@ -60,7 +60,7 @@ function replaceTarget(instruction, source, map) {
 }
 
 /**
- * Returns the length of the longest text of the labels at one address, including colons and blanks; 0 if there are no labels.
+ * Returns the maximum width of the labels at one address, including colons and blanks; 0 if there are no labels.
  * @param {SourceMap | null} map
  */
 export function labelsWidth(map) {

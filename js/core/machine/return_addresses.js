@@ -53,7 +53,7 @@ export function describeCounter(address, map) {
 }
 
 /**
- * Describes a return address: its name and the line of its call. If no call will use the address, the description says that it is stale.
+ * Describes a return address: its name and the line of its call. If the stack entry is stale, the description says so.
  * @param {number} address
  * @param {boolean} isLive
  * @param {SourceMap | null} map
@@ -67,7 +67,7 @@ export function describeReturn(address, isLive, map) {
 }
 
 /**
- * Joins the texts that are not empty with commas.
+ * Joins the non-empty strings with commas.
  * @param {string[]} texts
  */
 function joinWords(texts) {

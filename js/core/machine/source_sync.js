@@ -47,7 +47,7 @@ export class SourceSync {
     this.mismatch = "";
     /** @type {ProgramCheck | null} the result of the last check */
     this.lastResult = null;
-    /** The text of the last check. */
+    /** The source that was checked last. */
     this.text = "";
     /** The number of the last check that was started. `check` discards the results of older checks. */
     this.lastCheck = 0;
@@ -56,7 +56,7 @@ export class SourceSync {
     this.nextLine = 0;
   }
 
-  /** Clears all results because the editor shows another text. */
+  /** Clears all results. Called when the editor shows another text. */
   forget() {
     this.map = null;
     this.mismatch = "";
@@ -153,7 +153,7 @@ export class SourceSync {
 }
 
 /**
- * Returns the addresses of all lines, "" for a line without bytes.
+ * Returns the addresses of all lines, with "" for a line without bytes.
  * @param {SourceMap} map
  */
 function listLineAddresses(map) {

@@ -36,7 +36,7 @@ export class SourceValues {
     this.changes = new LineChanges();
   }
 
-  /** Clears the values because the page shows another session. */
+  /** Clears the values. Called when the page shows another session. */
   forget() {
     this.snapshot = [];
     this.state = null;

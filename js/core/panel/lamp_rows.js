@@ -80,7 +80,7 @@ class LampRows {
   /**
    * Adds the rows of a group.
    * @param {Group} group
-   * @param {number} multiplexedIndex the index among the multiplexed groups that are not displays; -1 for a group without multiplexing
+   * @param {number} multiplexedIndex the index among the multiplexed groups that are not displays; -1 if the group is not multiplexed
    */
   addGroup(group, multiplexedIndex) {
     const { kind, first, rows, columns } = group;

@@ -1,5 +1,5 @@
-// A snapshot of the session for the panel. It contains the registers, keys, RAM, lamp brightness, and the instructions near the program
-// counter, from the answers to queries.
+// A snapshot of the session for the panel. The snapshot contains the registers, keys, RAM, lamp brightness, and the instructions near the
+// program counter, read from the answers to queries.
 
 import { readRam } from "../bench/answers.js";
 import { joinLines, matchAnswers, readInputs } from "../bench/inputs.js";
@@ -156,7 +156,7 @@ export class PanelSnapshot {
     return lamp.isLit(this.marks) ? FULL_LEVEL : 0;
   }
 
-  /** The text of the displays and named lamps. */
+  /** The state of the displays and named lamps as text. */
   get display() {
     const { text } = this.text;
     return joinDisplayText(this.brightness ? this.text.readBrightness(this.brightness) : text.read(this.marks));

@@ -114,7 +114,7 @@ export class Screen {
 
   // --- the top rows ---
 
-  /** Returns the rows above RAM, the front panel and the listing, as texts. */
+  /** Returns the rows above RAM, the front panel and the listing, as strings. */
   buildTopRows() {
     const { panel, title, name } = this;
     const state = panel.isPaused ? say.pausedState(panel.pauseReason) : say.RUNNING;

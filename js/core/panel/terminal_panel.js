@@ -246,7 +246,7 @@ export class Panel {
     await this.changeKey({ key, word: this.snapshot.isDown(key) ? "release" : "press" });
   }
 
-  /** Sets a breakpoint at the program counter, or deletes it. */
+  /** Sets a breakpoint at the program counter, or deletes the existing one. */
   async toggleBreakpoint() {
     const { counter } = this.snapshot;
     await this.sendCommand(`${this.snapshot.isAtBreakpoint ? "unbreak" : "break"} 0x${hex(counter, 3)}`);

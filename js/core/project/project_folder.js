@@ -29,7 +29,7 @@ export class ProjectError extends Error {
 }
 
 /**
- * Checks the bytes of a project file before they are decoded as text. Returns an error message, "" for none.
+ * Checks the bytes of a project file before they are decoded as text. Returns an error message, or "" if there is none.
  * @param {Uint8Array} bytes
  */
 function findBytesError(bytes) {

@@ -40,7 +40,8 @@ export function parseAddress(text, { map }) {
 /**
  * Parses the location of an instruction. For a line without an instruction, returns the first instruction after the line, and fails if
  * there is none. Also fails if the text is not a location.
- * @param {string} text a line, a label or an address, optionally after a file name such as `demo.asm:`; "" for the next instruction to run
+ * @param {string} text a line, a label or an address, optionally after a file name such as `demo.asm:`; or "" to get the next
+ *   instruction to run
  * @param {DebugSession} session
  * @returns {ProgramLocation}
  */

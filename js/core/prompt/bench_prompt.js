@@ -1,5 +1,5 @@
-// The prompt of `mcs4 new` and `mcs4 open`. A callback sends the bench lines to the bench. The prompt also reads texts from files, prints
-// help, completes lines, and explains why the bench rejects a line.
+// The prompt of `mcs4 new` and `mcs4 open`. A callback sends the bench lines to the bench. The prompt also reads board and program texts
+// from files, prints help, completes lines, and explains why the bench rejects a line.
 //
 //     const prompt = new SessionPrompt(callbacks);
 //     await prompt.enterLine("press 3 9"); prompt.label; prompt.isEnded; await prompt.complete("pr");
@@ -19,14 +19,14 @@ import * as say from "../../words/session_prompt.js";
  * @typedef {import("../bench/answers.js").Refusal} Refusal
  * @typedef {import("../help/manual.js").ManualSection} ManualSection
  * @typedef {import("./line_completion.js").Completion} Completion
- * A command that is followed by the lines of a text.
+ * A command that is followed by the lines of a board or program text.
  * @typedef {"wire" | "asm" | "map" | "wiring" | "errors"} TextWord
  *
- * An error in a text: the line number from 1 (0 for none), and the message.
+ * An error in such a text: the line number from 1 (0 for none), and the message.
  * @typedef {{ line: number, words: string }} TextError
  *
  * A text whose last line (a dot) has not been entered yet: the command that starts the text, such as `wire`, and the lines after this
- * command. `commandLine` is the line number of the command in a `source` file, 0 for a typed command.
+ * command. `commandLine` is the line number of the command in a `source` file, or 0 if the command was typed.
  * @typedef {{ word: TextWord, lines: string[], commandLine: number }} UnfinishedText
  */
 
@@ -55,7 +55,7 @@ const NO_KEY_ERROR = 41;
 const NO_ROM_ERROR = 42;
 const NO_RAM_ERROR = 43;
 const NO_RUN_ERROR = 44;
-/** The first and the last error number of the bench for errors in texts. */
+/** The first and the last error number of the bench for errors in board and program texts. */
 const TEXT_ERROR_NUMBERS = { first: 12, last: 42 };
 
 /** The error that is thrown for a line that the prompt itself rejects. */
@@ -164,7 +164,7 @@ export class SessionPrompt {
   // --- texts ---
 
   /**
-   * Sends a text from a file to the bench, without the comments. Resolves to false if the text is rejected.
+   * Sends a board or program text from a file to the bench, without its comments. Resolves to false if the text is rejected.
    * @param {TextWord} word the command for the text
    * @param {string} name the file name
    */
@@ -279,7 +279,7 @@ export class SessionPrompt {
 
   /**
    * Prints the description of a topic, or the list of all lines. Returns true. Throws RejectedLine if the topic is unknown.
-   * @param {string} topic the first word of a line, `places` for the names in `poke` lines, or an error number; "" for all lines
+   * @param {string} topic the first word of a line, `places` for the names in `poke` lines, or an error number; or "" to list all lines
    */
   printHelp(topic) {
     const [word = ""] = topic.split(/[ \t]+/);

@@ -14,7 +14,7 @@ import * as say from "../../words/prompt.js";
 const BREAKPOINT_ARGUMENTS = /^(.*?)(?:\s*\bfrom\s+(\d{1,9}))?(?:\s*\bif\s+(.+?))?(?:\s*\blog\s+"([^"]*)")?$/;
 /** The word that means the number of the breakpoint that was set last, as in gdb. */
 export const LAST_BREAKPOINT = "$bpnum";
-/** Matches the name of a RAM nibble. The bench watches RAM nibbles. Only the command `continue` watches any other place. */
+/** Matches the name of a RAM nibble. The bench watches RAM nibbles. The command `continue` watches any other place. */
 const RAM_NIBBLE = /^ram\.[0-7]\.\w+$/i;
 
 export class BreakpointCommands {
@@ -56,7 +56,7 @@ export class BreakpointCommands {
 
   /**
    * Adds the breakpoints of the bench to the list, and removes the breakpoints that the bench no longer has. Keeps breakpoints with a
-   * condition, a hit count or a log text, which the bench never has.
+   * condition, a hit count or a log text, because the bench never has such breakpoints.
    */
   syncWithBench() {
     const { map, debugger: { session } } = this.prompt.session;
@@ -131,7 +131,7 @@ export class BreakpointCommands {
 
   /**
    * Deletes breakpoints or a watch.
-   * @param {string} argumentText the breakpoint numbers, or the watched place; "" for all breakpoints
+   * @param {string} argumentText the breakpoint numbers, or the watched place; or "" to delete all breakpoints
    */
   async remove(argumentText) {
     if (/[a-z]/i.test(argumentText.replace(LAST_BREAKPOINT, ""))) return this.unwatch(argumentText);
@@ -141,7 +141,7 @@ export class BreakpointCommands {
   }
 
   /**
-   * Sets a watch. Fails if `continue` already watches another place.
+   * Sets a watch. For a place that is not a RAM nibble, fails if `continue` already watches another place.
    * @param {string} argumentText the place to watch
    */
   async watch(argumentText) {

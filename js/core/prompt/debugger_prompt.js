@@ -41,7 +41,7 @@ import { stoppedAt } from "../../words/stops.js";
  * @property {() => Promise<void>} pause Yields to other tasks, such as the handler of Ctrl-C.
  * @property {() => string | null} source Returns the current text of the program file; null if the program has no file.
  * @property {(name: string) => string} read Returns the text of a file; throws an error with the reason if it cannot be read.
- * @property {(name: string, text: string) => void} write Writes a text to a file; throws an error with the reason if it cannot be written.
+ * @property {(name: string, text: string) => void} write Writes text to a file; throws an error with the reason if it cannot be written.
  * @property {(prefix: string) => string[]} files Returns the file names that start with a prefix.
  * @property {boolean} isInteractive True if a user at a terminal can interrupt an endless run.
  * @property {{ toggle: () => string, setVisible: (isOn: boolean) => string } | null} view Shows or hides the view (view.js); null without a
@@ -301,7 +301,7 @@ export class Prompt {
   // --- completion ---
 
   /**
-   * Resolves to the completions of a line: the candidate words, and the end of the line that the chosen word replaces.
+   * Resolves to the completions of a line: the candidate words, and the last part of the line, which the chosen word replaces.
    * @param {string} line the line up to the cursor
    * @returns {Promise<[string[], string]>}
    */

@@ -124,7 +124,7 @@ export class InspectCommands {
 
   /**
    * Removes expressions that are printed at each stop.
-   * @param {string} argumentText the numbers of the expressions; "" for all
+   * @param {string} argumentText the numbers of the expressions, or "" to remove all
    */
   removeDisplays(argumentText) {
     const ids = argumentText.split(/\s+/).filter(Boolean).map(Number);
@@ -152,7 +152,8 @@ export class InspectCommands {
 
   /**
    * Prints source lines: the lines around a location, or the lines after the last printed line.
-   * @param {string} argumentText the location; "" for the lines after the last printed line
+   * @param {string} argumentText the location, or "" to print the lines after the last printed line; if `list` has printed nothing since
+   *   the last stop, "" prints the lines around the next instruction
    */
   listSource(argumentText) {
     const { callbacks, session } = this.prompt;

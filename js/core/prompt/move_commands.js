@@ -75,8 +75,8 @@ export class MoveCommands {
   }
 
   /**
-   * Repeats a move up to a number of times, or until a move stops for a reason other than the end of its step. Shows where the last move
-   * stopped.
+   * Repeats a move at most a given number of times. Ends early if a move stops for a reason other than the end of its step. Shows where the
+   * last move stopped.
    * @param {string} argumentText the number of moves; "" means 1
    * @param {() => void} startMove starts the move
    */
@@ -101,7 +101,7 @@ export class MoveCommands {
   }
 
   /**
-   * Runs until the current subroutine returns. Fails if the program is in no subroutine.
+   * Runs until the current subroutine returns. Fails if the program is not in a subroutine.
    * @param {string} argumentText must be ""
    */
   finishSubroutine(argumentText) {
@@ -124,7 +124,8 @@ export class MoveCommands {
   }
 
   /**
-   * Presses and releases keys one after another while the machine runs. If a breakpoint stops the machine, does not press the other keys.
+   * Presses and releases keys one after another while the machine runs. If the machine stops early, such as at a breakpoint, does not press
+   * the remaining keys.
    * @param {string} argumentText the names of the keys
    */
   async pressKeys(argumentText) {

@@ -1,14 +1,14 @@
-// The names, abbreviations and help texts of the debugger prompt's commands.
+// The names, abbreviations and help of the debugger prompt's commands.
 
 import { COMMAND_WORDS } from "../../words/debug_commands.js";
 import * as say from "../../words/prompt.js";
 
 /**
- * The help texts for a command: its name, its abbreviations, its usage, its effect, and further help (`details`, "" for none).
+ * The help for a command: its name, its abbreviations, its usage, its effect, and further help (`details`, "" for none).
  * @typedef {{ name: string, abbreviations: string[], usage: string, effect: string, details: string }} CommandText
  */
 
-/** @type {CommandText[]} the help texts of all commands */
+/** @type {CommandText[]} the help for all commands */
 export const COMMANDS = COMMAND_WORDS.map(({ names, usage, effect, details }) => {
   const [name, ...abbreviations] = names.split(" ");
   return { name, abbreviations, usage, effect, details };
@@ -31,7 +31,7 @@ export function findCommand(word) {
 
 /**
  * Returns the help for a command, or the list of all commands.
- * @param {string} word the command; "" for the list
+ * @param {string} word the command, or "" to get the list
  */
 export function commandHelp(word) {
   if (word === "") return COMMANDS.map(({ usage, effect }) => `${usage.padEnd(25)} ${effect}`).join("\n");

@@ -22,7 +22,7 @@ export class BoardKeyNames {
     this.namedKeys = listNamedKeys(face);
   }
 
-  /** The names of all keys. The name of a key without a name on the front panel is its row and column, such as `3.0`. */
+  /** The names of all keys. A key that has no name on the front panel is named by its row and column, such as `3.0`. */
   get names() {
     const { rows, columns } = readBoard(this.session.debugger.session.statusQueries.board);
     const namedPositions = new Set([...this.namedKeys.values()].map(({ key }) => formatKey(key)));

@@ -12,8 +12,8 @@ import { describeTimeTravel } from "../../words/stops.js";
  */
 
 /**
- * Steps back over several instructions, or over fewer if the stored past begins earlier. In the result, `message` has the cycles of all
- * these steps.
+ * Steps back over several instructions, or over fewer if the stored past contains fewer. In the result, `message` contains the total number
+ * of cycles of these steps.
  * @param {DebugSession} session
  * @param {number} count at least 1
  * @param {ShouldContinue} shouldContinue

@@ -23,7 +23,7 @@ const MAX_IGNORED_HITS = 999999999;
 const MAX_COMMANDS = 100;
 /** The line that ends a list of commands. */
 export const COMMANDS_END = "end";
-/** If this is the first command of a list, the message about the stop is hidden. */
+/** The command that hides the message about the stop if it is the first command of a list. */
 const SILENT_COMMAND = "silent";
 
 /** @type {(command: string) => string} returns the line that applies a command to the breakpoint that was set last */
@@ -115,7 +115,7 @@ export class StopCommands {
 
   /**
    * Begins a list of commands. The next lines are the commands, up to the line `end`.
-   * @param {string} argumentText the breakpoint number; "" for the breakpoint that was set last
+   * @param {string} argumentText the breakpoint number, or "" to use the breakpoint that was set last
    */
   beginCommands(argumentText) {
     const { breakpoint: { id }, remainingText } = this.parseBreakpoint(argumentText || LAST_BREAKPOINT, say.COMMANDS_SYNTAX);

@@ -14,7 +14,7 @@ import * as say from "../../words/prompt.js";
 /**
  * @typedef {import("./debugger_prompt.js").Prompt} Prompt
  * @typedef {{ rows: number, columns: number }} ViewSize the number of lines, and the maximum length of a line in characters
- * @typedef {(text: string) => string} Highlight a function that adds control codes, so that the terminal highlights a text
+ * @typedef {(text: string) => string} Highlight a function that adds control codes, so that the terminal highlights the text
  *
  * The functions that highlight the header line (`head`), the next instruction, and values that the last move changed.
  * @typedef {{ head: Highlight, nextInstruction: Highlight, changedValue: Highlight }} Highlights
@@ -27,7 +27,7 @@ export const MIN_COLUMNS = 40;
 const MIN_COMMAND_ROWS = 5;
 /** The maximum number of rows in the view. */
 const MAX_ROWS = 40;
-/** The minimum number of columns with which the registers are beside the source; with fewer columns, they are below the source. */
+/** The minimum number of columns for showing the registers beside the source; with fewer columns, they are below the source. */
 const WIDE_COLUMNS = 72;
 /** The width of the registers beside the source, in columns. */
 const SIDE_COLUMNS = 24;
@@ -43,12 +43,12 @@ const MAX_DISPLAYS = 4;
 export function viewSize(rows, columns) {
   if (!(rows >= MIN_ROWS && columns >= MIN_COLUMNS)) return null;
   const wantedRows = Math.round(rows * 0.6);
-  // A text in the last column could make the terminal start a new line.
+  // Text in the last column could make the terminal start a new line.
   return { rows: Math.min(MAX_ROWS, wantedRows, rows - MIN_COMMAND_ROWS), columns: columns - 1 };
 }
 
 /**
- * Returns a text with escaped control characters, shortened to a maximum number of columns.
+ * Escapes the control characters in text, and shortens the text to a maximum number of columns.
  * @param {string} text
  * @param {number} maxColumns
  */
@@ -125,7 +125,7 @@ export class View {
   }
 
   /**
-   * Returns the name and the value of a register as one text, which is highlighted if the last move changed the value.
+   * Returns the name and the value of a register as one string, which is highlighted if the last move changed the value.
    * @param {string} name
    * @param {Highlight} highlight
    * @returns {string}

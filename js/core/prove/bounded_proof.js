@@ -1,5 +1,5 @@
-// Proves properties on the page. Asks the prover in the WebAssembly module repeatedly, each time with twice the previous limit on the
-// number of states, so that the page can show progress. Confirms a counterexample by running its test. The page's worker uses this module.
+// Proves properties on the page. Asks the prover in the WebAssembly module repeatedly, with increasing limits on the number of states, so
+// that the page can show progress. Confirms a counterexample by running its test. The page's worker uses this module.
 //
 //     const calls = { reportStates: async (states) => {}, yieldToMessages: async () => {} };
 //     const { proving, errors } = beginProving(engine, texts, 1000000, calls);
@@ -22,7 +22,8 @@ import * as say from "../../words/prove.js";
  * @typedef {import("./verdicts.js").JudgedProperty} JudgedProperty
  * @typedef {import("./verdicts.js").Verdict} Verdict
  *
- * A property and its verdict, in a message to the page. `line` is the line number in the properties text, 0 for a common mistake.
+ * A property and its verdict, in a message to the page. `line` is the line number in the properties text, or 0 if the property excludes a
+ * common mistake.
  * @typedef {{ text: string, line: number, isGoal: boolean, verdict: Verdict }} PropertyVerdict
  *
  * @typedef {object} ProvingCalls
@@ -100,8 +101,8 @@ class ProverQueries {
 }
 
 /**
- * Parses the texts. Returns the object that decides the properties one after the other; null if a text has an error, in which case `errors`
- * has the errors.
+ * Parses the texts. Returns the object that decides the properties one after the other; null if a text has an error, in which case the
+ * errors are in `errors`.
  * @param {Engine} engine
  * @param {ExploredTexts} texts
  * @param {number} maxStates the maximum number of states per question

@@ -15,8 +15,8 @@ import { ADDRESS_COUNT, PAGE_BYTES } from "../bench/rom_bytes.js";
  * @typedef {Comparison[]} Comparisons
  *
  * A part of the machine state that a condition can read, such as a register. Its values are the numbers from 0 to `count` - 1. `texts`
- * returns the texts that `trace` can show for a value; there are several if `trace` also shows the levels of input lines. `between` returns
- * the condition that the value is in a range: at least one of the returned conjunctions must be true.
+ * returns the strings that `trace` can show for a value; there are several if `trace` also shows the levels of input lines. `between`
+ * returns the condition that the value is in a range: at least one of the returned conjunctions must be true.
  * @typedef {{ name: string, count: number, texts: (number: number) => string[],
  *   between: (low: number, high: number) => Comparisons[] }} Field
  */

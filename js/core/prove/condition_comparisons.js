@@ -71,7 +71,7 @@ class Evaluation {
   /**
    * Returns the value of a field as text. Throws UndecidedField if the field has no value. Throws UnsupportedQuestion if the condition
    * reads an input or too many values.
-   * @param {Field | null} field null for an input
+   * @param {Field | null} field null if the place is an input
    * @param {string} name
    */
   readField(field, name) {

@@ -31,7 +31,7 @@ const MINIMISING_CYCLES = 10e6;
  * counterexample would be slow.
  */
 const MAX_MINIMISED_CYCLES = 1e6;
-/** The property forms that depend on all events since power-on. To find a violation, a walk must be watched from its start. */
+/** The property forms that depend on all events since power-on. A violation is found only if the walk is watched from its start. */
 const FORMS_WITH_MEMORY = new Set(["calls", "returns", "never for", "every", "within", "only after"]);
 
 /**
@@ -141,7 +141,7 @@ class Replay {
       const cycles = countCyclesToMistake(subject, file, this.mistake, remainingCycles);
       return cycles < 0 ? null : { property: 0, steps, time: time + cycles };
     }
-    // Add one more cycle, in which the instruction at a label starts.
+    // Add one more cycle, in which the instruction at the label of the property starts.
     const waits = splitCycles(remainingCycles + 1).map((wait) => ({ wait, kind: /** @type {const} */ ("none"), input: -1 }));
     const violationTime = needsFullWalk ? this.findViolationTime(subject.file, [...steps.flatMap(splitLongWait), ...waits])
       : this.findViolationTime(file, waits);

@@ -11,8 +11,9 @@ import { togetherLine } from "../../words/prove.js";
  * @typedef {import("../board/key_place.js").MatrixKey} MatrixKey
  * @typedef {import("../explore/campaign.js").Campaign} Campaign
  *
- * The limits on the inputs in a proof. `keys` are the keys that may be pressed, null for all keys. `maxKeysDown` is the maximum number of
- * keys that are down at the same time, null for any number. `words` are the lines of the text that set these limits, such as `together 2`.
+ * The limits on the inputs in a proof. `keys` are the keys that may be pressed, or null if all keys may be pressed. `maxKeysDown` is the
+ * maximum number of keys that are down at the same time, or null if the number is not limited. `words` are the lines of the properties text
+ * that set these limits, such as `together 2`.
  * @typedef {{ keys: MatrixKey[] | null, maxKeysDown: number | null, words: string[] }} InputLimits
  */
 
@@ -45,8 +46,8 @@ function countLinesAtOnePort(keys, { matrix }) {
 }
 
 /**
- * Returns the limits that a properties text sets on the inputs; null if a proof cannot use its limits. Without `press` and `test`, all keys
- * can be pressed in a proof, named or not. A limit on the number of keys that are down matters only if one read can see more keys.
+ * Returns the limits that a properties text sets on the inputs; null if it sets none that a proof can use. Without `press` and `test`, all
+ * keys can be pressed in a proof, named or not. A limit on the number of keys that are down matters only if one read can see more keys.
  * @param {Campaign} campaign
  * @param {Board} board
  * @returns {InputLimits | null}
@@ -57,7 +58,7 @@ export function findInputLimits(campaign, board) {
   const pressableKeys = inputWords.length > 0 ? listPressableKeys(campaign, board) : allKeys;
   const limitsKeys = pressableKeys.length < allKeys.length;
   const limitsCount = maxKeysDown < countLinesAtOnePort(pressableKeys, board);
-  // The tests that lead to a saved state can use any inputs.
+  // The tests that lead to a saved state can use any inputs, so no limits apply to a proof from that state.
   if (from || !(limitsKeys || limitsCount)) return null;
   return {
     keys: limitsKeys ? pressableKeys : null, maxKeysDown: limitsCount ? maxKeysDown : null,

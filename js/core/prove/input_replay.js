@@ -1,4 +1,4 @@
-// Converts the input values in a counterexample of the prover to steps that press keys, release keys or set TEST. For this, this module
+// Converts the input values in a counterexample of the prover to steps that press keys, release keys or set TEST. To do so, this module
 // runs the program on the bench. Before each instruction that reads an input, it sets the keys or TEST so that the program reads the next
 // value.
 

@@ -18,7 +18,7 @@ import * as say from "../../words/prove.js";
  *
  * The state that decides whether the next instruction makes a mistake. `address` and `code` are the address and the opcode of the
  * instruction. `dcl` is the selected RAM bank, and `pair` is the value of register pair P0. `lastSrcByte` is the byte of the last SRC,
- * which selects the ROM port. `bankSrcBytes` has the byte of the last SRC to each RAM bank, by bank number.
+ * which selects the ROM port. `bankSrcBytes` contains the byte of the last SRC to each RAM bank, by bank number.
  * @typedef {{ board: Board, address: number, code: number, dcl: number, pair: number, lastSrcByte: number,
  *   bankSrcBytes: Map<number, number> }} MachineState
  */
@@ -34,7 +34,7 @@ const MAX_CHECKED_CYCLES = 200000;
 /** The maximum number of cycles that one call of the bench runs. */
 const CHUNK_CYCLES = 500;
 
-/** @type {(board: Board, chip: number) => string} returns the port of a ROM as in the board text; "" if the board lacks it */
+/** @type {(board: Board, chip: number) => string} returns the port of a ROM as in the board text; "" if the board lacks the ROM */
 const findPortMarks = ({ roms }, chip) => (roms.find((rom) => Number(rom.chip) === chip) || { port: "" }).port;
 /** @type {(board: Board, address: number) => boolean} returns whether the board lacks the ROM that contains an address */
 const lacksRom = (board, address) => findPortMarks(board, address >> 8) === "";

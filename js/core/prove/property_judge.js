@@ -79,14 +79,14 @@ export class PropertyJudge {
     this.textProperties = campaign.properties.filter(({ line }) => line > 0)
       .map((property) => ({ property, propertyQuestion: createQuestion(property, campaign, subject) }));
     this.mistakes = listMistakes();
-    /** The limits that the text sets on the inputs; null if a proof cannot use its limits. */
+    /** The limits that the text sets on the inputs; null if it sets none that a proof can use. */
     this.inputLimits = findInputLimits(campaign, subject.names.board);
     /** The number of properties and common mistakes that have a verdict. */
     this.judgedCount = 0;
     /** The questions about properties that can be combined into one. */
     this.jointQuestion = new JointQuestion(this.textProperties.flatMap(({ property, propertyQuestion: { question } }) => (
       !question || needsSeparateQuestion(property, question) ? [] : [question])), FINAL_ANSWERS, calls.ask);
-    /** @type {Verdict | null} the verdict, proved by sets of states, that the program makes no common mistake; null if it is not proved */
+    /** @type {Verdict | null} the verdict of a proof by sets of states that there is no common mistake; null if there is no such proof */
     this.noMistakeVerdict = null;
     /** The question about all common mistakes. */
     this.anyMistakeQuestion = new JointQuestion(this.mistakes.map(({ word }) => mistakeQuestion([word])), FINAL_MISTAKE_ANSWERS, calls.ask);

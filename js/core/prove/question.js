@@ -32,8 +32,8 @@ import * as say from "../../words/prove.js";
  * @typedef {{ openCondition: Comparisons[], keys: MatrixKey[] }} Presses
  *
  * A question. `forbidden` is the condition that must never be true. `mistakes` are the words for the common mistakes that the program must
- * never make. `stopwatch` and `presses` are the time limit and the required presses, null for none. `inputLimits` are the limits on the
- * inputs, null for all inputs.
+ * never make. `stopwatch` and `presses` are the time limit and the required presses, or null if there are none. `inputLimits` are the
+ * limits on the inputs, or null if all inputs are allowed.
  * @typedef {{ forbidden: Comparisons[], mistakes: string[], stopwatch: Stopwatch | null, presses: Presses | null,
  *   inputLimits: InputLimits | null }} Question
  *
@@ -41,7 +41,7 @@ import * as say from "../../words/prove.js";
  * @typedef {{ question: Question, reason: "" } | { question: null, reason: string }} PropertyQuestion
  *
  * An answer of the prover that is not an error:
- * - `holds`: no reachable state violates the question; `states` is the number of reachable states;
+ * - `holds`: no reachable state violates a requirement of the question; `states` is the number of reachable states;
  * - `fails`: `values` are the input values that the program reads up to a violation;
  * - `more`: there are more states than the limit `maxStates`;
  * - `lost`: the prover gave up the search;
@@ -50,7 +50,7 @@ import * as say from "../../words/prove.js";
  * @typedef {{ kind: "holds", states: number } | { kind: "fails", values: number[] } | NoAnswer} Answer
  *
  * The limits of a question:
- * - `maxStates`: the maximum number of states; `memory`: the maximum memory for them in MB (0 for all memory);
+ * - `maxStates`: the maximum number of states; `memory`: the maximum memory for them in MB (0 to use all memory);
  * - `sets`: the maximum number of sets of states; with 0, the prover searches single states;
  * - `pause`: a number of cycles; the prover counts another state when the program has read no input for this long.
  *
@@ -71,12 +71,12 @@ export const MAX_STOPWATCH_CYCLES = 16777214;
 export const MAX_PRESSES = 100;
 /** The program counter at power-on. */
 const POWER_ON_ADDRESS = 0;
-/** @type {Question} the question for all inputs that nothing violates; other questions add requirements to it */
+/** @type {Question} a question without requirements, for all inputs; other questions add requirements to it */
 const EMPTY_QUESTION = { forbidden: [], mistakes: [], stopwatch: null, presses: null, inputLimits: null };
 
 /**
- * Returns increasing limits on the number of states, for repeated tries of a question. Each limit is twice the previous one. The last one
- * is `maxBound`.
+ * Returns increasing limits on the number of states, for repeated tries of a question. Each limit is twice the previous one, except the
+ * last limit, which is `maxBound`.
  * @param {number} maxBound
  * @param {number} [firstBound]
  */
@@ -126,7 +126,7 @@ export function combineQuestions(questions) {
 }
 
 /**
- * Returns `lists`, or a list with one conjunction that is never true if `lists` is empty.
+ * Returns `lists`; if `lists` is empty, returns a list with one conjunction that is never true.
  * @param {Comparisons[]} lists
  */
 const orImpossibleCondition = (lists) => (lists.length > 0 ? lists : [IMPOSSIBLE_COMPARISONS]);

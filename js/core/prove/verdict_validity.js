@@ -16,7 +16,7 @@ function normalizeLines(text) {
   return text.replace(/^\uFEFF/, "").split(/\r?\n/).map((line) => line.trim().replace(/\s+/g, " "));
 }
 
-/** The settings on which a proof for all inputs depends. A proof starts at power-on. */
+/** The settings on which a proof for all inputs depends: only `from`, because a proof must start at power-on. */
 const PROOF_SETTINGS = /^from /;
 /** The settings on which a proof with limits on the inputs depends. */
 const LIMITED_PROOF_SETTINGS = /^(?:from|press|test|together)\b/;

@@ -100,7 +100,7 @@ export class BoardReferences {
 
   /**
    * Returns the hover text for a value that names a port line or a chain bit; "" for any other value. The text describes the line or the
-   * bit. It names the lamp that uses the line or the bit, and the text line that defines the chip or chain.
+   * bit. It names the lamp that uses the line or the bit, and the line of the board text that defines the chip or chain.
    * @param {KeyedValue} value
    * @param {import("../board/face.js").Face} face
    */

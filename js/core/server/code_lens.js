@@ -1,4 +1,4 @@
-// Converts code lenses to the protocol's format. A code lens is a clickable text above a line. A click runs a test on the server, or shows
+// Converts code lenses to the protocol's format. A code lens is clickable text above a line. A click runs a test on the server, or shows
 // references if the client has a command that shows references.
 
 import { RUN_TEST, SHOW_REFERENCES } from "./capabilities.js";

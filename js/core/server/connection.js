@@ -35,7 +35,7 @@ function isId(id) {
   return typeof id === "string" || typeof id === "number" || id === null;
 }
 
-/** @type {PendingRequest} the second argument of notification handlers, because a client cannot cancel a notification */
+/** @type {PendingRequest} the second argument of notification handlers; a client cannot cancel a notification */
 const UNCANCELLABLE_REQUEST = { isCancelled: false };
 
 export class Connection extends MessageStream {
@@ -114,7 +114,7 @@ export class Connection extends MessageStream {
     }
     const pending = { isCancelled: false };
     this.pendingRequests.set(id, pending);
-    // The next message can arrive while this function awaits the handler, so the state must change before.
+    // The next message can arrive while this function awaits the handler, so the state must change first.
     if (method === "initialize") this.state = "open";
     if (method === "shutdown") this.state = "shut";
     try {

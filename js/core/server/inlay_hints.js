@@ -1,5 +1,5 @@
-// Creates the inlay hints for a program. An editor shows these texts in the lines: the address and the cycles at the end of a line, and the
-// values after names.
+// Creates the inlay hints for a program. An editor shows the hints inside the lines: the address and the cycles at the end of a line, and
+// the values after names.
 
 import { hex } from "../bench/numbers.js";
 import { splitStatement } from "../text/assembly.js";

@@ -1,7 +1,7 @@
 // Converts text to Markdown. Escapes special characters, so that the text cannot contain links, images or headings.
 
 /**
- * Returns Markdown that displays a text exactly as written.
+ * Returns Markdown that displays text exactly as written.
  * @param {string} text
  */
 export function escapeMarkdown(text) {
@@ -9,7 +9,7 @@ export function escapeMarkdown(text) {
 }
 
 /**
- * Returns Markdown that displays a text as inline code. Replaces backticks and vertical bars with blanks.
+ * Returns Markdown that displays text as inline code. Replaces backticks and vertical bars with blanks.
  * @param {string} text
  */
 export function formatCode(text) {

@@ -29,8 +29,8 @@ export class MessageStream {
   }
 
   /**
-   * Called at the end of the stream. If the last message is incomplete, reports this error to the client. Returns the error message, "" for
-   * none.
+   * Called at the end of the stream. If the last message is incomplete, reports this error to the client. Returns the error message, or ""
+   * if there is none.
    * @returns {string}
    */
   reportIncomplete() {

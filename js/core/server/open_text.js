@@ -51,7 +51,7 @@ export class OpenText {
 
   /**
    * Replaces the text in a range.
-   * @param {Range | null} range null for the whole text
+   * @param {Range | null} range the range to replace; null to replace the whole text
    * @param {string} text the new text
    */
   edit(range, text) {

@@ -248,7 +248,7 @@ export class Requests {
   }
 
   /**
-   * Returns the edits that rename the name at a position; null if the language has no names.
+   * Returns the edits that rename the name at a position; null if the language does not support renaming.
    * @param {any} params
    */
   rename(params) {

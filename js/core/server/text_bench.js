@@ -39,7 +39,7 @@ export class TextBench {
 
   /**
    * Sets the board for later calls about programs.
-   * @param {string | null} text the board text; null for a board with all ROMs
+   * @param {string | null} text the board text, or null to use a board with all ROMs
    */
   setBoard(text) {
     if (this.boardSession.text !== text) this.boardSession = this.beginSession(text);

@@ -4,7 +4,7 @@
 const PIECE_BYTES = 8192;
 
 /**
- * Returns bytes as a base64 text.
+ * Encodes bytes as a base64 string.
  * @param {Uint8Array} bytes
  */
 export function toBase64(bytes) {
@@ -17,7 +17,7 @@ export function toBase64(bytes) {
 }
 
 /**
- * Returns the bytes of a base64 text. Throws an error if the text is invalid.
+ * Decodes a base64 string to bytes. Throws an error if the string is invalid.
  * @param {string} text
  */
 export function fromBase64(text) {

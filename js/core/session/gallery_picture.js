@@ -58,7 +58,7 @@ class Drawing {
     this.shapes.push({ kind: "lamp", x, y, radius, colour, isLit });
   }
 
-  /** Draws the displays and lamp groups whose lamps are all on the board. */
+  /** Draws the displays and lamp groups whose lamps all exist on the board. */
   drawGroups() {
     for (const group of this.face.groups.filter((candidate) => groupEnd(candidate) <= this.lampCount)) {
       for (const lamp of groupLamps(group)) this.drawnLamps.add(lamp);

@@ -1,4 +1,4 @@
-// Removes unsafe characters from names that other people have chosen, so that a name in a link cannot imitate texts of the page.
+// Removes unsafe characters from names that other people have chosen, so that a name in a link cannot imitate text on the page.
 
 /** The maximum length of a name, in characters. */
 const MAX_NAME_LENGTH = 60;

@@ -44,11 +44,11 @@ function createUnusableFileError(reason) {
 }
 
 /**
- * Decodes bytes as UTF-8, or else as Windows-1252. Returns null if the bytes contain control characters that a text does not contain.
+ * Decodes bytes as UTF-8, or else as Windows-1252. Returns null if the bytes contain control characters that do not occur in text.
  * @param {Uint8Array} bytes
  */
 function decodeText(bytes) {
-  // A text contains no control characters except tab, line feed, form feed, carriage return and Ctrl-Z.
+  // Text contains no control characters except tab, line feed, form feed, carriage return and Ctrl-Z.
   if (bytes.some((byte) => byte < 32 && ![9, 10, 12, 13, 26].includes(byte))) return null;
   try {
     return new TextDecoder("utf-8", { fatal: true }).decode(bytes);
@@ -76,8 +76,8 @@ function readTextsInLines(script) {
 }
 
 /**
- * Determines the kind of a text from the file name, or else from the text. Returns the text as this kind. For bench lines, returns the
- * texts in them.
+ * Determines the kind of a text from the file name, or else from the text itself. Returns the text under this kind. For bench lines,
+ * returns the texts in them.
  * @param {string} name
  * @param {string} text
  * @returns {FileTexts}

@@ -13,7 +13,7 @@ import * as say from "../../words/session.js";
  * @typedef {{ name: string, boardText: string, programText: string, testText?: string, propertiesText?: string }} Texts
  * @typedef {import("../debug/breakpoints.js").SavedBreakpoint} SavedBreakpoint
  *
- * The name and the texts of a project, with the saved breakpoints and the texts of the watch expressions (`watched`).
+ * The name and the texts of a project, with the saved breakpoints and the watch expressions as text (`watched`).
  * @typedef {Texts & { breakpoints?: SavedBreakpoint[], watched?: string[] }} TextsWithBreakpoints
  *
  * The contents of a project file; `file` contains the bytes of the session file.
@@ -93,7 +93,7 @@ function formatSessionLines(file) {
 }
 
 /**
- * Returns a text without carriage returns at line ends. The bench ignores such carriage returns.
+ * Removes the carriage returns at line ends. The bench ignores such carriage returns.
  * @param {string} text
  */
 function removeCarriageReturns(text) {
@@ -101,7 +101,7 @@ function removeCarriageReturns(text) {
 }
 
 /**
- * Returns a text with each sequence of blanks and line ends replaced by one blank.
+ * Replaces each sequence of blanks and line ends in a string with one blank, and trims the string.
  * @param {string} text
  */
 function toOneLine(text) {
@@ -300,7 +300,7 @@ export function readProject(bytes, size, acceptsLongTexts = false) {
 }
 
 /**
- * Decodes a UTF-8 text, and removes carriage returns at line ends. Throws InvalidProject if the bytes are not UTF-8.
+ * Decodes UTF-8 text, and removes carriage returns at line ends. Throws InvalidProject if the bytes are not UTF-8.
  * @param {Uint8Array} bytes
  */
 function decodeUtf8(bytes) {

@@ -10,7 +10,7 @@ import * as say from "../../words/session.js";
  * @typedef {import("../debug/breakpoints.js").SavedBreakpoint} SavedBreakpoint
  * @typedef {import("./project_file.js").Project} Project
  *
- * A file in the folder, with its content as a text or as bytes.
+ * A file in the folder, with its content as a string or as bytes.
  * @typedef {{ name: string, content: string | Uint8Array }} ProjectPart
  */
 
@@ -56,7 +56,7 @@ export function splitProject(project) {
 }
 
 /**
- * Splits a text into its lines, without line ends.
+ * Splits text into lines, without their line ends.
  * @param {string} text
  */
 function splitLines(text) {

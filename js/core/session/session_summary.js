@@ -8,8 +8,8 @@ import * as say from "../../words/session.js";
 /** @typedef {import("../bench/answers.js").Board} Board */
 
 /**
- * Returns the first sentence of the comment at the start of a text; "" for none. Comment lines that describe the front panel, and lines
- * after them, do not count.
+ * Returns the first sentence of the comment at the start of a board or program text; "" if there is none. Comment lines that describe the
+ * front panel, and lines after them, do not count.
  * @param {string} text
  * @param {string} mark the character that starts a comment
  */
@@ -25,8 +25,8 @@ function findFirstSentence(text, mark) {
 }
 
 /**
- * Returns the title in the board text; or else the first sentence of the board's comment; or else the first sentence of the program's
- * comment; "" for none.
+ * Returns the title in the board text; or else the first sentence of the board's comment, or of the program's comment. Returns "" if there
+ * is none of these.
  * @param {string} boardText
  * @param {string} programText
  */

@@ -19,8 +19,8 @@ import * as say from "../../words/testing.js";
  * @typedef {{ label: string, line: number, count: number }} Subroutine
  *
  * The coverage of a program. `instructions` and `directions` are the total numbers of instructions and branch directions.
- * `instructionsRun` and `directionsRun` are the numbers of those that were executed. `unexecutedRanges` lists the ranges of lines that
- * never ran.
+ * `instructionsRun` and `directionsRun` are the numbers of executed instructions and of directions taken. `unexecutedRanges` lists the
+ * ranges of lines that never ran.
  * @typedef {{ lines: LineCoverage[], instructions: number, instructionsRun: number, directions: number, directionsRun: number,
  *   unexecutedRanges: LineRange[], subroutines: Subroutine[] }} Coverage
  */

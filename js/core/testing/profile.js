@@ -7,7 +7,7 @@
  * @typedef {import("./recorders.js").KeyTimes} KeyTimes
  *
  * The row of a label. `ownCycles` is the number of cycles spent between this label and the next label. `calls` counts the calls of the
- * routine at the label; it is null without calls. The code before the first label has a row with the label "" and the address -1.
+ * routine at the label; it is null if there are no calls. The code before the first label has a row with the label "" and the address -1.
  * @typedef {{ label: string, address: number, ownCycles: number, calls: CallCounts | null }} ProfileRow
  *
  * A profile. `total` is the total number of cycles. `rows` has a row for each label with cycles, and `keys` has an entry for each pressed

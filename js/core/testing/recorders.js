@@ -77,7 +77,7 @@ export class ExecutionRecorder {
     const callAndReturnCount = this.count(answers.takeCounts());
     const lines = answers.takeTrace().lines;
     if (this.lastPress.key !== "") this.trackLampChanges(answers.takeTrace().lines, elapsed);
-    // The short trace omits a JMS or BBL that does not change the return addresses.
+    // The short trace omits a JMS or BBL that does not change the return addresses. If a line is missing, a full trace is used instead.
     this.trackCalls(lines.length === callAndReturnCount ? lines : askAll().takeTrace().lines, elapsed);
   }
 

@@ -24,7 +24,7 @@ const HOLD_MS = 50;
  * Resolves to test conditions that should be true while a key is down, the most specific condition first.
  * @param {Engine} engine
  * @param {PreparedTests} prepared
- * @param {string} press the command that presses the key; "" for no key
+ * @param {string} press the command that presses the key, or "" if no key is pressed
  */
 async function findConditions(engine, { file, names: { face, board }, codes }, press) {
   const session = new TestSession(engine, file, new NullRecorder(codes), async () => {});

@@ -8,7 +8,7 @@ import * as say from "../../words/testing.js";
 export const TAP_HEAD = "TAP version 13";
 
 /**
- * Returns a text as a YAML string.
+ * Formats text as a YAML string.
  * @param {string} text
  */
 export function yamlString(text) {

@@ -13,8 +13,8 @@ import { romCodes } from "../engine/rom_codes.js";
  * @typedef {import("../engine/engine_host.js").EngineHost} Engine
  * @typedef {{ boardText: string, programText: string }} Texts
  *
- * An error in a text: the line number (0 if unknown) and the message. `number` is the refusal number, or 0 if the bench did not reject the
- * text. `file` is the file name of a test text.
+ * An error in one of a project's texts: the line number (0 if unknown) and the message. `number` is the refusal number, or 0 if the bench
+ * did not reject the text. `file` is the file name of a test text.
  * @typedef {{ text: "board" | "program" | "tests" | "properties", file?: string, line: number, number: number,
  *   words: string }} ProjectTextError
  *
@@ -34,7 +34,7 @@ export function findNameErrors(face, board) {
 }
 
 /**
- * Returns the errors that prevent the bench from receiving a text.
+ * Returns the errors that prevent a text from being sent to the bench.
  * @param {"board" | "program"} name
  * @param {string} text
  * @returns {ProjectTextError[]}

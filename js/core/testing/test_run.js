@@ -93,7 +93,7 @@ export class TestRun {
     this.recorder.codes = this.prepared.codes;
     const printout = this.printer && new Printout(this.printer, startState.codes);
     const session = new TestSession(this.engine, startState.file, this.recorder, this.yieldToMessages, printout);
-    // The test that saved the state can have changed ROM.
+    // The test that saved the state may have changed ROM.
     if (from !== "" && this.changesRom) session.readCodes();
     this.keyDownCycles = TOOL_KEY_DOWN_CYCLES;
     this.keyUpCycles = TOOL_KEY_UP_CYCLES;
@@ -298,7 +298,7 @@ export class TestRun {
   }
 
   /**
-   * Runs until a condition becomes true. Traces the places in the condition to find the moment. The first traces are short, in case the
+   * Runs until a condition becomes true. Traces the places in the condition to find this moment. The first traces are short, in case the
    * condition becomes true soon. Resolves to the reason for the stop.
    * @param {TestSession} session
    * @param {Condition} condition

@@ -39,7 +39,7 @@ import * as say from "../../words/testing.js";
  * Shared steps, defined by a `steps` line. `lineCount` is the number of lines that they execute, including all repetitions.
  * @typedef {{ source: Source, name: string, line: number, steps: Step[], lineCount: number }} SharedSteps
  *
- * A test. `textNumber` is the number of its text, from 1. `from` is the name of its start state, "" for power-on.
+ * A test. `textNumber` is the number of its text, from 1. `from` is the name of its start state, or "" if it starts at power-on.
  * @typedef {{ textNumber: number, name: string, line: number, from: string, steps: Step[] }} Test
  * @typedef {{ tests: Test[], errors: TestTextError[] }} TestText
  */
@@ -180,7 +180,7 @@ class TestReader {
 
   /**
    * Returns a line without its comment. A comment starts with `#` or `;`, at the start of the line or between blanks. In the name of a
-   * test, these characters are part of the name. If one of them is also a key name, it means the key in a line with keys.
+   * test, these characters are part of the name. In a line with keys, such a character stands for the key if it is also a key name.
    * @param {string} line
    */
   removeComment(line) {
@@ -387,8 +387,8 @@ class TestReader {
   }
 
   /**
-   * Parses a word that selects a key by a value: `{r4}` for the key whose name is the value, or `{r4:red,green}` for the key at that index.
-   * Returns null for any other word.
+   * Parses a word that selects a key by a value. `{r4}` selects the key whose name is the value. `{r4:red,green}` selects the key whose
+   * index in the list is the value. Returns null for any other word.
    * @param {string} word
    * @returns {ChosenKey | null}
    */

@@ -60,8 +60,8 @@ function createClearingTexts(addresses) {
 const RESERVED_LENGTH = PAGE_NUMBERS.length * formatStatements(0, [255], 1).length;
 
 /**
- * Returns statements that store one byte in each ROM that only the other texts use. This byte is the last one for that ROM.
- * @param {Int16Array} bytes the bytes by address; negative for no byte
+ * Returns statements that store the last byte of each ROM that only the other texts use.
+ * @param {Int16Array} bytes the bytes by address; a negative number means no byte
  * @param {Set<number>} pages the ROMs to which this text stores bytes
  */
 function formatRomStatements(bytes, pages) {
@@ -77,7 +77,7 @@ function formatRomStatements(bytes, pages) {
 /**
  * Returns the `asm` texts that store bytes in ROM. If several texts are needed, each text stores at least one byte in every ROM that is
  * used. Therefore, if the board lacks one of these ROMs, the bench rejects all texts and not only some.
- * @param {Int16Array} bytes the bytes by address; negative for no byte
+ * @param {Int16Array} bytes the bytes by address; a negative number means no byte
  * @returns {string[]}
  */
 export function createByteTexts(bytes) {

@@ -133,7 +133,7 @@ export function tokenizeLine(line, isInstruction) {
 }
 
 /**
- * Returns the names that a text defines. The value for a name is the number of the first line that defines the name (from 1).
+ * Returns the names that a program defines. The value for a name is the number of the first line that defines the name (from 1).
  * @param {string[]} lines
  * @returns {Map<string, number>}
  */

@@ -48,7 +48,7 @@ class BoardParts {
   }
 
   /**
-   * Returns the possible values of a key, an empty list if the values are unknown. Names of signal lines and port masks need quotes.
+   * Returns the possible values of a key; an empty list if the values are unknown. Names of signal lines and port masks need quotes.
    * @param {string} table
    * @param {string} key
    * @returns {{ list: CompletionItem[], isQuoted: boolean }}
@@ -73,8 +73,8 @@ class BoardParts {
   }
 
   /**
-   * Returns a template for each kind of table; without ROM or RAM if all their numbers are in use. A template has all keys of the table.
-   * Its signal lines are lines of the board, or "" if the board has no suitable line.
+   * Returns a template for each kind of table; omits the template for ROM or RAM if all its numbers are in use. A template has all keys of
+   * the table. Its signal lines are lines of the board, or "" if the board has no suitable line.
    * @returns {CompletionItem[]}
    */
   listTemplates() {

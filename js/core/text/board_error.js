@@ -88,7 +88,7 @@ class BoardErrorText {
     return range ? createErrorAt(number, range, message) : this.createWholeLineError(message);
   }
 
-  /** Returns the error in a text that is not valid TOML: a syntax error, or a key that occurs twice in a table. */
+  /** Returns the error in a board text that is not valid TOML: a syntax error, or a key that occurs twice in a table. */
   createTomlError() {
     const { number, line } = this.error;
     const syntaxError = this.text.errors.find((candidate) => candidate.line === line);

@@ -1,5 +1,5 @@
 // Parses the subset of TOML that board texts use. The result contains the position of each key and value. After an error, the parser
-// continues on the next line. Only the bench decides whether a text is valid. This parser helps to explain why the bench rejects a text.
+// continues on the next line. Only the bench decides whether a board text is valid. This parser helps to explain why the bench rejects it.
 
 import { VALUE_RANGES } from "../bench/board_form.js";
 import { tomlWords } from "./toml_words.js";
@@ -29,7 +29,7 @@ import * as say from "../../words/text.js";
  * @typedef {{ entries: Entry[], plainKeys: Key[], keys: Key[], errors: TextError[] }} BoardText
  */
 
-/** The refusal number for a text that is not TOML. */
+/** The refusal number for a board text that is not TOML. */
 const NOT_TOML = 20;
 /** The maximum nesting depth of brackets and braces. A board needs three levels. */
 const MAX_DEPTH = 32;
@@ -292,7 +292,7 @@ export function readBoardText(text) {
 }
 
 /**
- * Returns the ROMs, RAM banks and chains in the tables of a board text. A number of chips above the maximum becomes the maximum.
+ * Returns the ROMs, RAM banks and chains in the tables of a board text. A number of chips above the maximum is reduced to the maximum.
  * @param {Entry[]} entries the tables
  */
 export function collectParts(entries) {

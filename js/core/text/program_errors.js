@@ -100,7 +100,8 @@ export function findMissingRoms(lines, map, roms) {
 }
 
 /**
- * Returns whether a text is probably not a program: it has lines with code, and each such line up to the last reported error has an error.
+ * Returns whether a text is probably not a program: it has lines with code, and each of these lines has an error. If the list of errors is
+ * incomplete, only the lines up to the last error count.
  * @param {string} program
  * @param {TextErrors} textErrors the errors in the text
  */

@@ -33,7 +33,7 @@ const DEFINITION = /^([A-Za-z_]\w*)[ \t]*=[ \t]*(\w+)$/;
 const CODE = /^(?:([A-Za-z_]\w*)[ \t]*:[ \t]*)?(?:([A-Za-z]\w*)(?:[ \t]+(\w+(?:[ \t]*,[ \t]*\w+)*))?)?$/;
 
 /**
- * Returns the column at which a text ends.
+ * Returns the column at which a piece of text ends.
  * @param {string} text
  * @param {number} column the column at which the text starts
  * @param {Layout} layout
@@ -154,8 +154,8 @@ export function findLengthError(lines) {
 }
 
 /**
- * Returns the changes between two versions of a text, one per changed line. A change omits the common prefix and suffix of the old and the
- * new line.
+ * Returns the changes between two versions of a program, one per changed line. A change omits the common prefix and suffix of the old and
+ * the new line.
  * @param {string[]} oldLines the old lines
  * @param {string[]} newLines the new lines; their number equals that of the old lines
  * @returns {Change[]}

@@ -60,8 +60,8 @@ function convertForeignNumber(text) {
 }
 
 /**
- * Returns the message for an operand that is not a number in the bench's syntax, such as a number of another assembler or an expression. If
- * no message fits the operand, returns "".
+ * Returns the message for an operand that is not a number in the bench's syntax, such as a number in the syntax of another assembler, or an
+ * expression. If no message fits the operand, returns "".
  * @param {string} text
  */
 function describeNumberError(text) {

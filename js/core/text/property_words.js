@@ -25,7 +25,10 @@ const CONDITION_START = /^(never|always|reach)$/;
 const TEST_WORDS = new Set(["cycles", "printed", "test", "key"]);
 /** The words that can follow a condition. */
 const WORDS_AFTER_CONDITION = ["for", "only after"];
-/** The words that can follow a label at the start of a line (WORDS_AFTER_LABEL), and the second label after `to` (WORDS_AFTER_TARGET). */
+/**
+ * The words that can follow a label at the start of a line (WORDS_AFTER_LABEL), and those that can follow the label after `to`
+ * (WORDS_AFTER_TARGET).
+ */
 const WORDS_AFTER_LABEL = ["to", say.ONCE_FOR_EACH_PRESS, "only after"];
 const WORDS_AFTER_TARGET = ["within"];
 

@@ -9,7 +9,7 @@ import * as say from "../../words/text.js";
  */
 
 /**
- * Returns the references to a name in a line, without its comment.
+ * Returns the references to a name in a line, ignoring the line's comment.
  * @param {string} text the text of the line
  * @param {number} line the line number from 1
  * @param {string} name

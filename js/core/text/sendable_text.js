@@ -9,8 +9,9 @@ import * as say from "../../words/text.js";
  * A range of lines: the numbers of the first and the last line, from 1.
  * @typedef {{ from: number, to: number }} Lines
  *
- * An error in a text. `number` is the refusal number (0 for none), `line` the line number from 1, and `words` the message. `from` and `to`
- * are the columns of the error. Each text in `quickFixTexts` fixes the error if it replaces these columns.
+ * An error in a text, such as a program or a board text. `number` is the refusal number (0 for none), `line` the line number from 1, and
+ * `words` the message. `from` and `to` are the columns of the error. Each string in `quickFixTexts` fixes the error if it replaces the text
+ * in these columns.
  * @typedef {{ number: number, line: number, from: number, to: number, words: string, quickFixTexts?: string[] }} TextError
  *
  * The character that starts a comment in a program (`;`) and in a board text (`#`).
@@ -74,7 +75,7 @@ function replaceNonAscii(line, mark) {
 }
 
 /**
- * Returns a text without the blanks and tabs at both ends.
+ * Removes the blanks and tabs at both ends of a string.
  * @param {string} text
  */
 export function trimBlanks(text) {

@@ -154,7 +154,7 @@ export function wordsUpTo(line, column) {
 }
 
 /**
- * Returns the form that starts with a word, and its description, as one text; "" if there is none.
+ * Returns the form that starts with a word, and its description, as one string; "" if there is no such form.
  * @param {Form[]} forms
  * @param {string} word
  */

@@ -25,11 +25,11 @@ import { toAsciiComments, findSendingErrors, sentText } from "./sendable_text.js
  * @property {() => Promise<Set<number>>} readRomNumbers resolves to the ROM numbers on the board
  */
 
-/** The highest number of a refusal for an error in a text. Refusals with higher numbers have other causes. */
+/** The highest refusal number for errors in board and program texts. Refusals with higher numbers have other causes. */
 const LAST_TEXT_REFUSAL = 42;
 
 /**
- * Returns a refusal if it is for an error in a text; otherwise null.
+ * Returns a refusal if its cause is an error in a board or program text; otherwise null.
  * @param {Refusal | null} refusal
  */
 export function textRefusalOrNull(refusal) {

@@ -41,7 +41,7 @@ function parseWord(text, line, from) {
 }
 
 /**
- * Returns the words of a text, with an "end" word after each line.
+ * Returns the words of a TOML text, with an "end" word after each line.
  * @param {string[]} lines
  * @returns {TomlWord[]}
  */

@@ -21,7 +21,8 @@ export const EYE_CYCLES = 2778;
 export const KEY_DOWN_CYCLES = 4000;
 export const KEY_UP_CYCLES = 2000;
 /**
- * The time for which a key in tests and tools is down (43 ms), and then up (173 ms). This is long enough for a program that polls its keys.
+ * The time for which a key in tests and tools is down (43 ms), and then up (173 ms). These times are long enough for a program that polls
+ * its keys.
  */
 export const TOOL_KEY_DOWN_CYCLES = 4000;
 export const TOOL_KEY_UP_CYCLES = 16000;

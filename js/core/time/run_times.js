@@ -8,8 +8,8 @@ import * as say from "../../words/time.js";
  * A function that describes the location at a program counter, given as hexadecimal digits.
  * @typedef {(counter: string) => string} PlaceDescriber
  *
- * The durations of runs. `runs` has a text for each run: its duration, and where or why it stopped. `sum` is the total duration. In case of
- * an error, `message` is the error message, and there are no durations.
+ * The durations of runs. `runs` contains a string for each run: its duration, and where or why it stopped. `sum` is the total duration. In
+ * case of an error, `message` is the error message, and there are no durations.
  * @typedef {{ runs: string[], sum: string, message: string }} RunTimes
  */
 
@@ -31,7 +31,7 @@ function formatRunTime(cycles) {
  * range rejects a line, if the range contains no run, or if there are fewer than `lastAnswer` answers.
  * @param {string[]} answers
  * @param {number} firstAnswer the number of the first answer to use, from 1
- * @param {number} lastAnswer the number of the last answer to use; 0 for the end of the list
+ * @param {number} lastAnswer the number of the last answer to use, or 0 to use all answers up to the end of the list
  * @param {PlaceDescriber | null} describePlace null to say why each run stopped instead of where
  * @returns {RunTimes}
  */

@@ -79,7 +79,7 @@ export class InstructionTexts {
   }
 
   /**
-   * Reads the texts of the instructions at `addresses` from the bench, except for the texts that it has read before.
+   * Reads the instructions at `addresses` from the bench, except those that have been read before.
    * @param {EngineHost} engine
    * @param {State} state
    * @param {number[]} addresses
@@ -138,8 +138,8 @@ export class InstructionTexts {
   }
 
   /**
-   * Returns the label line of an instruction, if any, and the first columns of its trace line. `readInstructions` must have read this
-   * address before.
+   * Returns the label line of an instruction, if any, and the first columns of its trace line. `readInstructions` must have read the
+   * instruction at this address before.
    * @param {number} cycles the cycles before the instruction
    * @param {number} address
    */

@@ -85,8 +85,8 @@ export class TraceLines {
   }
 
   /**
-   * Returns the lines of a run: one text per executed instruction. If the instruction has a label that its source line does not show, the
-   * text begins with a line for the label.
+   * Returns the lines of a run: one string per executed instruction. If the instruction has a label that its source line does not show, the
+   * string begins with a line for the label.
    * @param {State} state
    * @param {number} cycles the length of the run in cycles, at most the maximum of the bench
    * @param {number} elapsed the number of cycles before the run

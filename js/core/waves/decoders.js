@@ -16,7 +16,7 @@ export const REST_CYCLES = 16;
 
 /**
  * The values in the track of a shift register. A value is AT_REST, or the bit that was shifted in plus BIT or OTHER_BIT. BIT and OTHER_BIT
- * alternate, so that two equal bits in a row are still two changes.
+ * alternate, so that two equal bits in a row still count as two changes.
  */
 const AT_REST = 0;
 const BIT = 2;
@@ -71,7 +71,7 @@ export function extendShiftTrack({ clock, data, rise }, track, computedUntil, en
 }
 
 /**
- * Returns the bits of a register as the text of a number in a number base. Uses BigInt because a register can have more than 53 bits.
+ * Formats the bits of a register as a number in a number base. Uses BigInt because a register can have more than 53 bits.
  * @param {number[]} bits the bits, lowest first
  * @param {NumberBase} base
  */

@@ -48,7 +48,7 @@ export class LiveWaves {
     else waves.beginAt((this.triggerMoment < 0 ? waves.cycles : this.triggerMoment) - (maxCycles - cyclesAfterTrigger));
   }
 
-  /** Ends the recording because the worker that recorded its last part has stopped. */
+  /** Ends the recording. Called when the worker that recorded its last part has stopped. */
   markLost() {
     this.endReason = "lost";
   }

@@ -74,7 +74,7 @@ export class SvgContext {
   }
 
   /**
-   * Adds a line to a point.
+   * Adds a line from the current point to another point.
    * @param {number[]} point
    */
   lineTo(...point) {
@@ -112,7 +112,7 @@ export class SvgContext {
   }
 
   /**
-   * Draws a text.
+   * Draws text.
    * @param {string} text
    * @param {number} x
    * @param {number} y the y position of the text centre
@@ -123,7 +123,7 @@ export class SvgContext {
   }
 
   /**
-   * Returns the estimated width of a text.
+   * Returns the estimated width of a string.
    * @param {string} text
    */
   measureText(text) {

@@ -49,8 +49,8 @@ export function chosenValueNames(lines, chosenNames) {
 }
 
 /**
- * Returns a list of the line whose name is exactly the text. If there is none, returns the lines with the text in their name, title or
- * group title.
+ * Returns the lines whose name is the text, ignoring case, dots and blanks. If there are none, returns the lines with the text in their
+ * name, title or group title.
  * @param {WaveLine[]} lines
  * @param {string} text
  */
@@ -67,7 +67,7 @@ function findMatchingLines(lines, text) {
  * @param {WaveLine[]} allLines
  * @param {string} text
  * @param {Set<string>} chosenNames
- * @returns {{ lines: WaveLine[], note: string }} `note` is a note about unlisted lines, or that no line matches; "" for none
+ * @returns {{ lines: WaveLine[], note: string }} `note` says that lines are not listed, or that no line matches; "" if neither is the case
  */
 export function searchLines(allLines, text, chosenNames) {
   const isEmptySearch = text.trim() === "";

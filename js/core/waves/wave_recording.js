@@ -81,7 +81,8 @@ export class Waves {
     this.cycles = cycles;
     this.isStuck = isStuck;
     for (const [line, track] of this.derivedTracks) {
-      // The first moment of the new part is the last moment of the previous part, and can have a change in the new part.
+      // The first moment of the new part is the last moment of the previous part, and can have a change in the new part, so it is computed
+      // again.
       track.endAt(previousEnd - 1);
       this.extendTrack(line, track, previousEnd - 1);
     }

@@ -1,4 +1,4 @@
-// Composes the texts about recordings. Also parses the number of cycles to record.
+// Composes the descriptions of recordings. Also parses the number of cycles to record.
 
 import { formatQuantity, parseCount } from "../bench/numbers.js";
 import { formatCycleTime, formatCycles } from "../time/cycles.js";
