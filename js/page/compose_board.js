@@ -1,4 +1,4 @@
-// Creates the views and controllers that show and draw the board. The callbacks connect each of them to the page's other components.
+// Creates the views and controllers that show and draw the board. Their callbacks connect them to the page's other components.
 
 import { partAtLine } from "../core/bench/part_lines.js";
 import { CancelledError } from "../core/bench/bench_errors.js";

@@ -1,5 +1,5 @@
-// Creates the text editors, the tabs for tests and properties, and the list of problems. The callbacks connect each of them to the page's
-// other components.
+// Creates the text editors, the tabs for tests and properties, and the list of problems. Their callbacks connect them to the page's other
+// components.
 
 import { formatErrorCount } from "../core/bench/error_messages.js";
 import { ExploreTab } from "./explore/explore_tab.js";

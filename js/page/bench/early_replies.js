@@ -48,7 +48,7 @@ export function startWorker(address) {
 }
 
 /**
- * Returns the function that sends early replies from the worker. The channel copies the reply's contents.
+ * Returns the function that sends early replies from the worker. Sending copies the reply, so the caller can still transfer the original.
  * @param {string} name the worker's name, which is also the channel name
  * @returns {(early: EarlyReply) => void}
  */

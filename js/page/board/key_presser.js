@@ -21,7 +21,7 @@ import { formatKey } from "../../core/board/key_place.js";
 
 /**
  * A board key that the user holds with a pointer or a keyboard key. If `staysDown` is true, the board key stays down when the user lets go.
- * `undoPress` restores the state of the key before the press.
+ * `undoPress` returns the board key to its state before the press.
  * @typedef {{ key: Key, staysDown: boolean, undoPress: () => void }} HeldKey
  */
 
@@ -185,7 +185,7 @@ export class KeyPresser {
       keysByCode.delete(event.code);
       if (key !== undefined) this.endPress(key);
     });
-    // The page does not receive key releases after it has lost the focus.
+    // The page does not receive key releases after it has lost focus.
     addEventListener("blur", () => {
       keysByCode.clear();
       this.releaseAll();

@@ -25,7 +25,7 @@ const SOUND_DELAY_SECONDS = 0.09;
 const MAX_DELAY_SECONDS = 0.4;
 /** The gain of the sound, from 0 to 1. */
 const GAIN = 0.12;
-/** The cut-off frequency of the high-pass filter in hertz. The filter makes a line that stays at 1 silent. */
+/** The cut-off frequency of the high-pass filter in hertz. The filter silences a line that stays at 1. */
 const CUTOFF_HERTZ = 30;
 
 /** Plays blocks of samples in sequence. */
@@ -46,7 +46,8 @@ class Player {
     const samples = this.sampleBuffer.add(levels);
     const currentTime = this.context.currentTime;
     if (!samples || this.endTime > currentTime + MAX_DELAY_SECONDS) return;
-    // The last block has ended, or this is the first block. (An audio context's time is 0 until the context runs.)
+    // If the last block has ended, or this is the first one, playback starts after the delay. (An audio context's time is 0 until the
+    // context runs.)
     if (this.endTime <= currentTime) this.endTime = currentTime + SOUND_DELAY_SECONDS;
     const buffer = this.context.createBuffer(1, samples.length, CYCLES_PER_SECOND);
     buffer.copyToChannel(samples, 0);

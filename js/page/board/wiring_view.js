@@ -232,7 +232,8 @@ export class WiringView {
   }
 
   /**
-   * Makes one part or pin the only element of the picture that the Tab key reaches. If there is none with this name, chooses the first one.
+   * Makes one part or pin the only element of the picture that the Tab key reaches. If nothing in the picture has this name, chooses the
+   * first part or pin.
    * @param {string} name
    */
   setTabStop(name) {

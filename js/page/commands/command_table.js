@@ -276,7 +276,7 @@ const HELP_COMMANDS = [
 ];
 
 /**
- * Returns a command whose label is not in the table of labels, such as the commands that show the panels.
+ * Returns a command whose label is not in the table of labels, such as a command that shows a panel.
  * @param {string} id
  * @param {string} label
  * @param {Command["group"]} group

@@ -1,4 +1,4 @@
-// Menus with the ARIA menu pattern, below a button or at a point. Arrow keys move between items; Escape closes the menu.
+// Menus that follow the ARIA menu pattern and open below a button or at a point. Arrow keys move between items; Escape closes the menu.
 
 import { element } from "../ui/dom.js";
 import { icon } from "../ui/icons.js";

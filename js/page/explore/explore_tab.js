@@ -19,7 +19,7 @@ import * as say from "../../words/explore.js";
  * @typedef {import("../../core/bench/task_worker.js").TaskResult} TaskResult
  * @typedef {import("../prove/proofs.js").ProofsCalls} ProofsCalls
  *
- * The results of a search. `texts` are the texts that were searched. `report` is null before the first progress report. `files` contains
+ * The results of a search. `texts` are the texts that the search used. `report` is null before the first progress report. `files` contains
  * the session file of each counterexample, by the number of its property. `isStopped` is true if the user stopped the search.
  * @typedef {{ texts: ExploredTexts, report: Report | null, files: Map<number, Uint8Array>, isStopped: boolean }} SearchResults
  */
@@ -40,7 +40,7 @@ import * as say from "../../words/explore.js";
  * @property {ProofsCalls["prove"]} prove Proves properties.
  * @property {ProofsCalls["open"]} openWithLines Opens a new session with the texts, and executes lines in it.
  * @property {(test: string) => string} addTest Adds a test to the text in the Tests tab. Returns the message about the result.
- * @property {(label: string, isGood?: boolean) => void} showMark Shows a short text on the tab; "" removes it. If `isGood`, the text
+ * @property {(label: string, isGood?: boolean) => void} showMark Shows a short mark on the tab; "" removes it. If `isGood`, the mark
  *   reports a success.
  * @property {() => void} handleEdit Handles an edit of the properties.
  * @property {(error: unknown) => void} reportFailure Reports an error that a call threw.
@@ -89,7 +89,7 @@ export class ExploreTab {
     this.exploreButton = new Cell(button("explore"));
     this.exploreButton.set(say.EXPLORE);
     onClick(button("clear-finds"), () => this.clear());
-    /** The number of errors in the text, as last reported by `showMark`. */
+    /** The number of errors in the properties, as last reported by `showMark`. */
     this.errorCount = 0;
     this.proofs = this.makeProofs();
   }
@@ -120,12 +120,12 @@ export class ExploreTab {
     return this.resultsBySession.get(this.sessionId) || null;
   }
 
-  /** Checks the text. Called when a session has been opened, and when the tab is brought to the front. */
+  /** Checks the properties. Called when a session has been opened, and when the tab is brought to the front. */
   refresh() {
     this.textTab.refresh();
   }
 
-  /** @param {number} count the number of errors in the text */
+  /** @param {number} count the number of errors in the properties */
   showMark(count) {
     const { currentResults } = this;
     this.errorCount = count;

@@ -101,7 +101,7 @@ export class LineServer {
     try {
       result = await this.calls.runWithProgress(description, work);
     } catch (error) {
-      // After a cancellation, time resumes if time was running before.
+      // A cancellation is not reported as a failure, because `reportFailure` would pause time.
       if (error instanceof CancelledError) this.notice.show(this.errorMessages.failureMessage(error));
       else this.calls.reportFailure(error);
       return null;

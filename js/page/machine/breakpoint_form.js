@@ -16,7 +16,8 @@ import * as say from "../../words/machine.js";
  * The callbacks of the breakpoint form.
  * @typedef {object} BreakpointFormCalls
  * @property {(id: number, changes: BreakpointTexts) => void} change Changes the breakpoint with this id, and sends the change to the bench.
- * @property {(id: number, changes: BreakpointTexts) => void} showTypedTexts Shows the typed texts in the breakpoint's mark and list
+ * @property {(id: number, changes: BreakpointTexts) => void} showTypedTexts Shows the typed condition and log message in the breakpoint's
+ * mark and list
  *   entry, but does not send them to the bench.
  * @property {() => Promise<void>} waitForChanges Resolves when the bench has received all changes.
  * @property {(breakpoint: Breakpoint, node: HTMLElement) => void} placeForm Puts the form below the breakpoint's source line, or into the
@@ -86,7 +87,7 @@ export class BreakpointForm {
    * Opens the form for a breakpoint, with the caret in one of its fields. If the form is open for another breakpoint, first applies its
    * fields.
    * @param {Breakpoint} breakpoint
-   * @param {string} error the error in the breakpoint's texts; "" if there is none
+   * @param {string} error the error in the breakpoint's condition or log message; "" if there is none
    * @param {BreakpointField} fieldName the field that receives the caret
    */
   open(breakpoint, error, fieldName) {
@@ -124,7 +125,7 @@ export class BreakpointForm {
     this.showError(errors.get(breakpoint.id) || "");
   }
 
-  /** @param {string} error the error in the texts that were applied; "" if there is none */
+  /** @param {string} error the error in the applied condition or log message; "" if there is none */
   showError(error) {
     this.status.set(error && say.stopsEachTime(error));
     this.fields.condition.setAttribute("aria-invalid", String(error !== ""));
@@ -159,7 +160,7 @@ export class BreakpointForm {
     if (this.originalBreakpoint === originalBreakpoint && this.status.text === "") this.finish(originalBreakpoint);
   }
 
-  /** Restores the breakpoint's texts and hit count from before the edits, and closes the form. */
+  /** Restores the condition, hit count and log message from before the edits, and closes the form. */
   cancel() {
     const { originalBreakpoint } = this;
     if (!originalBreakpoint) return;

@@ -32,7 +32,7 @@ import * as say from "../../words/machine.js";
  * @property {() => SourceMap | null} map Returns the source map of the program in ROM, or null if ROM does not match the source.
  */
 
-/** The delay in milliseconds before changes are counted, after the user's last input or the last snapshot, while time is paused. */
+/** While time is paused, the delay in milliseconds between the last input or snapshot and the count of changes. */
 const COUNT_DELAY_MS = 300;
 /** The maximum number of cycles over which changes are counted. */
 const MAX_CYCLES = 10000000;

@@ -29,7 +29,7 @@ class VerdictRow {
     const { text, line, isGoal, verdict } = propertyVerdict;
     const mark = element("b", {});
     const statusText = element("span", { className: "time" });
-    // A common mistake has no line in the text, because all programs are checked for it.
+    // A common mistake has no line in the properties text, because all programs are checked for it.
     const name = line === 0 ? element("span", { className: "name" }, text)
       : makeButton(text, () => calls.goTo(propertyVerdict), { className: "name", title: lineReference(line) });
     this.node = element("li", {}, element("p", {}, mark, " ", name, " ", statusText));

@@ -36,7 +36,7 @@ import * as say from "../../words/session.js";
  *   file into the editors.
  * @property {(name: string, bytes: Int16Array) => Promise<void>} loadImage Loads the bytes of a file into ROM; -1 leaves a byte unchanged.
  * @property {(record: SessionRecord, release: Release, example: string) => Promise<void>} useSession Makes a session the current session.
- *   `release` releases the session's lock. `example` is the example's name if the session is still unchanged, otherwise "".
+ *   `release` releases the session's lock. `example` is the example's name if the session is an unchanged example, otherwise "".
  */
 
 

@@ -29,7 +29,7 @@ import * as say from "../../words/session.js";
  * @property {(read: () => Promise<import("./folder_files.js").Folder>) => Promise<boolean>} openFolder Opens the project in the folder that
  *   `read` reads.
  * @property {(name: string) => void} rename Renames the current session.
- * @property {() => string} describeStorage Returns a text about where the browser stores sessions.
+ * @property {() => string} describeStorage Returns a description of where the browser stores sessions.
  */
 
 /**
