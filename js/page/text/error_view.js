@@ -29,7 +29,7 @@ export class ErrorView {
 
   /**
    * @param {TextError[]} errors
-   * @param {string} footnote a text below the last error
+   * @param {string} footnote the text below the last error
    */
   show(errors, footnote = "") {
     if (errors.length === 0 && this.errors.length === 0) return;

@@ -50,7 +50,7 @@ import * as say from "../../words/text.js";
  * @typedef {object} EditorCalls
  * @property {(edits: Edit[]) => void} handleEdits Handles edits of the text, in the order in which they apply.
  * @property {() => void} send Sends the text to the bench.
- * @property {() => void} [prove] Proves the properties in the text. Missing for other texts.
+ * @property {() => void} [prove] Proves the properties in the text. Missing for texts of other kinds.
  * @property {(line: number) => void} toggleBreakpoint Sets or removes the breakpoint at a line.
  * @property {(line: number, fieldName: BreakpointField) => void} [editBreakpoint] Opens a field of the breakpoint at a line. Missing for
  *   texts without breakpoints.
