@@ -301,7 +301,7 @@ export class EditorView {
 
   /**
    * Marks the line of the next instruction and scrolls it into view.
-   * @param {number} line the line number from 1; 0 for none
+   * @param {number} line the line number from 1, or 0 to mark no line
    */
   showNext(line) {
     this.marks.showNext(line);

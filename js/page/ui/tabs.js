@@ -1,4 +1,4 @@
-// Tabs with the ARIA tabs pattern. The tab row is a single tab stop; arrow keys, Home and End move to another tab and show it.
+// Tabs that follow the ARIA tabs pattern. The tab row is a single tab stop; arrow keys, Home and End move to another tab and show it.
 
 import { block, button, onClick } from "./dom.js";
 
