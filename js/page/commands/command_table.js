@@ -21,7 +21,7 @@ import * as say from "../../words/page_commands.js";
  *   act: (calls: CommandCalls) => void, unavailableReason: (calls: CommandCalls) => string }} Command
  *
  * @typedef {"find" | "replace" | "line" | "comment" | "complete" | "define" | "uses" | "rename" | "fold" | "unfold" | "foldAll" |
- * "unfoldAll" | "undo" | "redo"} TextAction an editing action
+ *   "unfoldAll" | "undo" | "redo"} TextAction an editing action
  */
 
 /**

@@ -25,8 +25,7 @@ import { PictureZoom } from "./picture_zoom.js";
  * @property {() => Promise<string>} applyBoard Applies the board's text. Resolves to the message about the result.
  * @property {(board: Board) => void} insertKeyScan Inserts a key scan routine for a board into the source.
  * @property {(part: string) => void} showPartLines Shows the lines of a part in the board's text. The part is named as in the picture, for
- * example
- *   `rom 1`.
+ *   example `rom 1`.
  * @property {() => OpenSession | null} session Returns the current session, whose record stores the positions of moved parts, or null if
  *   there is none.
  * @property {() => void} saveSession Saves the session after the user has moved parts.

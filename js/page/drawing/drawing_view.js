@@ -24,8 +24,7 @@ import * as say from "../../words/drawing.js";
  * @property {(direction: "undo" | "redo") => void} undoOrRedo Undoes or redoes the last edit.
  * @property {() => void} applyBoard Applies the board's text.
  * @property {(part: string) => void} showPartLines Shows the lines of a part in the board's text. The part is named as in the picture, for
- * example
- *   `rom 1`.
+ *   example `rom 1`.
  * @property {() => void} arrangeParts Moves all parts to their default positions.
  * @property {() => void} insertKeyScan Inserts a key scan routine into the source.
  * @property {(action: DrawingAction, point: Point | null) => void} dropPart Adds a part and focuses it. The part appears at `point` in

@@ -9,7 +9,7 @@ import * as say from "../../words/machine.js";
  * @typedef {import("../../core/debug/watch_expressions.js").WatchExpression} WatchExpression
  * @typedef {import("../../core/conditions/condition_language.js").Names} Names
  * @typedef {{ root: HTMLLIElement, value: HTMLElement, shape: string, cells: Cell[] }} Row `shape`: the row's fixed text and the locations
- * of its values, to detect when the row needs other cells
+ *   of its values, to detect when the row needs other cells
  */
 
 /**

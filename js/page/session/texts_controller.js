@@ -240,7 +240,8 @@ export class TextsController {
   }
 
   /**
-   * Restores texts. Another notice offers to undo this restoration. If another session is open, restores nothing and tells the user so.
+   * Restores texts. Another notice offers to undo this restoration. If another session is open, reports this to the user and restores
+   * nothing.
    * @param {OpenSession} session
    * @param {ReplacedText[]} replacedTexts
    * @param {string} message the text of the notice that offered to restore the texts

@@ -36,7 +36,7 @@ import * as say from "../../words/text.js";
  * The callbacks of the two editors. Lines count from 1.
  * @typedef {object} EditorsCalls
  * @property {(edits: Edit[]) => void} handleEdits Handles an edit. `edits` has the edits of the source; it is empty after an edit of the
- * board's text.
+ *   board's text.
  * @property {(wasReset: boolean) => Promise<void>} handleAssembly Handles a program that was loaded into ROM; `wasReset` is true if the
  *   processor was also reset. Resolves when each breakpoint has the address of its line.
  * @property {(lines: string) => Promise<string | null>} serveLines Sends lines to the bench. Resolves to the first answer, or to null after
