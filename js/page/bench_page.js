@@ -117,7 +117,7 @@ export class Page {
   }
 
   /**
-   * Returns the name and the texts of the session for printing.
+   * Returns the session's name, board text and source for printing.
    * @returns {import("./print_view.js").PrintContents}
    */
   printContents() {

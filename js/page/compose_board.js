@@ -147,7 +147,7 @@ export function makeScope(page) {
     startLive: (setup, values) => resultOrReport(page, page.bench.call("recordLive", [textsWithValues(values), setup])),
     endLive: () => resultOrReport(page, page.bench.call("endRecording", [])),
     record: async (cycles, isBefore, values) => {
-      // A recording continues from the current state, so time must be paused.
+      // A recording ends or begins at the current state, so time must be paused.
       await page.runController.pause();
       try {
         return await page.progressView.show(say.RECORDING_LINES,

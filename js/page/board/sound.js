@@ -14,7 +14,7 @@ import * as say from "../../words/board.js";
  * The callbacks of Sound.
  * @typedef {object} SoundCalls
  * @property {(line: string) => void} listenToLine Asks the bench to report the level changes of a line; "" stops the reports.
- * @property {() => boolean} isRealTime Returns true if time is running at the real chip's speed. At other speeds the buzzer is silent.
+ * @property {() => boolean} isRealTime Returns true if the speed is set to that of the real chip. At other speeds the buzzer is silent.
  */
 
 /** The number of cycles in one block of samples, which lasts 45 ms. */

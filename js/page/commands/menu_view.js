@@ -67,7 +67,7 @@ class MenuList {
     return this.buttons.filter((button) => button.offsetParent !== null);
   }
 
-  /** @param {number} index the index among the visible buttons; -1 for the last button */
+  /** @param {number} index the index among the visible buttons, or -1 to focus the last one */
   focus(index) {
     const { visibleButtons } = this;
     visibleButtons[(index + visibleButtons.length) % visibleButtons.length].focus();

@@ -102,7 +102,7 @@ export class DrawingView {
 
   /**
    * @param {ShelfPart} part
-   * @param {string} [line] the line to which the part is wired; "" for the next free line
+   * @param {string} [line] the line to which the part is wired, or "" to use the next free line
    * @returns {DrawingAction}
    */
   makeAddAction(part, line = "") {

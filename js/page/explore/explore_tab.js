@@ -27,9 +27,9 @@ import * as say from "../../words/explore.js";
 /**
  * The callbacks of the Properties tab. The tab's text editor also uses the callbacks `labels`, `texts`, `handleEdit` and `reportFailure`.
  * @typedef {object} ExploreCalls
- * @property {() => Omit<ExploredTexts, "propertiesText">} texts Returns the current texts of the board, the source and the tests.
+ * @property {() => Omit<ExploredTexts, "propertiesText">} texts Returns the current text of the board, of the source and of the tests.
  * @property {() => string[]} labels Returns the labels of the program in ROM.
- * @property {(texts: ExploredTexts) => Promise<ProjectTextError[]>} findErrors Resolves to the errors of all texts.
+ * @property {(texts: ExploredTexts) => Promise<ProjectTextError[]>} findErrors Resolves to the errors in all the texts.
  * @property {(texts: ExploredTexts, options: RunOptions, signal: AbortSignal, showProgress: (progress: Progress) => void) =>
  *   Promise<TaskResult>} explore Searches until the time is up, every property has a counterexample, or `signal` is aborted. Calls
  *   `showProgress` with each progress report. Resolves to the errors in the texts and whether the search was stopped.
@@ -38,7 +38,7 @@ import * as say from "../../words/explore.js";
  * @property {(name: string, file: Uint8Array, texts: ExploredTexts) => void} open Opens a new session from a file, with the texts of the
  *   search.
  * @property {ProofsCalls["prove"]} prove Proves properties.
- * @property {ProofsCalls["open"]} openWithLines Opens a new session with the texts, and executes lines in it.
+ * @property {ProofsCalls["open"]} openWithLines Opens a new session with the texts of a proof, and executes lines in it.
  * @property {(test: string) => string} addTest Adds a test to the text in the Tests tab. Returns the message about the result.
  * @property {(label: string, isGood?: boolean) => void} showMark Shows a short mark on the tab; "" removes it. If `isGood`, the mark
  *   reports a success.

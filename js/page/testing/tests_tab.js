@@ -20,9 +20,9 @@ import * as say from "../../words/testing.js";
 /**
  * The callbacks of the Tests tab. The tab's text editor also uses the callbacks `labels`, `handleEdit` and `reportFailure`.
  * @typedef {object} TestsCalls
- * @property {() => { boardText: string, programText: string }} texts Returns the current texts of the board and the source.
+ * @property {() => { boardText: string, programText: string }} texts Returns the current text of the board and of the source.
  * @property {() => string[]} labels Returns the labels of the program in ROM.
- * @property {(texts: TestedTexts) => Promise<ProjectTextError[]>} findErrors Resolves to the errors of all texts.
+ * @property {(texts: TestedTexts) => Promise<ProjectTextError[]>} findErrors Resolves to the errors in all the texts.
  * @property {(texts: Texts) => Promise<string>} sample Resolves to a sample test for a board and a program.
  * @property {(texts: TestedTexts) => Promise<Report>} run Runs the tests. Resolves to their results. Rejects with `CancelledError` if the
  *   user cancels the run.

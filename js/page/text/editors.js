@@ -1,4 +1,4 @@
-// The editors of the board's text and of the source. The editors check the texts while the user types, and send the texts to the bench.
+// The editors of the board's text and of the source. The editors check the texts while the user types, and send them to the bench.
 
 import { readBoard, parseRefusal } from "../../core/bench/answers.js";
 import { formatQuantity } from "../../core/bench/numbers.js";

@@ -1,4 +1,4 @@
-// The errors of a text. Each error has a mark in the margin of its line, an underlined range, and an entry in the list below the text.
+// The errors in a text. Each error has a mark in the margin of its line, an underlined range, and an entry in the list below the text.
 
 import { element, onClick } from "../ui/dom.js";
 import { makeUnderlineMark } from "./line_layers.js";

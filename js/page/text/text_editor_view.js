@@ -319,7 +319,7 @@ export class EditorView {
     this.marks.showTexts("breakpoints", (line) => (marks.get(line) || noMark).mark, (line) => (marks.get(line) || noMark).description);
   }
 
-  /** @param {string[]} addresses the address of each line; "" for a line without an address */
+  /** @param {string[]} addresses the address of each line, or "" if the line has none */
   showAddresses(addresses) {
     this.marks.showTexts("addresses", (line) => addresses[line - 1] || "");
   }
