@@ -10,13 +10,12 @@ import { formatKey } from "../../core/board/key_place.js";
 /**
  * The callbacks of KeyPresser.
  * @typedef {object} KeyPresserCalls
- * @property {() => boolean} isRunning Returns true if key changes are queued. Returns false if time is paused, or so slow that each press
- *   toggles the key.
+ * @property {() => boolean} isRunning Returns true if time is running, unless it is so slow that each press toggles the key.
  * @property {(key: Key) => boolean} isDown Returns true if a key will be down after all queued presses and releases.
  * @property {(key: Key) => void} press Queues a press of a key.
  * @property {(key: Key) => void} release Queues a release of a key.
- * @property {(word: "press" | "release", key: Key) => void} change Presses or releases a key at once. Called while key changes are not
- *   queued.
+ * @property {(word: "press" | "release", key: Key) => void} change Presses or releases a key at once. Called while `isRunning` returns
+ *   false.
  * @property {(event: KeyboardEvent) => BoardKey | undefined} keyForEvent Returns the board's key for a keyboard event. Returns undefined if
  *   there is none, or if another element handles the event.
  */
@@ -120,7 +119,7 @@ export class KeyPresser {
 
   /**
    * Presses a key, or releases it if it is already down. A switch stays down until it is pressed again. So does a key that is pressed with
-   * Shift, or while key changes are not queued.
+   * Shift, or while time is paused or very slow.
    * @param {Pick<BoardKey, "key" | "isSwitch">} boardKey
    * @param {boolean} isShiftDown
    */

@@ -16,8 +16,8 @@ import * as say from "../../words/machine.js";
  * The callbacks of the breakpoint form.
  * @typedef {object} BreakpointFormCalls
  * @property {(id: number, changes: BreakpointTexts) => void} change Changes the breakpoint with this id, and sends the change to the bench.
- * @property {(id: number, changes: BreakpointTexts) => void} showTypedTexts Shows the typed condition and log message in the breakpoint's
- *   mark and list entry, but does not send them to the bench.
+ * @property {(id: number, changes: BreakpointTexts) => void} showTypedTexts Saves what the user has typed and shows it in the breakpoint's
+ *   mark and list entry, but does not send it to the bench.
  * @property {() => Promise<void>} waitForChanges Resolves when the bench has received all changes.
  * @property {(breakpoint: Breakpoint, node: HTMLElement) => void} placeForm Puts the form below the breakpoint's source line, or into the
  *   list of breakpoints if the breakpoint has no line.

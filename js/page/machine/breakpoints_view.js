@@ -131,8 +131,8 @@ export class BreakpointsView {
   }
 
   /**
-   * Appends the log messages of breakpoints to the log, and says how many messages were omitted. Removes the oldest messages beyond
-   * MAX_NOTES.
+   * Appends the log messages of breakpoints to the log, and says how many messages were omitted. Removes the oldest messages if there are
+   * more than MAX_NOTES.
    * @param {Tally} tally
    * @param {ShownManager} manager
    */

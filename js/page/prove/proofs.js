@@ -92,7 +92,7 @@ export class Proofs {
     if (this.currentResults) this.show();
   }
 
-  /** The verdicts about the current texts. */
+  /** The verdicts that apply to the current texts. */
   get currentVerdicts() {
     const { currentResults } = this;
     return currentResults ? currentResults.progress.verdicts.filter(this.currentVerdictFilter(currentResults)) : [];
@@ -109,7 +109,7 @@ export class Proofs {
   }
 
   /**
-   * Returns a function that returns true if a verdict is about the current texts.
+   * Returns a function that returns true if a verdict applies to the current texts.
    * @param {ProofResults} currentResults
    * @returns {(propertyVerdict: PropertyVerdict) => boolean}
    */

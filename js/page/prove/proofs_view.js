@@ -57,7 +57,7 @@ class VerdictRow {
     ];
   }
 
-  /** @param {boolean} isCurrent true if the verdict is about the current texts */
+  /** @param {boolean} isCurrent true if the verdict applies to the current texts */
   show(isCurrent) {
     const { propertyVerdict } = this;
     this.mark.set(isCurrent ? markOf(propertyVerdict) : "");
@@ -90,7 +90,7 @@ export class ProofsView {
    * @param {Progress} progress
    * @param {number} maxStates the maximum number of states that the prover may visit for each property
    * @param {boolean} isRunning true if a proof is running
-   * @param {(propertyVerdict: PropertyVerdict) => boolean} isCurrent returns true if a verdict is about the current texts
+   * @param {(propertyVerdict: PropertyVerdict) => boolean} isCurrent returns true if a verdict applies to the current texts
    */
   show(progress, maxStates, isRunning, isCurrent) {
     const newRows = progress.verdicts.slice(this.rows.length).map((propertyVerdict) => new VerdictRow(propertyVerdict, this.calls));

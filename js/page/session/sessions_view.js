@@ -33,8 +33,8 @@ import * as say from "../../words/session.js";
  */
 
 /**
- * Returns the examples in page order: first the example without any texts, with which the user can build a board, then the others in the
- * order of ORDER.
+ * Returns the examples in page order: first the empty example, with which the user can build a board, then the others in the order of
+ * ORDER.
  * @param {Example[]} examples
  */
 function orderExamples(examples) {
