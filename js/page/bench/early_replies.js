@@ -13,7 +13,8 @@ function makeSecretName() {
 }
 
 /**
- * Returns the broadcast channel with this name. Returns null for an empty name, in older browsers, and in Firefox if site data is blocked.
+ * Returns the broadcast channel with this name. Returns null if the name is empty, if the browser has no broadcast channels, or if Firefox
+ * blocks site data.
  * @param {string} name
  */
 function openChannel(name) {

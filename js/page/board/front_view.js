@@ -46,9 +46,9 @@ export class FrontView {
     /** @type {ShownKey[]} the keys, including the switch at TEST if the front panel has one */
     this.keys = [];
     this.keysDown = new PressedKeys();
-    /** The level of the TEST pin: "0" or "1", or "" before the first answer. */
+    /** The level of the TEST pin: "0" or "1", or "" before the bench's first answer. */
     this.testLevel = "";
-    /** The bench's last answer to `lamps`: one character per lamp, `*` for on. */
+    /** The bench's last answer to `lamps`: one character per lamp, `*` if the lamp is on. */
     this.marks = "";
     /** The comments in the board's text that declare this front panel. */
     this.faceComments = "";

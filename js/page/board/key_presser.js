@@ -28,7 +28,7 @@ import { formatKey } from "../../core/board/key_place.js";
 
 /** The delay in milliseconds before a touch presses a key. Within this time the browser recognises a scroll gesture. */
 const SWIPE_DELAY_MS = 60;
-/** A click within this time in milliseconds after the end of a pointer press belongs to that press and is ignored. */
+/** The time in milliseconds after the end of a pointer press during which a click belongs to that press and is ignored. */
 const TAP_CLICK_MS = 500;
 
 export class KeyPresser {

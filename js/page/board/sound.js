@@ -33,7 +33,7 @@ class Player {
   constructor() {
     this.context = new AudioContext();
     this.sampleBuffer = new SampleBuffer(BLOCK_CYCLES);
-    /** The end time of the last block, in seconds of the audio context. */
+    /** The time at which the last block ends, in seconds on the audio context's clock. */
     this.endTime = 0;
     const volume = new GainNode(this.context, { gain: GAIN });
     const filter = new BiquadFilterNode(this.context, { type: "highpass", frequency: CUTOFF_HERTZ });

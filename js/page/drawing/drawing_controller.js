@@ -111,7 +111,7 @@ export class DrawingController {
     this.input.setWire(state.wireStart, state.ends);
   }
 
-  /** Draws the board that the board's text describes, if the Wiring tab is in front. */
+  /** Draws the board from its text, if the Wiring tab is in front. */
   updateFromText() {
     if (this.calls.isInFront()) this.reportFailure(this.drawing.refresh());
   }
@@ -140,8 +140,8 @@ export class DrawingController {
   }
 
   /**
-   * Adds a part from the shelf and focuses it. Its title is at `point` in the picture; if `point` is null, the part is at its default
-   * position. If the new part becomes an element of an existing part, such as a lamp in a row of lamps, `point` is ignored.
+   * Adds a part from the shelf and focuses it. The part's title is at `point` in the picture; if `point` is null, the part is at its
+   * default position. If the new part becomes an element of an existing part, such as a lamp in a row of lamps, `point` is ignored.
    * @param {import("../../core/drawing/drawing_actions.js").DrawingAction} action
    * @param {import("../../core/board/wiring.js").Point | null} point
    */

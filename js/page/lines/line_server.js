@@ -1,5 +1,5 @@
-// Executes lines in the session, from the console or from buttons. The bench executes the lines, then the page saves the session, and then
-// shows the answers.
+// Executes lines in the session, from the console or from buttons. The bench executes the lines; then the page saves the session and shows
+// the answers.
 
 import { parseRefusal } from "../../core/bench/answers.js";
 import { CancelledError } from "../../core/bench/bench_errors.js";

@@ -142,8 +142,7 @@ export class BreakpointForm {
   }
 
   /**
-   * Applies the contents of the fields. Returns false if the form is closed or the hit count is not a valid number; nothing is then
-   * applied.
+   * Applies the contents of the fields. Applies nothing and returns false if the form is closed or the hit count is not a valid number.
    */
   applyFields() {
     const changes = this.originalBreakpoint && this.readFields();
@@ -170,7 +169,7 @@ export class BreakpointForm {
   /** @param {Breakpoint} originalBreakpoint */
   finish(originalBreakpoint) {
     const hadFocus = this.node.contains(document.activeElement);
-    // While `originalBreakpoint` is null, the loss of the focus does not apply the fields.
+    // While `originalBreakpoint` is null, a loss of focus does not apply the fields.
     this.originalBreakpoint = null;
     // Move the focus before the form is removed. Otherwise, WebKit moves the caret to the start of the source.
     if (hadFocus) this.calls.returnFocus(originalBreakpoint);

@@ -160,8 +160,8 @@ export class ListingView {
 
   /**
    * Returns true if other lines must be read. A disassembly that follows the counter is read again if the counter is not visible; while
-   * time is running fast, at most once in FOLLOW_INTERVAL. A disassembly that does not follow the counter is read again only if the counter
-   * points to the second byte of a line, and not while time is running fast.
+   * time is running fast, at most once per FOLLOW_INTERVAL. A disassembly that does not follow the counter is read again only if the
+   * counter points to the second byte of a line, and not while time is running fast.
    * @param {boolean} isFast
    */
   mustReadLines(isFast) {

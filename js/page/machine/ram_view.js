@@ -51,8 +51,8 @@ export class RamView {
   /**
    * @param {Changes} changes
    * @param {CellEditor} editor
-   * @param {(bank: number, srcByte: number, isWatched: boolean, cell: HTMLElement) => void} toggleWatch sets a watch on a nibble, or
-   *   clears the watch if `isWatched`; `srcByte` is the nibble's SRC byte
+   * @param {(bank: number, srcByte: number, isWatched: boolean, cell: HTMLElement) => void} toggleWatch sets a watch on a nibble, or clears
+   *   the watch if `isWatched` is true; `srcByte` is the nibble's SRC byte
    */
   constructor(changes, editor, toggleWatch) {
     this.changes = changes;

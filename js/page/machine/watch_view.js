@@ -33,7 +33,7 @@ export class WatchView {
     this.expressions = [];
     /** @type {Row[]} */
     this.rows = [];
-    // The field is not in a form. Firefox examines each text field of a form for a user name, which would delay the start of the page.
+    // The field is not in a form, because Firefox would search each text field of a form for a user name and delay the start of the page.
     field("watched-field").addEventListener("keydown", ({ key, isComposing }) => {
       if (key === "Enter" && !isComposing) this.add();
     });

@@ -98,7 +98,7 @@ export class Proofs {
     return currentResults ? currentResults.progress.verdicts.filter(this.currentVerdictFilter(currentResults)) : [];
   }
 
-  /** The short text that the tab shows about the current verdicts. */
+  /** The short mark that the tab shows for the current verdicts. */
   get mark() {
     return this.currentResults ? proofsTabMark(this.currentVerdicts) : "";
   }

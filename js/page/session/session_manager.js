@@ -164,7 +164,7 @@ export class SessionManager {
 
   /**
    * Opens a file. A project or a session file becomes a new session. Texts are loaded into the current session's editors, and an image into
-   * its ROM. If that fails, reports the reason and resolves to false.
+   * its ROM. If the file cannot be opened, reports the reason and resolves to false.
    * @param {File} file
    */
   async openFile(file) {
@@ -184,7 +184,7 @@ export class SessionManager {
   }
 
   /**
-   * Opens a project folder as a new session. If that fails, reports the reason and resolves to false.
+   * Opens a project folder as a new session. If the folder cannot be opened, reports the reason and resolves to false.
    * @param {() => Promise<import("./folder_files.js").Folder>} read reads the folder's files
    */
   async openFolder(read) {

@@ -226,7 +226,7 @@ export class Editors {
     await this.programErrors.checkNow();
   }
 
-  /** Replaces the board's text with the text of a first board, and applies it. */
+  /** Replaces the board's text with the text of the tour's board, and applies it. */
   async applyFirstBoard() {
     this.calls.replaceBoard(TOUR_BOARD, say.FIRST_BOARD);
     await this.applyBoard();

@@ -212,7 +212,7 @@ export class LineEditor {
   }
 
   /**
-   * Returns false if a pasted or dropped text would make the text too long.
+   * Returns false if pasted or dropped text would make the editor's text too long.
    * @param {Transaction} transaction
    */
   acceptsTransaction(transaction) {

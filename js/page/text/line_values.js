@@ -1,4 +1,4 @@
-// Grey text after source lines. It shows the values that the line has changed. It is not part of the source, but moves with its line.
+// Grey text after a source line: the values that the line has changed. The text is not part of the source, but moves with its line.
 
 import { makeTextAfterLine } from "./line_layers.js";
 
