@@ -117,7 +117,7 @@ export class Page {
   }
 
   /**
-   * Returns the name and the texts of the session for printing.
+   * Returns the session's name, board text and source for printing.
    * @returns {import("./print_view.js").PrintContents}
    */
   printContents() {
@@ -177,8 +177,8 @@ export class Page {
   }
 
   /**
-   * Shows the front panel of an edited board text. If the text describes a different board from the board in use, the panel does not change
-   * until the user applies the text.
+   * Shows the front panel of an edited board text. If the text describes a board other than the one in use, the panel does not change until
+   * the user applies the text.
    * @param {string} boardText
    */
   changeFace(boardText) {

@@ -1,4 +1,4 @@
-// Creates the views and controllers that show and draw the board. The callbacks connect each of them to the page's other components.
+// Creates the views and controllers that show and draw the board. Their callbacks connect them to the page's other components.
 
 import { partAtLine } from "../core/bench/part_lines.js";
 import { CancelledError } from "../core/bench/bench_errors.js";
@@ -147,7 +147,7 @@ export function makeScope(page) {
     startLive: (setup, values) => resultOrReport(page, page.bench.call("recordLive", [textsWithValues(values), setup])),
     endLive: () => resultOrReport(page, page.bench.call("endRecording", [])),
     record: async (cycles, isBefore, values) => {
-      // A recording continues from the current state, so time must be paused.
+      // A recording ends or begins at the current state, so time must be paused.
       await page.runController.pause();
       try {
         return await page.progressView.show(say.RECORDING_LINES,

@@ -104,7 +104,7 @@ function makeTimeCalls(page) {
 }
 
 /**
- * Returns the callbacks for commands about the texts.
+ * Returns the callbacks for commands about the project's texts.
  * @param {Page} page
  */
 function makeTextCalls(page) {
@@ -153,7 +153,7 @@ export class Commands {
   constructor(page, guide, examples, { theme, toolbar }) {
     this.page = page;
     this.examples = examples;
-    /** @type {{ id: string, name: string }[]} the saved projects when they were last listed */
+    /** @type {{ id: string, name: string }[]} the saved projects, as they were last listed */
     this.projects = [];
     this.calls = this.makeCalls(guide, theme);
     this.welcome = this.makeWelcome(guide);

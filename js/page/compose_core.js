@@ -1,4 +1,4 @@
-// Creates the components that run the board, execute the session's commands and save the session. The callbacks connect each of them to the
+// Creates the components that run the board, execute the session's commands and save the session. Their callbacks connect them to the
 // page's other components.
 
 import { addressWithName, describeBreakpointCondition } from "../words/stops.js";

@@ -1,5 +1,5 @@
-// Creates the debugger's components: breakpoints, steps back and forward, and the views of values. The callbacks connect each of them to
-// the page's other components.
+// Creates the debugger's components: breakpoints, steps back and forward, and the views of values. Their callbacks connect them to the
+// page's other components.
 
 import { CancelledError, WorkerDiedError } from "../core/bench/bench_errors.js";
 import { hex } from "../core/bench/numbers.js";

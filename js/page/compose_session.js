@@ -1,4 +1,4 @@
-// Creates the components for sessions, files and the guide. The callbacks connect each of them to the page's other components.
+// Creates the components for sessions, files and the guide. Their callbacks connect them to the page's other components.
 
 import { Guide } from "./help/guide.js";
 import { forgetStory } from "./session/address.js";

@@ -1,5 +1,5 @@
-// Creates the text editors, the tabs for tests and properties, and the list of problems. The callbacks connect each of them to the page's
-// other components.
+// Creates the text editors, the tabs for tests and properties, and the list of problems. Their callbacks connect them to the page's other
+// components.
 
 import { formatErrorCount } from "../core/bench/error_messages.js";
 import { ExploreTab } from "./explore/explore_tab.js";
@@ -183,7 +183,7 @@ function addTest({ testsTab, textsController }, test) {
 }
 
 /**
- * Opens a new session with the texts and executes lines in the session, so that the user can step back from the final state.
+ * Opens a new session with `texts` and executes lines in it, so that the user can step back from the final state.
  * @param {Page} page
  * @param {{ name: string, lines: string, message: string }} scenario the session's name, the lines, and the message to show afterwards
  * @param {import("../core/explore/sliced_search.js").ExploredTexts} texts

@@ -60,7 +60,7 @@ export class Layout {
   }
 
   /**
-   * Brings a tab of the texts or the dock to the front.
+   * Brings the tab of a text, or a tab of the dock, to the front.
    * @param {string} name
    */
   showText(name) {

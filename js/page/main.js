@@ -64,8 +64,8 @@ function readEmbeddedText(id) {
 }
 
 /**
- * Resolves to the decompressed bytes of an embedded script element of the page. The browser decompresses faster than a script, but older
- * browsers cannot.
+ * Resolves to the decompressed bytes of an embedded script element of the page. The browser's own decompression is faster than a script's,
+ * but older browsers lack it.
  * @param {string} id
  * @returns {Promise<Uint8Array>}
  */
@@ -92,7 +92,7 @@ function yieldToEvents() {
 
 /**
  * Returns a function that creates a bench in a new worker.
- * @param {Uint8Array[]} parts the worker's script and the module, which are embedded in the page
+ * @param {Uint8Array[]} parts the worker's script and the WebAssembly module, which are embedded in the page
  * @param {Example[]} examples
  */
 function prepareBench([script, module], examples) {

@@ -1,4 +1,4 @@
-// The printed page: the current state of the lamps, and the complete texts of the source and the board. The editors themselves cannot be
+// The printed page: the current state of the lamps, and the complete text of the source and of the board. The editors themselves cannot be
 // printed, because they contain only their visible lines.
 
 import { block, element } from "./ui/dom.js";

@@ -18,7 +18,7 @@ import * as say from "../words/page.js";
  * @property {() => boolean} isRunning Returns true if time is running.
  * @property {() => void} stopClock Stops the page's clock without a request to the worker.
  * @property {(reason: string) => void} showPaused Shows that time is paused, and the reason.
- * @property {(frame: Frame) => void} showLastFrame Shows the last frame of a run before the error.
+ * @property {(frame: Frame) => void} showLastFrame Shows the last frame of a run that an error interrupted.
  * @property {(record: SessionRecord) => Promise<void>} reopenSession Opens a session in a new worker and shows the session. Rejects if the
  *   new worker also fails.
  */

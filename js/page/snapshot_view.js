@@ -53,7 +53,8 @@ import * as say from "../words/page.js";
 /** @typedef {import("./board/printer_view.js").PrinterCalls & ViewCalls} SnapshotCalls */
 
 /**
- * A listener for changes of lamps and keys. `lamps` has one character per lamp, `*` for on. `keyCount` is the number of keys that are down.
+ * A listener for changes of lamps and keys. `lamps` has one character per lamp, `*` if the lamp is on. `keyCount` is the number of keys
+ * that are down.
  * @typedef {{ handleLamps: (lamps: string) => void, handleKeyCount: (keyCount: number) => void }} Watcher
  */
 
@@ -192,7 +193,7 @@ export class SnapshotView {
 
   /**
    * Shows the perceived brightness of the lamps while time is running, otherwise their state at this instant.
-   * @param {string | undefined} lamps one character per lamp (`*` for on); undefined if no lamp has changed
+   * @param {string | undefined} lamps one character per lamp, `*` if the lamp is on; undefined if no lamp has changed
    * @param {import("../core/engine/brightness_meter.js").LitShares | null} litShares
    */
   showLamps(lamps, litShares) {

@@ -13,7 +13,8 @@ function makeSecretName() {
 }
 
 /**
- * Returns the broadcast channel with this name. Returns null for an empty name, in older browsers, and in Firefox if site data is blocked.
+ * Returns the broadcast channel with this name. Returns null if the name is empty, if the browser has no broadcast channels, or if Firefox
+ * blocks site data.
  * @param {string} name
  */
 function openChannel(name) {
@@ -48,7 +49,7 @@ export function startWorker(address) {
 }
 
 /**
- * Returns the function that sends early replies from the worker. The channel copies the reply's contents.
+ * Returns the function that sends early replies from the worker. Sending copies the reply, so the caller can still transfer the original.
  * @param {string} name the worker's name, which is also the channel name
  * @returns {(early: EarlyReply) => void}
  */

@@ -1,4 +1,4 @@
-// The board's displays: a drawing of each seven-segment digit, and a text for screen readers.
+// The board's displays: a drawing of each seven-segment digit, and its value as text for screen readers.
 
 import { Announcer } from "../../core/board/announcer.js";
 import { Cell, Switch, block, element } from "../ui/dom.js";
@@ -44,7 +44,7 @@ class Digit {
     });
   }
 
-  /** @param {number} pattern the bit pattern of the segments that are on; UNLIT_PATTERN for none */
+  /** @param {number} pattern the bit pattern of the segments that are on; UNLIT_PATTERN if none is on */
   set(pattern) {
     const litPattern = pattern === UNLIT_PATTERN ? 0 : pattern;
     if (litPattern === this.steadyPattern) return;

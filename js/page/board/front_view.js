@@ -31,7 +31,7 @@ function isEmptyBoard({ roms, banks, chains, lamps }) {
 
 const AVERAGED_BRIGHTNESS_TEXT = say.averagedBrightness(EYE_PERSISTENCE_MS);
 
-/** The maximum length of a key legend in large letters. */
+/** The maximum length of a key legend that is shown in large letters. */
 const MAX_LARGE_LEGEND_LENGTH = 4;
 
 export class FrontView {
@@ -46,9 +46,9 @@ export class FrontView {
     /** @type {ShownKey[]} the keys, including the switch at TEST if the front panel has one */
     this.keys = [];
     this.keysDown = new PressedKeys();
-    /** The level of the TEST pin: "0" or "1", or "" before the first answer. */
+    /** The level of the TEST pin: "0" or "1", or "" before the bench's first answer. */
     this.testLevel = "";
-    /** The bench's last answer to `lamps`: one character per lamp, `*` for on. */
+    /** The bench's last answer to `lamps`: one character per lamp, `*` if the lamp is on. */
     this.marks = "";
     /** The comments in the board's text that declare this front panel. */
     this.faceComments = "";
@@ -77,8 +77,8 @@ export class FrontView {
   }
 
   /**
-   * Draws a changed front panel of the same board. If the text has no front panel comments, the drawn front panel stays, because the user
-   * may still be writing them.
+   * Draws a changed front panel of the same board. If the board's text has no front panel comments, the drawn front panel stays, because
+   * the user may still be writing them.
    * @param {Board} board
    * @param {Face} face
    */

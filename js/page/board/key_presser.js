@@ -10,24 +10,25 @@ import { formatKey } from "../../core/board/key_place.js";
 /**
  * The callbacks of KeyPresser.
  * @typedef {object} KeyPresserCalls
- * @property {() => boolean} isRunning Returns true if time is running. Presses and releases are then queued.
+ * @property {() => boolean} isRunning Returns true if time is running, unless it is so slow that each press toggles the key.
  * @property {(key: Key) => boolean} isDown Returns true if a key will be down after all queued presses and releases.
- * @property {(key: Key) => void} press Queues a press of a key while time is running.
- * @property {(key: Key) => void} release Queues a release of a key while time is running.
- * @property {(word: "press" | "release", key: Key) => void} change Presses or releases a key at once. Called while time is paused.
+ * @property {(key: Key) => void} press Queues a press of a key.
+ * @property {(key: Key) => void} release Queues a release of a key.
+ * @property {(word: "press" | "release", key: Key) => void} change Presses or releases a key at once. Called while `isRunning` returns
+ *   false.
  * @property {(event: KeyboardEvent) => BoardKey | undefined} keyForEvent Returns the board's key for a keyboard event. Returns undefined if
  *   there is none, or if another element handles the event.
  */
 
 /**
  * A board key that the user holds with a pointer or a keyboard key. If `staysDown` is true, the board key stays down when the user lets go.
- * `undoPress` restores the state of the key before the press.
+ * `undoPress` returns the board key to its state before the press.
  * @typedef {{ key: Key, staysDown: boolean, undoPress: () => void }} HeldKey
  */
 
 /** The delay in milliseconds before a touch presses a key. Within this time the browser recognises a scroll gesture. */
 const SWIPE_DELAY_MS = 60;
-/** A click within this time in milliseconds after the end of a pointer press belongs to that press and is ignored. */
+/** The time in milliseconds after the end of a pointer press during which a click belongs to that press and is ignored. */
 const TAP_CLICK_MS = 500;
 
 export class KeyPresser {
@@ -118,7 +119,7 @@ export class KeyPresser {
 
   /**
    * Presses a key, or releases it if it is already down. A switch stays down until it is pressed again. So does a key that is pressed with
-   * Shift or while time is paused.
+   * Shift, or while time is paused or very slow.
    * @param {Pick<BoardKey, "key" | "isSwitch">} boardKey
    * @param {boolean} isShiftDown
    */
@@ -185,7 +186,7 @@ export class KeyPresser {
       keysByCode.delete(event.code);
       if (key !== undefined) this.endPress(key);
     });
-    // The page does not receive key releases after it has lost the focus.
+    // The page does not receive key releases after it has lost focus.
     addEventListener("blur", () => {
       keysByCode.clear();
       this.releaseAll();

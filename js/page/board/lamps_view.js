@@ -1,5 +1,5 @@
-// The board's lamps. A lamp with a position on the front panel is drawn there. All other lamps are in rows and have their own names or the
-// names of their lines.
+// The board's lamps. A lamp with a position on the front panel is drawn there. All other lamps are drawn in rows, each labelled with its
+// own name or the name of its line.
 
 import { block, element } from "../ui/dom.js";
 import { perceivedBrightness } from "../../core/board/brightness.js";

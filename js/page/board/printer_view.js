@@ -15,11 +15,11 @@ import { printoutLines } from "../../core/board/printout_lines.js";
  * The callbacks of the printer view.
  * @typedef {object} PrinterCalls
  * @property {(printer: { strobe: string, port: string } | null) => void} setPrinter Asks the bench to report the codes that the program
- *   sends to a printer; null for no printer.
+ *   sends to a printer. With null, the reports stop.
  * @property {() => void} clear Clears the bench's copy of the printout.
  */
 
-/** The maximum number of lines that are shown. Of a longer printout, only the last lines are shown. */
+/** The maximum number of lines that are shown. If the printout is longer, only its last lines are shown. */
 const MAX_SHOWN_LINES = 400;
 /** The distance in pixels from the end of the printout within which the view follows new lines. */
 const MAX_END_DISTANCE = 24;
@@ -59,8 +59,8 @@ export class PrinterView {
   }
 
   /**
-   * Draws a changed front panel of the same board. The printout stays if the text has no front panel or no printer, because the user may
-   * still be writing.
+   * Draws a changed front panel of the same board. The printout stays if the board's text declares no front panel or no printer, because
+   * the user may still be writing it.
    * @param {Board} board
    * @param {Face} face
    */

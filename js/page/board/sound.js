@@ -14,7 +14,7 @@ import * as say from "../../words/board.js";
  * The callbacks of Sound.
  * @typedef {object} SoundCalls
  * @property {(line: string) => void} listenToLine Asks the bench to report the level changes of a line; "" stops the reports.
- * @property {() => boolean} isRealTime Returns true if time is running at the real chip's speed. At other speeds the buzzer is silent.
+ * @property {() => boolean} isRealTime Returns true if the speed is set to that of the real chip. At other speeds the buzzer is silent.
  */
 
 /** The number of cycles in one block of samples, which lasts 45 ms. */
@@ -25,7 +25,7 @@ const SOUND_DELAY_SECONDS = 0.09;
 const MAX_DELAY_SECONDS = 0.4;
 /** The gain of the sound, from 0 to 1. */
 const GAIN = 0.12;
-/** The cut-off frequency of the high-pass filter in hertz. The filter makes a line that stays at 1 silent. */
+/** The cut-off frequency of the high-pass filter in hertz. The filter silences a line that stays at 1. */
 const CUTOFF_HERTZ = 30;
 
 /** Plays blocks of samples in sequence. */
@@ -33,7 +33,7 @@ class Player {
   constructor() {
     this.context = new AudioContext();
     this.sampleBuffer = new SampleBuffer(BLOCK_CYCLES);
-    /** The end time of the last block, in seconds of the audio context. */
+    /** The time at which the last block ends, in seconds on the audio context's clock. */
     this.endTime = 0;
     const volume = new GainNode(this.context, { gain: GAIN });
     const filter = new BiquadFilterNode(this.context, { type: "highpass", frequency: CUTOFF_HERTZ });
@@ -46,7 +46,8 @@ class Player {
     const samples = this.sampleBuffer.add(levels);
     const currentTime = this.context.currentTime;
     if (!samples || this.endTime > currentTime + MAX_DELAY_SECONDS) return;
-    // The last block has ended, or this is the first block. (An audio context's time is 0 until the context runs.)
+    // If the last block has ended, or this is the first one, playback starts after the delay. (An audio context's time is 0 until the
+    // context runs.)
     if (this.endTime <= currentTime) this.endTime = currentTime + SOUND_DELAY_SECONDS;
     const buffer = this.context.createBuffer(1, samples.length, CYCLES_PER_SECOND);
     buffer.copyToChannel(samples, 0);

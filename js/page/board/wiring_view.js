@@ -53,7 +53,7 @@ export class WiringView {
     this.chains = [];
     /** @type {Map<string, Levels>} the line levels of each RAM chip, by `bank.chip` */
     this.rams = new Map();
-    /** The name of the highlighted part, in the form that `mark` accepts; "" for none. */
+    /** The name of the highlighted part, in the form that `mark` accepts; "" if there is none. */
     this.markedName = "";
     /** The name of the part or pin that the Tab key moves the focus to. */
     this.tabStop = "";
@@ -232,7 +232,8 @@ export class WiringView {
   }
 
   /**
-   * Makes one part or pin the only element of the picture that the Tab key reaches. If there is none with this name, chooses the first one.
+   * Makes one part or pin the only element of the picture that the Tab key reaches. If nothing in the picture has this name, chooses the
+   * first part or pin.
    * @param {string} name
    */
   setTabStop(name) {
@@ -293,7 +294,7 @@ export class WiringView {
 
   /**
    * Highlights the part that the caret's line in the board's text describes.
-   * @param {string} name `rom 1`, `ram 0`, `lamp 3`, `test`; "" for none
+   * @param {string} name for example `rom 1`, `lamp 3` or `test`; "" removes the highlight
    */
   mark(name) {
     if (name === this.markedName) return;

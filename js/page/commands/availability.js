@@ -1,8 +1,8 @@
 // Finds out whether a button can be used, or could be used if its text or panel were in front.
 
 /**
- * Returns true if an element is a text, a panel or the view menu. These elements are hidden while another text or
- * panel is in front of them, or while the menu is closed.
+ * Returns true if an element is a tab panel, an `aside` panel or the view menu. These elements are hidden while another text or panel is in
+ * front of them, or while the menu is closed.
  * @param {Element} node
  */
 function isTextOrPanel(node) {

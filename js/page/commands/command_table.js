@@ -21,7 +21,7 @@ import * as say from "../../words/page_commands.js";
  *   act: (calls: CommandCalls) => void, unavailableReason: (calls: CommandCalls) => string }} Command
  *
  * @typedef {"find" | "replace" | "line" | "comment" | "complete" | "define" | "uses" | "rename" | "fold" | "unfold" | "foldAll" |
- * "unfoldAll" | "undo" | "redo"} TextAction an editing action
+ *   "unfoldAll" | "undo" | "redo"} TextAction an editing action
  */
 
 /**
@@ -56,7 +56,7 @@ import * as say from "../../words/page_commands.js";
  * @property {() => void} openFile Asks for a file to open.
  * @property {() => void} saveProject Saves the project to a file.
  * @property {() => void} saveSession Saves only the session file.
- * @property {() => void} exportFiles Opens the dialog to export texts and ROM images.
+ * @property {() => void} exportFiles Opens the dialog that exports the board's text, the source and ROM images.
  * @property {() => void} openProjects Opens the list of projects.
  * @property {() => void} share Creates a link to the session.
  * @property {() => void} openNotices Opens the list of notices.
@@ -276,7 +276,7 @@ const HELP_COMMANDS = [
 ];
 
 /**
- * Returns a command whose label is not in the table of labels, such as the commands that show the panels.
+ * Returns a command whose label is not in the table of labels, such as a command that shows a panel.
  * @param {string} id
  * @param {string} label
  * @param {Command["group"]} group
@@ -292,7 +292,7 @@ const PANEL_COMMANDS = [...Object.entries(say.TEXTS), ...Object.entries(say.PANE
   labelledCommand(`show.${name}`, say.showText(label), "show", (calls) => calls.show(name))));
 
 /**
- * Commands that show, hide and maximise panels.
+ * The commands that show, hide and maximise panels, and the command that restores the initial layout.
  * @type {Command[]}
  */
 const LAYOUT_COMMANDS = [

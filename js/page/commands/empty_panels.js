@@ -10,7 +10,7 @@ const FILL_COMMANDS = {
 };
 
 /**
- * Adds a text and a button after the list of each panel. The style sheet shows the text and the button while the list is empty.
+ * Adds an explanation and a button after the list of each panel. The style sheet shows them while the list is empty.
  * @param {(command: import("./command_table.js").Command) => void} action
  */
 export function fillEmptyPanels(action) {

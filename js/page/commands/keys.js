@@ -9,7 +9,7 @@ import { COMMANDS, commandById } from "./command_table.js";
  */
 
 /**
- * Returns the name of a key with its modifiers, as the command table writes it. The Command key counts as Control.
+ * Returns the name of a key with its modifiers, in the form that the command table uses. The Command key counts as Control.
  * @param {KeyPress} event
  */
 export function formatKey({ key, ctrlKey, metaKey, altKey, shiftKey }) {

@@ -1,4 +1,4 @@
-// Menus with the ARIA menu pattern, below a button or at a point. Arrow keys move between items; Escape closes the menu.
+// Menus that follow the ARIA menu pattern and open below a button or at a point. Arrow keys move between items; Escape closes the menu.
 
 import { element } from "../ui/dom.js";
 import { icon } from "../ui/icons.js";
@@ -67,7 +67,7 @@ class MenuList {
     return this.buttons.filter((button) => button.offsetParent !== null);
   }
 
-  /** @param {number} index the index among the visible buttons; -1 for the last button */
+  /** @param {number} index the index among the visible buttons, or -1 to focus the last one */
   focus(index) {
     const { visibleButtons } = this;
     visibleButtons[(index + visibleButtons.length) % visibleButtons.length].focus();

@@ -24,8 +24,8 @@ import { PictureZoom } from "./picture_zoom.js";
  * @property {() => void} putInFront Brings the Wiring tab to the front.
  * @property {() => Promise<string>} applyBoard Applies the board's text. Resolves to the message about the result.
  * @property {(board: Board) => void} insertKeyScan Inserts a key scan routine for a board into the source.
- * @property {(part: string) => void} showPartLines Shows the lines of a part in the text. The part is named as in the picture, for example
- *   `rom 1`.
+ * @property {(part: string) => void} showPartLines Shows the lines of a part in the board's text. The part is named as in the picture, for
+ *   example `rom 1`.
  * @property {() => OpenSession | null} session Returns the current session, whose record stores the positions of moved parts, or null if
  *   there is none.
  * @property {() => void} saveSession Saves the session after the user has moved parts.
@@ -90,7 +90,7 @@ export class DrawingController {
   }
 
   /**
-   * Handles a key with Control or Command while the picture is in front, unless the focused element handles the key.
+   * Handles a key that is pressed with Control or Command while the picture is in front, unless the focused element handles the key.
    * @param {KeyboardEvent} event
    */
   handleKey(event) {
@@ -111,12 +111,14 @@ export class DrawingController {
     this.input.setWire(state.wireStart, state.ends);
   }
 
-  /** Draws the board that the text describes, if the Wiring tab is in front. */
+  /** Draws the board from its text, if the Wiring tab is in front. */
   updateFromText() {
     if (this.calls.isInFront()) this.reportFailure(this.drawing.refresh());
   }
 
-  /** Draws the picture again DRAW_DELAY milliseconds after the last edit, if the text has changed and the Wiring tab is in front. */
+  /**
+   * Draws the picture again DRAW_DELAY milliseconds after the last edit, if the board's text has changed and the Wiring tab is in front.
+   */
   handleEdit() {
     clearTimeout(this.drawTimer);
     this.drawTimer = window.setTimeout(() => this.drawing.text !== this.calls.text() && this.updateFromText(), DRAW_DELAY);
@@ -138,8 +140,8 @@ export class DrawingController {
   }
 
   /**
-   * Adds a part from the shelf and focuses it. Its title is at `point` in the picture; if `point` is null, the part is at its default
-   * position. If the new part becomes an element of an existing part, such as a lamp in a row of lamps, `point` is ignored.
+   * Adds a part from the shelf and focuses it. The part's title is at `point` in the picture; if `point` is null, the part is at its
+   * default position. If the new part becomes an element of an existing part, such as a lamp in a row of lamps, `point` is ignored.
    * @param {import("../../core/drawing/drawing_actions.js").DrawingAction} action
    * @param {import("../../core/board/wiring.js").Point | null} point
    */

@@ -23,8 +23,8 @@ import * as say from "../../words/drawing.js";
  *   old text stays.
  * @property {(direction: "undo" | "redo") => void} undoOrRedo Undoes or redoes the last edit.
  * @property {() => void} applyBoard Applies the board's text.
- * @property {(part: string) => void} showPartLines Shows the lines of a part in the text. The part is named as in the picture, for example
- *   `rom 1`.
+ * @property {(part: string) => void} showPartLines Shows the lines of a part in the board's text. The part is named as in the picture, for
+ *   example `rom 1`.
  * @property {() => void} arrangeParts Moves all parts to their default positions.
  * @property {() => void} insertKeyScan Inserts a key scan routine into the source.
  * @property {(action: DrawingAction, point: Point | null) => void} dropPart Adds a part and focuses it. The part appears at `point` in
@@ -102,7 +102,7 @@ export class DrawingView {
 
   /**
    * @param {ShelfPart} part
-   * @param {string} [line] the line to which the part is wired; "" for the next free line
+   * @param {string} [line] the line to which the part is wired, or "" to use the next free line
    * @returns {DrawingAction}
    */
   makeAddAction(part, line = "") {
@@ -150,7 +150,7 @@ export class DrawingView {
   }
 
   /**
-   * Shows the fields of the selection. Fields whose layout is unchanged stay, so that typing is not interrupted.
+   * Shows the fields of the selection. If their layout is unchanged, the fields on the page stay, so that typing is not interrupted.
    * @param {DrawingState} state
    */
   showFields({ fields: { title, part, fields, buttons }, error }) {
@@ -172,7 +172,7 @@ export class DrawingView {
   }
 
   /**
-   * Replaces the fields. The focus stays if a new field or button has the same label.
+   * Replaces the fields. If a field or button had the focus, the new one with the same label receives it.
    * @param {string} title
    * @param {string} part
    * @param {Field[]} fields

@@ -19,7 +19,7 @@ import * as say from "../../words/explore.js";
  * @typedef {import("../../core/bench/task_worker.js").TaskResult} TaskResult
  * @typedef {import("../prove/proofs.js").ProofsCalls} ProofsCalls
  *
- * The results of a search. `texts` are the texts that were searched. `report` is null before the first progress report. `files` contains
+ * The results of a search. `texts` are the texts that the search used. `report` is null before the first progress report. `files` contains
  * the session file of each counterexample, by the number of its property. `isStopped` is true if the user stopped the search.
  * @typedef {{ texts: ExploredTexts, report: Report | null, files: Map<number, Uint8Array>, isStopped: boolean }} SearchResults
  */
@@ -27,9 +27,9 @@ import * as say from "../../words/explore.js";
 /**
  * The callbacks of the Properties tab. The tab's text editor also uses the callbacks `labels`, `texts`, `handleEdit` and `reportFailure`.
  * @typedef {object} ExploreCalls
- * @property {() => Omit<ExploredTexts, "propertiesText">} texts Returns the current texts of the board, the source and the tests.
+ * @property {() => Omit<ExploredTexts, "propertiesText">} texts Returns the current text of the board, of the source and of the tests.
  * @property {() => string[]} labels Returns the labels of the program in ROM.
- * @property {(texts: ExploredTexts) => Promise<ProjectTextError[]>} findErrors Resolves to the errors of all texts.
+ * @property {(texts: ExploredTexts) => Promise<ProjectTextError[]>} findErrors Resolves to the errors in all the texts.
  * @property {(texts: ExploredTexts, options: RunOptions, signal: AbortSignal, showProgress: (progress: Progress) => void) =>
  *   Promise<TaskResult>} explore Searches until the time is up, every property has a counterexample, or `signal` is aborted. Calls
  *   `showProgress` with each progress report. Resolves to the errors in the texts and whether the search was stopped.
@@ -38,9 +38,9 @@ import * as say from "../../words/explore.js";
  * @property {(name: string, file: Uint8Array, texts: ExploredTexts) => void} open Opens a new session from a file, with the texts of the
  *   search.
  * @property {ProofsCalls["prove"]} prove Proves properties.
- * @property {ProofsCalls["open"]} openWithLines Opens a new session with the texts, and executes lines in it.
+ * @property {ProofsCalls["open"]} openWithLines Opens a new session with the texts of a proof, and executes lines in it.
  * @property {(test: string) => string} addTest Adds a test to the text in the Tests tab. Returns the message about the result.
- * @property {(label: string, isGood?: boolean) => void} showMark Shows a short text on the tab; "" removes it. If `isGood`, the text
+ * @property {(label: string, isGood?: boolean) => void} showMark Shows a short mark on the tab; "" removes it. If `isGood`, the mark
  *   reports a success.
  * @property {() => void} handleEdit Handles an edit of the properties.
  * @property {(error: unknown) => void} reportFailure Reports an error that a call threw.
@@ -89,7 +89,7 @@ export class ExploreTab {
     this.exploreButton = new Cell(button("explore"));
     this.exploreButton.set(say.EXPLORE);
     onClick(button("clear-finds"), () => this.clear());
-    /** The number of errors in the text, as last reported by `showMark`. */
+    /** The number of errors in the properties, as last reported by `showMark`. */
     this.errorCount = 0;
     this.proofs = this.makeProofs();
   }
@@ -120,12 +120,12 @@ export class ExploreTab {
     return this.resultsBySession.get(this.sessionId) || null;
   }
 
-  /** Checks the text. Called when a session has been opened, and when the tab is brought to the front. */
+  /** Checks the properties. Called when a session has been opened, and when the tab is brought to the front. */
   refresh() {
     this.textTab.refresh();
   }
 
-  /** @param {number} count the number of errors in the text */
+  /** @param {number} count the number of errors in the properties */
   showMark(count) {
     const { currentResults } = this;
     this.errorCount = count;

@@ -25,7 +25,8 @@ import * as say from "../../words/help.js";
  * @property {() => void} showSource Brings the source to the front.
  * @property {() => string} program Returns the text of the source.
  * @property {(program: string) => void} replaceSource Replaces the source with a program, as one edit.
- * @property {(target: import("../../core/help/tour.js").Target) => void} reveal Scrolls the target of a tour step into view.
+ * @property {(target: import("../../core/help/tour.js").Target) => void} reveal Brings the text or panel that contains the target of a tour
+ *   step to the front.
  * @property {(program: string, message: string) => void} replace Replaces the source with a program, and shows a message that offers undo.
  * @property {import("../../core/help/story_actions.js").ActionCallbacks} storyCalls The callbacks for links in stories.
  * @property {() => void} handleTourEnd Handles the end of the tour or of a story.

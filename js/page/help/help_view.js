@@ -59,7 +59,7 @@ export class HelpView {
     this.search.focus();
   }
 
-  /** @param {string} query the initial query; "" for the last query */
+  /** @param {string} query the initial query, or "" to keep the last query */
   toggle(query) {
     if (this.isOpen) this.close();
     else this.open(query || undefined);

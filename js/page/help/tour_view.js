@@ -17,11 +17,11 @@ import * as say from "../../words/help.js";
  * @typedef {object} TourCalls
  * @property {(example: Example) => Promise<boolean>} openExample Opens a new session from an example. Resolves to true if the session was
  *   created.
- * @property {(program: string) => void} putProgram Puts a program into the source.
+ * @property {(program: string) => void} putProgram Replaces the source with a program.
  * @property {(action: import("../../core/help/story.js").StoryAction) => Promise<string>} executeAction Executes the action of a story's
  *   link. Resolves to the reason why the action failed, or to "".
  * @property {(program: string) => boolean} isProgramInSource Returns true if the source is `program`.
- * @property {(target: Target) => void} reveal Scrolls the target of a step into view.
+ * @property {(target: Target) => void} reveal Brings the text or panel that contains the target of a step to the front.
  * @property {() => void} handleTourEnd Handles the end of the tour.
  */
 

@@ -1,5 +1,5 @@
-// Executes lines in the session, from the console or from buttons. The bench executes the lines, then the page saves the session, and then
-// shows the answers.
+// Executes lines in the session, from the console or from buttons. The bench executes the lines; then the page saves the session and shows
+// the answers.
 
 import { parseRefusal } from "../../core/bench/answers.js";
 import { CancelledError } from "../../core/bench/bench_errors.js";
@@ -101,7 +101,7 @@ export class LineServer {
     try {
       result = await this.calls.runWithProgress(description, work);
     } catch (error) {
-      // After a cancellation, time resumes if time was running before.
+      // A cancellation is not reported as a failure, because `reportFailure` would pause time.
       if (error instanceof CancelledError) this.notice.show(this.errorMessages.failureMessage(error));
       else this.calls.reportFailure(error);
       return null;

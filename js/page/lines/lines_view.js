@@ -91,7 +91,7 @@ export class LinesView {
     this.textArea.setSelectionRange(this.text.length, this.text.length);
   }
 
-  /** The last line of the typed text. */
+  /** The last line of the input. */
   get lastLine() {
     return this.text.slice(this.text.lastIndexOf("\n") + 1);
   }

@@ -16,8 +16,8 @@ import * as say from "../../words/machine.js";
  * The callbacks of the breakpoint form.
  * @typedef {object} BreakpointFormCalls
  * @property {(id: number, changes: BreakpointTexts) => void} change Changes the breakpoint with this id, and sends the change to the bench.
- * @property {(id: number, changes: BreakpointTexts) => void} showTypedTexts Shows the typed texts in the breakpoint's mark and list
- *   entry, but does not send them to the bench.
+ * @property {(id: number, changes: BreakpointTexts) => void} showTypedTexts Saves what the user has typed and shows it in the breakpoint's
+ *   mark and list entry, but does not send it to the bench.
  * @property {() => Promise<void>} waitForChanges Resolves when the bench has received all changes.
  * @property {(breakpoint: Breakpoint, node: HTMLElement) => void} placeForm Puts the form below the breakpoint's source line, or into the
  *   list of breakpoints if the breakpoint has no line.
@@ -86,7 +86,7 @@ export class BreakpointForm {
    * Opens the form for a breakpoint, with the caret in one of its fields. If the form is open for another breakpoint, first applies its
    * fields.
    * @param {Breakpoint} breakpoint
-   * @param {string} error the error in the breakpoint's texts; "" if there is none
+   * @param {string} error the error in the breakpoint's condition or log message; "" if there is none
    * @param {BreakpointField} fieldName the field that receives the caret
    */
   open(breakpoint, error, fieldName) {
@@ -124,7 +124,7 @@ export class BreakpointForm {
     this.showError(errors.get(breakpoint.id) || "");
   }
 
-  /** @param {string} error the error in the texts that were applied; "" if there is none */
+  /** @param {string} error the error in the applied condition or log message; "" if there is none */
   showError(error) {
     this.status.set(error && say.stopsEachTime(error));
     this.fields.condition.setAttribute("aria-invalid", String(error !== ""));
@@ -142,8 +142,7 @@ export class BreakpointForm {
   }
 
   /**
-   * Applies the contents of the fields. Returns false if the form is closed or the hit count is not a valid number; nothing is then
-   * applied.
+   * Applies the contents of the fields. Applies nothing and returns false if the form is closed or the hit count is not a valid number.
    */
   applyFields() {
     const changes = this.originalBreakpoint && this.readFields();
@@ -159,7 +158,7 @@ export class BreakpointForm {
     if (this.originalBreakpoint === originalBreakpoint && this.status.text === "") this.finish(originalBreakpoint);
   }
 
-  /** Restores the breakpoint's texts and hit count from before the edits, and closes the form. */
+  /** Restores the condition, hit count and log message from before the edits, and closes the form. */
   cancel() {
     const { originalBreakpoint } = this;
     if (!originalBreakpoint) return;
@@ -170,7 +169,7 @@ export class BreakpointForm {
   /** @param {Breakpoint} originalBreakpoint */
   finish(originalBreakpoint) {
     const hadFocus = this.node.contains(document.activeElement);
-    // While `originalBreakpoint` is null, the loss of the focus does not apply the fields.
+    // While `originalBreakpoint` is null, a loss of focus does not apply the fields.
     this.originalBreakpoint = null;
     // Move the focus before the form is removed. Otherwise, WebKit moves the caret to the start of the source.
     if (hadFocus) this.calls.returnFocus(originalBreakpoint);

@@ -29,7 +29,7 @@ import * as say from "../../words/machine.js";
  * @typedef {object} BreakpointsCalls
  * @property {() => OpenSession | null} session Returns the current session, whose record stores the breakpoints, or null if there is none.
  * @property {() => void} saveSession Saves the session after the user has changed breakpoints.
- * @property {() => { board: string, program: string }} texts Returns the current texts of the board and the source.
+ * @property {() => { board: string, program: string }} texts Returns the current text of the board and of the source.
  * @property {(result: LinesReply) => Promise<void>} handleResult Saves, shows and logs the result of lines that set the bench's
  *   breakpoints.
  * @property {(result: LinesReply) => void} showSession Shows the session after breakpoints were set by a call that executed no lines.
@@ -149,7 +149,7 @@ export class BreakpointsController {
     ], point);
   }
 
-  /** Returns the texts that define the names used in conditions. */
+  /** Returns the board's text, the source and the watch expressions, which define the names that conditions can use. */
   texts() {
     const { board, program } = this.calls.texts();
     return { board, program: this.manager.map ? this.manager.map.text : program, watched: this.manager.watchTexts };

@@ -1,5 +1,5 @@
-// The list of breakpoints and the log below it. An entry has a check box that enables the breakpoint, the breakpoint's mark, location and
-// hit count, and buttons that edit and remove it. Below are the breakpoint's condition and log message, and its error.
+// The list of breakpoints and the log below it. An entry shows the breakpoint's mark, location and hit count, a check box that enables it,
+// and buttons that edit and remove it. Below are the breakpoint's condition and log message, and its error.
 
 import { formatCycles } from "../../core/time/cycles.js";
 import { addressWithName, lineReference } from "../../words/stops.js";
@@ -34,8 +34,8 @@ import * as say from "../../words/machine.js";
  */
 
 /**
- * Returns a breakpoint's location as text: its address and name if there is a source map, otherwise its source line. A breakpoint with
- * neither a map nor a line is shown with its address.
+ * Returns a breakpoint's location as text: its address and name if there is a source map, otherwise its source line. If there is neither a
+ * source map nor a line, returns only the address.
  * @param {Breakpoint} breakpoint
  * @param {SourceMap | null} map
  */
@@ -79,7 +79,7 @@ export class BreakpointsView {
   /**
    * @param {Row} row
    * @param {Breakpoint} breakpoint
-   * @param {string} error the error in the breakpoint's texts; "" if there is none
+   * @param {string} error the error in the breakpoint's condition or log message; "" if there is none
    * @param {SourceMap | null} map
    */
   showRow(row, breakpoint, error, map) {
@@ -131,8 +131,8 @@ export class BreakpointsView {
   }
 
   /**
-   * Appends the log messages of breakpoints to the log, and says how many messages were omitted. Removes the oldest messages beyond
-   * MAX_NOTES.
+   * Appends the log messages of breakpoints to the log, and says how many messages were omitted. Removes the oldest messages if there are
+   * more than MAX_NOTES.
    * @param {Tally} tally
    * @param {ShownManager} manager
    */

@@ -6,7 +6,7 @@ import { putBelow } from "../ui/popup_message.js";
 import * as say from "../../words/machine.js";
 
 /**
- * An editable cell: its location as the `poke` command names it, its name for the user, and its number of hexadecimal digits.
+ * An editable cell: its location in the syntax of the `poke` command, its name for the user, and its number of hexadecimal digits.
  * @typedef {{ place: string, name: string, digits: number }} EditableCell
  */
 

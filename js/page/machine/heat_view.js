@@ -14,8 +14,8 @@ import * as say from "../../words/machine.js";
  * @typedef {import("../../core/engine/heat_meter.js").ChipHeat} ChipHeat
  * @typedef {import("../../core/machine/heat_levels.js").HeatKind} HeatKind
  * @typedef {import("../../core/machine/source_map.js").SourceMap} SourceMap
- * @typedef {{ warmth: number, changeText: string }} CellHeat `warmth`: the level of the cell's colour, 0 for no colour; `changeText`: the
- *   text about the cell's changes
+ * @typedef {{ warmth: number, changeText: string }} CellHeat `warmth`: the level of the cell's colour, or 0 if it has none; `changeText`: a
+ *   description of the cell's changes
  */
 
 /**
@@ -25,14 +25,14 @@ import * as say from "../../words/machine.js";
  * @property {(cycles: number, signal: AbortSignal) => Promise<Heat | null>} countChanges Counts the changes in the last `cycles` cycles.
  *   Resolves to null if `signal` is aborted or if the count fails. A failure has already been reported.
  * @property {(isOn: boolean) => void} setReporting Starts or stops the bench's reports of RAM changes.
- * @property {(heatByPlace: Map<string, CellHeat>) => void} showCells Colours the cells. `heatByPlace` has the colour and the text of each
- *   cell, by the cell's location. Cells that are not in the map have no colour.
+ * @property {(heatByPlace: Map<string, CellHeat>) => void} showCells Colours the cells. `heatByPlace` has each cell's colour and the
+ *   description of its changes, by the cell's location. Cells that are not in the map have no colour.
  * @property {(place: string) => string} describePlace Returns the name of the cell at location `place`, or a description if the cell has
  *   no name.
  * @property {() => SourceMap | null} map Returns the source map of the program in ROM, or null if ROM does not match the source.
  */
 
-/** The delay in milliseconds before changes are counted, after the user's last input or the last snapshot, while time is paused. */
+/** While time is paused, the delay in milliseconds between the last input or snapshot and the count of changes. */
 const COUNT_DELAY_MS = 300;
 /** The maximum number of cycles over which changes are counted. */
 const MAX_CYCLES = 10000000;

@@ -12,8 +12,8 @@ import { putBelow } from "../ui/popup_message.js";
  * The callbacks of the tooltip.
  * @typedef {object} LastChangeCalls
  * @property {() => boolean} isRunning Returns true if time is running. The tooltip appears only while time is paused.
- * @property {(editableCell: EditableCell, signal: AbortSignal) => Promise<string>} describeLastChange Resolves to a text about the last
- *   change of a cell, or to "" if `signal` is aborted or the search fails.
+ * @property {(editableCell: EditableCell, signal: AbortSignal) => Promise<string>} describeLastChange Resolves to a description of a cell's
+ *   last change, or to "" if `signal` is aborted or the search fails.
  * @property {(cell: HTMLElement) => EditableCell | undefined} editableCellAt Returns the editable cell that the element `cell` shows, or
  *   undefined if the element shows no editable value.
  */

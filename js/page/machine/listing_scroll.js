@@ -1,5 +1,5 @@
 // Scrolling of the disassembly. The content of the box is as high as the rows of all 4,096 addresses together, but only the visible rows
-// exist as elements. The browser handles the scroll bar, the wheel and touch. Keys move by rows and by pages.
+// exist as elements. The browser handles the scroll bar, the wheel and touch. Keys move the focus by rows or by pages.
 
 import { ADDRESS_COUNT } from "../../core/bench/rom_bytes.js";
 import { element } from "../ui/dom.js";

@@ -79,7 +79,7 @@ export class ListingView {
     });
   }
 
-  /** Reads the lines again, from the same address or around the program counter if the disassembly follows it. */
+  /** Reads the lines again, from the same address, or around the program counter if the disassembly follows it. */
   rereadLines() {
     if (!this.followsCounter && this.lines.length > 0) this.firstAddress = this.lines[0].address;
     this.discardLines();
@@ -120,7 +120,7 @@ export class ListingView {
     this.setLines(this.lines);
   }
 
-  /** Discards all lines, and the lines that are being read. `show` then reads them again. */
+  /** Discards all lines, including those that are being read. `show` then reads them again. */
   discardLines() {
     this.setLines([]);
     this.requestCount += 1;
@@ -160,8 +160,8 @@ export class ListingView {
 
   /**
    * Returns true if other lines must be read. A disassembly that follows the counter is read again if the counter is not visible; while
-   * time is running fast, at most once in FOLLOW_INTERVAL. A disassembly that does not follow the counter is read again only if the counter
-   * points to the second byte of a line, and not while time is running fast.
+   * time is running fast, at most once per FOLLOW_INTERVAL. A disassembly that does not follow the counter is read again only if the
+   * counter points to the second byte of a line, and not while time is running fast.
    * @param {boolean} isFast
    */
   mustReadLines(isFast) {
@@ -238,7 +238,7 @@ export class ListingView {
       this.fixFirstAddress(this.lines[Math.min(count, this.lines.length - 1)].address);
       return this.read({ from: this.firstAddress, anchor: this.firstAddress });
     }
-    // A line has one or two bytes.
+    // A line has at most two bytes, so the new top line is not before this address.
     const from = Math.max(0, topLine.address + 2 * count);
     const precedingLines = await this.reader.read({ from, anchor: topLine.address }, this.rows.count);
     const index = precedingLines.findIndex((line) => line.address >= topLine.address);

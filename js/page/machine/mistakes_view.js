@@ -13,7 +13,7 @@ import * as say from "../../words/machine.js";
 /**
  * The callbacks of the list of common mistakes.
  * @typedef {object} MistakesCalls
- * @property {(address: number) => string} describeAddress Returns a text with an address, its name and its source line.
+ * @property {(address: number) => string} describeAddress Returns an address with its name and its source line, as text.
  * @property {(address: number) => void} goTo Shows an address in the source and in the disassembly.
  * @property {(kinds: Kind[]) => void} stopAtMistakes Asks the bench to pause time at mistakes of these kinds.
  * @property {(count: number) => void} showCount Reports the number of mistakes in the list.

@@ -51,8 +51,8 @@ export class RamView {
   /**
    * @param {Changes} changes
    * @param {CellEditor} editor
-   * @param {(bank: number, srcByte: number, isWatched: boolean, cell: HTMLElement) => void} toggleWatch sets a watch on a nibble, or
-   *   clears the watch if `isWatched`; `srcByte` is the nibble's SRC byte
+   * @param {(bank: number, srcByte: number, isWatched: boolean, cell: HTMLElement) => void} toggleWatch sets a watch on a nibble, or clears
+   *   the watch if `isWatched` is true; `srcByte` is the nibble's SRC byte
    */
   constructor(changes, editor, toggleWatch) {
     this.changes = changes;
@@ -62,7 +62,7 @@ export class RamView {
     this.watchSwitches = new Map();
     /** @type {Map<string, ShownRegister>} the registers, by `bank.chip.register` */
     this.registers = new Map();
-    /** @type {Map<string, { node: HTMLElement, title: string }>} the nibbles, by their locations as the `poke` command names them */
+    /** @type {Map<string, { node: HTMLElement, title: string }>} the nibbles, by location in the syntax of the `poke` command */
     this.nibbles = new Map();
     /** @type {ReadonlyMap<string, string[]>} the names of nibbles, by the nibble's location */
     this.names = new Map();
@@ -167,7 +167,7 @@ export class RamView {
 
   /**
    * Makes a nibble editable.
-   * @param {string} place the nibble's location as the `poke` command names it
+   * @param {string} place the nibble's location in the syntax of the `poke` command
    * @param {HTMLButtonElement} node
    */
   makeEditable(place, node) {
@@ -203,7 +203,7 @@ export class RamView {
 
   /**
    * Returns a RAM nibble's name, or its description if it has no name.
-   * @param {string} place the nibble's location as the `poke` command names it
+   * @param {string} place the nibble's location in the syntax of the `poke` command
    */
   describePlace(place) {
     const [name] = this.names.get(place) || [];
@@ -237,7 +237,7 @@ export class RamView {
 
   /**
    * Sets a RAM nibble's tooltip: its names, its description, and the heat map's text about its changes.
-   * @param {string} place the nibble's location as the `poke` command names it
+   * @param {string} place the nibble's location in the syntax of the `poke` command
    */
   updateTitle(place) {
     const nibble = this.nibbles.get(place);

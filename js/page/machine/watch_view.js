@@ -8,7 +8,7 @@ import * as say from "../../words/machine.js";
  * @typedef {import("../../core/debug/machine_state.js").MachineState} MachineState
  * @typedef {import("../../core/debug/watch_expressions.js").WatchExpression} WatchExpression
  * @typedef {import("../../core/conditions/condition_language.js").Names} Names
- * @typedef {{ root: HTMLLIElement, value: HTMLElement, shape: string, cells: Cell[] }} Row `shape`: the row's texts and the locations
+ * @typedef {{ root: HTMLLIElement, value: HTMLElement, shape: string, cells: Cell[] }} Row `shape`: the row's fixed text and the locations
  *   of its values, to detect when the row needs other cells
  */
 
@@ -20,7 +20,7 @@ import * as say from "../../words/machine.js";
  *   running.
  * @property {() => Names} names Returns the names that expressions can use.
  * @property {() => void} handleListChange Called after the list has changed.
- * @property {(texts: string[]) => void} storeExpressions Saves the expressions as texts.
+ * @property {(texts: string[]) => void} storeExpressions Saves the expressions as strings.
  */
 
 export class WatchView {
@@ -33,7 +33,7 @@ export class WatchView {
     this.expressions = [];
     /** @type {Row[]} */
     this.rows = [];
-    // The field is not in a form. Firefox examines each text field of a form for a user name, which would delay the start of the page.
+    // The field is not in a form, because Firefox would search each text field of a form for a user name and delay the start of the page.
     field("watched-field").addEventListener("keydown", ({ key, isComposing }) => {
       if (key === "Enter" && !isComposing) this.add();
     });
@@ -100,7 +100,7 @@ export class WatchView {
   /**
    * @param {Row} row
    * @param {WatchExpression} expression
-   * @param {import("../../core/debug/word_values.js").Piece[]} pieces the expression's current value, as texts and editable values
+   * @param {import("../../core/debug/word_values.js").Piece[]} pieces the expression's current value: fixed text and editable values
    */
   showRow(row, expression, pieces) {
     const shape = pieces.map((piece) => (typeof piece === "string" ? piece : piece.place)).join("\n");

@@ -14,8 +14,8 @@ import { ProofsView } from "./proofs_view.js";
  * @typedef {import("../../core/prove/bounded_proof.js").PropertyVerdict} PropertyVerdict
  * @typedef {import("../../core/testing/test_preparation.js").ProjectTextError} ProjectTextError
  *
- * The proof of a session's properties: the texts, the maximum number of states that the prover may visit for each property, and the
- * progress.
+ * The proof of a session's properties: the texts that it used, the maximum number of states that the prover may visit for each property,
+ * and the progress.
  * @typedef {{ texts: ExploredTexts, maxStates: number, progress: Progress }} ProofResults
  *
  * The callbacks of Proofs.
@@ -27,8 +27,8 @@ import { ProofsView } from "./proofs_view.js";
  * @property {(line: number) => void} goTo Shows a line of the properties text. Lines count from 1.
  * @property {(message: string) => void} showMessage Shows a message next to the buttons.
  * @property {(errors: ProjectTextError[]) => void} showErrors Shows the errors that prevented the proof.
- * @property {(name: string, lines: string, texts: ExploredTexts, message: string) => Promise<void>} open Opens a new session with the
- *   texts, executes lines in it, and shows a message.
+ * @property {(name: string, lines: string, texts: ExploredTexts, message: string) => Promise<void>} open Opens a new session with `texts`,
+ *   executes lines in it, and shows a message.
  * @property {(test: string) => string} addTest Adds a test to the text in the Tests tab. Returns the message about the result.
  * @property {() => void} handleVerdictChange Called after the verdicts have changed; for example, updates the mark on the tab.
  * @property {(error: unknown) => void} reportFailure Reports an error that a call threw.
@@ -87,18 +87,18 @@ export class Proofs {
     this.show();
   }
 
-  /** Updates the verdicts after an edit. A verdict about other texts is hidden until the user restores these texts. */
+  /** Updates the verdicts after an edit. A verdict that no longer applies is hidden until the user restores the proved texts. */
   handleEdit() {
     if (this.currentResults) this.show();
   }
 
-  /** The verdicts about the current texts. */
+  /** The verdicts that apply to the current texts. */
   get currentVerdicts() {
     const { currentResults } = this;
     return currentResults ? currentResults.progress.verdicts.filter(this.currentVerdictFilter(currentResults)) : [];
   }
 
-  /** The short text that the tab shows about the current verdicts. */
+  /** The short mark that the tab shows for the current verdicts. */
   get mark() {
     return this.currentResults ? proofsTabMark(this.currentVerdicts) : "";
   }
@@ -109,7 +109,7 @@ export class Proofs {
   }
 
   /**
-   * Returns a function that returns true if a verdict is about the current texts.
+   * Returns a function that returns true if a verdict applies to the current texts.
    * @param {ProofResults} currentResults
    * @returns {(propertyVerdict: PropertyVerdict) => boolean}
    */

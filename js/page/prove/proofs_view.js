@@ -29,7 +29,7 @@ class VerdictRow {
     const { text, line, isGoal, verdict } = propertyVerdict;
     const mark = element("b", {});
     const statusText = element("span", { className: "time" });
-    // A common mistake has no line in the text, because all programs are checked for it.
+    // A common mistake has no line in the properties text, because all programs are checked for it.
     const name = line === 0 ? element("span", { className: "name" }, text)
       : makeButton(text, () => calls.goTo(propertyVerdict), { className: "name", title: lineReference(line) });
     this.node = element("li", {}, element("p", {}, mark, " ", name, " ", statusText));
@@ -57,7 +57,7 @@ class VerdictRow {
     ];
   }
 
-  /** @param {boolean} isCurrent true if the verdict is about the current texts */
+  /** @param {boolean} isCurrent true if the verdict applies to the current texts */
   show(isCurrent) {
     const { propertyVerdict } = this;
     this.mark.set(isCurrent ? markOf(propertyVerdict) : "");
@@ -90,7 +90,7 @@ export class ProofsView {
    * @param {Progress} progress
    * @param {number} maxStates the maximum number of states that the prover may visit for each property
    * @param {boolean} isRunning true if a proof is running
-   * @param {(propertyVerdict: PropertyVerdict) => boolean} isCurrent returns true if a verdict is about the current texts
+   * @param {(propertyVerdict: PropertyVerdict) => boolean} isCurrent returns true if a verdict applies to the current texts
    */
   show(progress, maxStates, isRunning, isCurrent) {
     const newRows = progress.verdicts.slice(this.rows.length).map((propertyVerdict) => new VerdictRow(propertyVerdict, this.calls));

@@ -33,8 +33,8 @@ export function forgetStory() {
 }
 
 /**
- * Parses the fragment of a URL. Ignores trailing spaces, which users sometimes copy together with a URL. `kind` is "" if the fragment has
- * another form.
+ * Parses the fragment of a URL. Ignores trailing spaces, which users sometimes copy together with a URL. `kind` is "" if the fragment is of
+ * no known kind.
  * @param {string} hash
  * @returns {{ kind: AddressKind | "", value: string }}
  */

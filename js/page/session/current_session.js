@@ -23,15 +23,14 @@ import * as say from "../../words/session.js";
 /**
  * The callbacks of CurrentSession.
  * @typedef {object} CurrentCalls
- * @property {(record: SessionRecord) => void} showSession Shows the texts and the settings of another session, which are in the session's
- *   record.
+ * @property {(record: SessionRecord) => void} showSession Shows another session: the texts and the settings in its record.
  * @property {(state: PageState) => void} show Shows the current state of the session.
  * @property {() => Promise<void>} checkSource Compares the source with ROM. Resolves when the page shows the program's names.
  * @property {() => void} checkTestsAndProperties Checks the tests and the properties of the session.
  * @property {() => void} run Resumes time in a session that the user left while time was running.
  * @property {(reason: string) => void} showPaused Shows that time is paused, and the reason.
  * @property {() => Promise<void>} stopTime Pauses time. Resolves when the worker has stopped the run.
- * @property {() => string} describeCounter Returns a text with the program counter, its name and its source line.
+ * @property {() => string} describeCounter Returns the program counter with its name and its source line, as text.
  * @property {() => void} handleSessionChange Called when the user changes the session.
  * @property {() => RunEntry[]} takeRuns Removes and returns the log entries of the runs since the last call.
  * @property {(runs: RunEntry[], saveError: string) => void} logRuns Logs runs. `saveError` is the reason why the session could not be
@@ -67,7 +66,7 @@ export class CurrentSession {
    * Replaces the session. If the new session is rejected, the current session stays.
    * @param {SessionRecord} record
    * @param {Release} release
-   * @param {string} example the example's name if the session is still unchanged, otherwise ""
+   * @param {string} example the example's name if the session is an unchanged example, otherwise ""
    */
   async replaceSession(record, release, example) {
     const { bench, store, calls } = this;
@@ -92,7 +91,7 @@ export class CurrentSession {
   }
 
   /**
-   * Shows the elements of the page. At the first session, they stay invisible until the page shows the program's names, because the names
+   * Shows the elements of the page. For the first session, they stay invisible until the page shows the program's names, because the names
    * change the layout.
    */
   async showElements() {

@@ -1,4 +1,4 @@
-// The dialog that exports a text of the session, or the contents of ROM, as a file.
+// The dialog that exports the board's text, the source or the contents of ROM as a file.
 
 import { element, onClick } from "../ui/dom.js";
 import { download } from "./download.js";

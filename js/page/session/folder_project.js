@@ -26,7 +26,8 @@ async function readBytes(file, limit) {
 }
 
 /**
- * Resolves to the text in the folder's file at `path`, or to "" if there is no such file. Rejects if the file is not a text of this kind.
+ * Resolves to the text in the folder's file at `path`, or to "" if there is no such file. Rejects if the file does not contain a text of
+ * this kind.
  * @param {Map<string, File>} files
  * @param {string} path
  * @param {"board" | "program" | "tests" | "properties"} kind

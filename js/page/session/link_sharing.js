@@ -25,7 +25,7 @@ import * as say from "../../words/session.js";
  * @property {() => Texts | null} currentTexts Returns the name and the texts of the current session, or null if there is none.
  * @property {() => void} showSessionAddress Puts the address of the current session into the address bar.
  * @property {(texts: Texts, file: Uint8Array, runs: boolean) => Promise<boolean>} openTexts Opens a new session from texts and a file. If
- *   `runs` is true, time is running in the session. Resolves to true if the session was created.
+ *   `runs` is true, time starts when the session is opened. Resolves to true if the session was created.
  * @property {() => void} save Saves the project as a file. Called if the link would be too long.
  */
 

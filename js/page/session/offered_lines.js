@@ -15,7 +15,7 @@ export class OfferedLines {
     this.lastOfferedText = "";
   }
 
-  /** @param {string} lines the lines to put into the input; "" for a session without lines */
+  /** @param {string} lines the lines to put into the input; "" if the new session has none */
   offer(lines) {
     const userText = this.textArea.value;
     const hasUserText = userText.trim() !== "" && userText !== this.lastOfferedText;

@@ -14,7 +14,7 @@ const HARMLESS_AFTER_MS = 1000;
  * Another tab may still be opening the session.
  */
 const RECENT_OPENING_MS = 2000;
-/** The window events for a user who leaves the page. Every browser sends at least one of them. */
+/** The window events that browsers send when the user leaves the page. Every browser sends at least one of them. */
 const LEAVE_EVENTS = ["beforeunload", "pagehide"];
 
 export class OpeningGuard {

@@ -15,7 +15,7 @@ import * as say from "../../words/session.js";
  * @property {(id: string) => boolean} isShown Returns true if a session is the current session.
  * @property {(id: string) => Promise<boolean>} open Opens a session. Resolves to false after a failure. The failure has already been
  *   reported.
- * @property {(id: string) => Promise<boolean>} copy Copies a session and opens the copy. Resolves to false if that fails.
+ * @property {(id: string) => Promise<boolean>} copy Copies a session and opens the copy. Resolves to false after a failure.
  * @property {(records: SessionRecord[]) => Promise<void>} remove Deletes sessions. Deleted sessions can be restored.
  * @property {() => SessionRecord[]} deletedSessions Returns the sessions that can be restored.
  * @property {(records: SessionRecord[]) => Promise<void>} restoreSessions Restores deleted sessions.

@@ -36,7 +36,7 @@ import * as say from "../../words/session.js";
  *   file into the editors.
  * @property {(name: string, bytes: Int16Array) => Promise<void>} loadImage Loads the bytes of a file into ROM; -1 leaves a byte unchanged.
  * @property {(record: SessionRecord, release: Release, example: string) => Promise<void>} useSession Makes a session the current session.
- *   `release` releases the session's lock. `example` is the example's name if the session is still unchanged, otherwise "".
+ *   `release` releases the session's lock. `example` is the example's name if the session is an unchanged example, otherwise "".
  */
 
 
@@ -164,7 +164,7 @@ export class SessionManager {
 
   /**
    * Opens a file. A project or a session file becomes a new session. Texts are loaded into the current session's editors, and an image into
-   * its ROM. If that fails, reports the reason and resolves to false.
+   * its ROM. If the file cannot be opened, reports the reason and resolves to false.
    * @param {File} file
    */
   async openFile(file) {
@@ -184,7 +184,7 @@ export class SessionManager {
   }
 
   /**
-   * Opens a project folder as a new session. If that fails, reports the reason and resolves to false.
+   * Opens a project folder as a new session. If the folder cannot be opened, reports the reason and resolves to false.
    * @param {() => Promise<import("./folder_files.js").Folder>} read reads the folder's files
    */
   async openFolder(read) {

@@ -32,7 +32,7 @@ import * as say from "../../words/session.js";
  *   file into the editors.
  * @property {(name: string, bytes: Int16Array) => Promise<void>} loadImage Loads the bytes of a file into ROM; -1 leaves a byte unchanged.
  * @property {(record: SessionRecord, release: Release, example: string) => Promise<void>} useSession Makes a session the current session.
- *   `release` releases the session's lock. `example` is the example's name if the session is still unchanged, otherwise "".
+ *   `release` releases the session's lock. `example` is the example's name if the session is an unchanged example, otherwise "".
  * @property {() => void} showLines Brings the console to the front, for an example that consists only of lines.
  * @property {(text: string) => Promise<void>} openLink Offers to open the texts in a link. `text` is the part of the address after
  *   `#link=`.
@@ -173,7 +173,7 @@ export class SessionsController {
   /**
    * Opens the first session of the page. It is the session or example that the address names, or the example whose story is requested.
    * Otherwise it is the last used session that is not open in another tab, or the first example. A link is opened after that.
-   * @param {string} story the name of the example whose story is requested; "" for none
+   * @param {string} story the name of the example whose story is requested, or "" if the address requests none
    */
   async openFirst(story) {
     const { hash } = location;

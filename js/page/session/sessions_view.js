@@ -29,12 +29,12 @@ import * as say from "../../words/session.js";
  * @property {(read: () => Promise<import("./folder_files.js").Folder>) => Promise<boolean>} openFolder Opens the project in the folder that
  *   `read` reads.
  * @property {(name: string) => void} rename Renames the current session.
- * @property {() => string} describeStorage Returns a text about where the browser stores sessions.
+ * @property {() => string} describeStorage Returns a description of where the browser stores sessions.
  */
 
 /**
- * Returns the examples in page order: first the example without any texts, with which the user can build a board, then the others in the
- * order of ORDER.
+ * Returns the examples in page order: first the empty example, with which the user can build a board, then the others in the order of
+ * ORDER.
  * @param {Example[]} examples
  */
 function orderExamples(examples) {

@@ -1,6 +1,6 @@
 // A link contains a session's name and texts after the `#` of an address, which browsers do not send to servers. The link begins with its
-// compression method: 1 for deflate, 0 for none. After a dot, the data follow in base64url. Decompressed, the data are a checksum and the
-// lines of a project file up to the bytes of the session.
+// compression method: 1 for deflate, 0 for none. After a dot, the data follow in base64url. After decompression, the data are a checksum
+// and the lines of a project file that precede the bytes of the session.
 
 import { fromBase64, toBase64 } from "../../core/session/base64.js";
 import { makeStream, readOutput } from "./byte_streams.js";

@@ -169,7 +169,7 @@ export class Store {
   }
 
   /**
-   * Returns a transaction. Calls `resolve` when the transaction is on the disk, or `reject` if the transaction is aborted.
+   * Returns a transaction that calls `resolve` when its changes are on the disk, or `reject` if it is aborted.
    * @param {() => void} resolve
    * @param {(error: Error) => void} reject
    */

@@ -19,7 +19,7 @@ import * as say from "../../words/session.js";
  * @property {() => Promise<string>} save Saves the session. Resolves to the reason why it could not be saved, or to "".
  * @property {() => void} handleEdit Handles an edit of a text.
  * @property {(boardText: string) => void} updateNames Updates the names that come from the board's text, which may have changed.
- * @property {() => Promise<string>} source Resolves to a source text that assembles to the contents of ROM. Rejects if the bench fails.
+ * @property {() => Promise<string>} source Resolves to source text that assembles to the contents of ROM. Rejects if the bench fails.
  * @property {(text: string) => Promise<boolean>} isProbablyNotProgram Resolves to true if every code line of a text has an error. Then the
  *   text is probably not a program.
  * @property {(shownName: TextName, lines: string) => void} handleLoadedTexts Handles texts that were loaded from a file. Shows the text
@@ -100,7 +100,7 @@ export class TextsController {
   }
 
   /**
-   * Loads a file's texts. Asks the user first if the file's kind was guessed and the source text is probably not a program.
+   * Loads a file's texts. If the file's kind was guessed and its source is probably not a program, asks the user first.
    * @param {string} name the name of the file
    * @param {import("../../core/session/opened_file.js").FileTexts} texts
    */
@@ -240,7 +240,8 @@ export class TextsController {
   }
 
   /**
-   * Restores texts. Another notice offers to undo this restoration. While another session is open, restores nothing and reports that.
+   * Restores texts. Another notice offers to undo this restoration. If another session is open, reports this to the user and restores
+   * nothing.
    * @param {OpenSession} session
    * @param {ReplacedText[]} replacedTexts
    * @param {string} message the text of the notice that offered to restore the texts

@@ -20,10 +20,10 @@ import * as say from "../../words/testing.js";
 /**
  * The callbacks of the Tests tab. The tab's text editor also uses the callbacks `labels`, `handleEdit` and `reportFailure`.
  * @typedef {object} TestsCalls
- * @property {() => { boardText: string, programText: string }} texts Returns the current texts of the board and the source.
+ * @property {() => { boardText: string, programText: string }} texts Returns the current text of the board and of the source.
  * @property {() => string[]} labels Returns the labels of the program in ROM.
- * @property {(texts: TestedTexts) => Promise<ProjectTextError[]>} findErrors Resolves to the errors of all texts.
- * @property {(texts: Texts) => Promise<string>} sample Resolves to a sample test for a board and a source.
+ * @property {(texts: TestedTexts) => Promise<ProjectTextError[]>} findErrors Resolves to the errors in all the texts.
+ * @property {(texts: Texts) => Promise<string>} sample Resolves to a sample test for a board and a program.
  * @property {(texts: TestedTexts) => Promise<Report>} run Runs the tests. Resolves to their results. Rejects with `CancelledError` if the
  *   user cancels the run.
  * @property {(number: number) => string} describeRefusal Returns the message for a numbered error of the bench.
@@ -31,7 +31,7 @@ import * as say from "../../words/testing.js";
  *   margin; null removes the counts.
  * @property {(address: number) => void} goTo Shows an address in the source and in the disassembly.
  * @property {(name: string, file: Uint8Array, texts: TestedTexts) => void} open Opens a new session from a file, with the tested texts.
- * @property {(label: string, isGood?: boolean) => void} showMark Shows a short text on the tab; "" removes it. If `isGood`, the text
+ * @property {(label: string, isGood?: boolean) => void} showMark Shows a short mark on the tab; "" removes it. If `isGood`, the mark
  *   reports a success.
  * @property {() => void} handleEdit Handles an edit of the tests.
  * @property {(error: unknown) => void} reportFailure Reports an error that a call threw.
@@ -75,12 +75,12 @@ export class TestsTab {
     return { ...this.calls.texts(), testText: this.editor.text };
   }
 
-  /** Checks the text. Called when a session has been opened, and when the tab is brought to the front. */
+  /** Checks the tests. Called when a session has been opened, and when the tab is brought to the front. */
   refresh() {
     this.textTab.refresh();
   }
 
-  /** @param {number} count the number of errors in the text */
+  /** @param {number} count the number of errors in the tests */
   showMark(count) {
     if (count > 0) this.calls.showMark(formatErrorCount(count));
     else if (!this.testedTexts) this.calls.showMark("");

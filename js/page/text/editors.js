@@ -1,4 +1,4 @@
-// The editors of the board's text and of the source. The editors check the texts while the user types, and send the texts to the bench.
+// The editors of the board's text and of the source. The editors check the texts while the user types, and send them to the bench.
 
 import { readBoard, parseRefusal } from "../../core/bench/answers.js";
 import { formatQuantity } from "../../core/bench/numbers.js";
@@ -35,8 +35,8 @@ import * as say from "../../words/text.js";
 /**
  * The callbacks of the two editors. Lines count from 1.
  * @typedef {object} EditorsCalls
- * @property {(edits: Edit[]) => void} handleEdits Handles an edit: the edits of the source, or an empty list for an edit of the board's
- *   text.
+ * @property {(edits: Edit[]) => void} handleEdits Handles an edit. `edits` has the edits of the source; it is empty after an edit of the
+ *   board's text.
  * @property {(wasReset: boolean) => Promise<void>} handleAssembly Handles a program that was loaded into ROM; `wasReset` is true if the
  *   processor was also reset. Resolves when each breakpoint has the address of its line.
  * @property {(lines: string) => Promise<string | null>} serveLines Sends lines to the bench. Resolves to the first answer, or to null after
@@ -226,7 +226,7 @@ export class Editors {
     await this.programErrors.checkNow();
   }
 
-  /** Replaces the board's text with the text of a first board, and applies it. */
+  /** Replaces the board's text with the text of the tour's board, and applies it. */
   async applyFirstBoard() {
     this.calls.replaceBoard(TOUR_BOARD, say.FIRST_BOARD);
     await this.applyBoard();

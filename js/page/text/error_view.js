@@ -1,4 +1,4 @@
-// The errors of a text. Each error has a mark in the margin of its line, an underlined range, and an entry in the list below the text.
+// The errors in a text. Each error has a mark in the margin of its line, an underlined range, and an entry in the list below the text.
 
 import { element, onClick } from "../ui/dom.js";
 import { makeUnderlineMark } from "./line_layers.js";
@@ -29,7 +29,7 @@ export class ErrorView {
 
   /**
    * @param {TextError[]} errors
-   * @param {string} footnote a text below the last error
+   * @param {string} footnote the text below the last error
    */
   show(errors, footnote = "") {
     if (errors.length === 0 && this.errors.length === 0) return;

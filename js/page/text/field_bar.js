@@ -1,4 +1,4 @@
-// A bar with one input field above a text, for example for a line number or a new name.
+// A bar with one input field above a text editor, for example for a line number or a new name.
 
 import { Cell, element, onClick } from "../ui/dom.js";
 import * as say from "../../words/text.js";

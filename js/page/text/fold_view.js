@@ -12,8 +12,8 @@ import * as say from "../../words/text.js";
  */
 
 /**
- * Returns the function through which folding.js reads a document. The function takes a line number from 0 and returns the line's text, or
- * undefined if there is no such line.
+ * Returns the function through which folding.js reads a document. The function takes a line number, counted from 0, and returns the line's
+ * text, or undefined if there is no such line.
  * @param {import("@codemirror/state").Text} doc
  * @returns {import("../../core/text/folding.js").LineAt}
  */

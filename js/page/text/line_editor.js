@@ -33,8 +33,8 @@ import { findDescendant } from "../ui/dom.js";
  * @typedef {object} EditorCalls
  * @property {(edits: Edit[]) => void} handleEdits Handles edits of the text, in the order in which they apply.
  * @property {() => void} handleCaretMove Handles a caret move.
- * @property {(line: number) => void} handleGutterClick Handles a click on a gutter at a line, from 0.
- * @property {(line: number, event: Event) => void} handleGutterMenu Handles a right click on a gutter at a line, from 0.
+ * @property {(line: number) => void} handleGutterClick Handles a click on a gutter. Lines count from 0.
+ * @property {(line: number, event: Event) => void} handleGutterMenu Handles a right click on a gutter. Lines count from 0.
  * @property {(size: number) => boolean} acceptsSize Returns true if the editor accepts a paste or a drop after which the text has `size`
  *   characters.
  * @property {(position: Position) => Completion} complete Returns the completions for the word at a position.
@@ -42,7 +42,7 @@ import { findDescendant } from "../ui/dom.js";
 
 const TAB_WIDTH = 8;
 const HISTORY_OPTIONS = { minDepth: 1000, newGroupDelay: 1250 };
-/** The user events that can insert a long text. They are rejected if the resulting text would be too long. */
+/** The user events that can insert long text. They are rejected if the resulting text would be too long. */
 const LONG_TEXT_EVENTS = ["input.paste", "input.drop"];
 
 insertRulesIntoSheet();
@@ -125,7 +125,7 @@ export class LineEditor {
   }
 
   /**
-   * Changes the state. Without a view, only the state changes.
+   * Applies a change to the view, or only to the state if there is no view yet.
    * @param {import("@codemirror/state").TransactionSpec} spec
    */
   dispatch(spec) {
@@ -213,7 +213,7 @@ export class LineEditor {
   }
 
   /**
-   * Returns false if a pasted or dropped text would make the text too long.
+   * Returns false if pasted or dropped text would make the editor's text too long.
    * @param {Transaction} transaction
    */
   acceptsTransaction(transaction) {
@@ -335,7 +335,7 @@ export class LineEditor {
   }
 
   /**
-   * Replaces the selection with a text and puts the caret after the text.
+   * Replaces the selection with text and puts the caret after it.
    * @param {string} text
    * @param {string} [eventName] the name of the user event; if present, the undo step can include text that the user typed before
    */
@@ -400,7 +400,7 @@ export class LineEditor {
   }
 
   /**
-   * Applies a style to lines in the gutters. The style "next" also applies to the texts of the lines.
+   * Applies a style to the gutters of lines. The style "next" also applies to the text of the lines.
    * @param {"next" | "lacking"} name
    * @param {number[]} lines line numbers from 0, in ascending order
    */
@@ -416,7 +416,7 @@ export class LineEditor {
     this.layers.errors.show(this, ranges);
   }
 
-  /** @param {import("@codemirror/state").Range<any>[]} ranges the texts after lines */
+  /** @param {import("@codemirror/state").Range<any>[]} ranges the text to show after lines */
   showValues(ranges) {
     this.layers.values.show(this, ranges);
   }

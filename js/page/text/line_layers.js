@@ -1,5 +1,5 @@
-// Layers of an editor: marks in the gutters, line styles, underlined ranges, and texts after lines. Their ranges move with the text when
-// the user edits it. New ranges in a layer replace its previous ranges.
+// Layers of an editor: marks in the gutters, line styles, underlined ranges, and text after lines. Their ranges move with the text when the
+// user edits it. New ranges in a layer replace its previous ranges.
 
 import { RangeSet, StateEffect, StateField } from "@codemirror/state";
 import { Decoration, EditorView, GutterMarker, WidgetType, gutter, gutterLineClass } from "@codemirror/view";
@@ -13,11 +13,11 @@ import * as say from "../../words/text.js";
  * @typedef {{ state: import("@codemirror/state").EditorState,
  *   dispatch: (spec: import("@codemirror/state").TransactionSpec) => void }} Target an editor, with or without a view
  *
- * A mark in a gutter: its line, from 0, its text, and its description.
+ * A mark in a gutter: its line (counted from 0), its text, and its description.
  * @typedef {{ line: number, text: string, description: string }} GutterMark
  */
 
-/** A gutter marker that shows a text. */
+/** A gutter marker that shows text. */
 class TextMark extends GutterMarker {
   /**
    * @param {string} name the name of the gutter
@@ -48,7 +48,7 @@ class GutterStyle extends GutterMarker {
   }
 }
 
-/** A text after a line. */
+/** Text that is shown after a line. */
 class TextAfterLine extends WidgetType {
   /**
    * @param {string} text
@@ -93,7 +93,7 @@ class ElementBelow extends WidgetType {
   }
 }
 
-/** A set of ranges over a text. */
+/** A set of ranges of the editor's text. */
 export class Layer {
   /**
    * @param {(field: StateField<Ranges>) => Extension} provide returns the extension through which the editor shows the ranges

@@ -1,5 +1,5 @@
-// Marks at the lines of a text: texts in the gutters, and the mark of the next instruction. Marks move with their lines while the text is
-// edited. Each call replaces the previous marks of the same kind.
+// Marks at the lines of a text editor: text in the gutters, and the mark of the next instruction. Marks move with their lines during edits.
+// Each call replaces the previous marks of the same kind.
 
 import { indices } from "../../core/bench/numbers.js";
 
@@ -23,9 +23,9 @@ export class LineMarks {
   }
 
   /**
-   * Shows texts in a gutter.
+   * Shows text in a gutter.
    * @param {string} gutter
-   * @param {(line: number) => string} getText returns the text at a line, from 1; "" for none
+   * @param {(line: number) => string} getText returns the text to show at a line (counted from 1), or ""
    * @param {(line: number) => string} [getDescription] returns the description of the text
    */
   showTexts(gutter, getText, getDescription = () => "") {
@@ -39,7 +39,7 @@ export class LineMarks {
 
   /**
    * Marks the line of the next instruction.
-   * @param {number} line the line number from 1; 0 for none
+   * @param {number} line the line number from 1, or 0 to mark no line
    */
   showNext(line) {
     this.editor.showLineStyle("next", line > 0 && line <= this.editor.lineCount() ? [line - 1] : []);

@@ -1,5 +1,4 @@
-// Grey texts after source lines. Each text shows the values that its line has changed. The texts are not part of the source, but they move
-// with their lines.
+// Grey text after a source line: the values that the line has changed. The text is not part of the source, but moves with its line.
 
 import { makeTextAfterLine } from "./line_layers.js";
 

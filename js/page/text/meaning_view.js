@@ -1,4 +1,4 @@
-// The description of the word at the pointer or the caret, below the text: its current values, in cells that can be edited, and its
+// The description, below the text, of the word at the pointer or the caret: its current values, in cells that can be edited, and its
 // meaning. A tooltip at the pointer also shows the values.
 
 import { element } from "../ui/dom.js";
@@ -16,7 +16,8 @@ import * as say from "../../words/text.js";
 const POINTER_DISTANCE = 16;
 
 /**
- * Returns a text that identifies the layout of a description without its values. Descriptions with the same layout reuse the same cells.
+ * Returns a string that identifies the layout of a description, regardless of the values in it. Descriptions with the same layout reuse the
+ * same cells.
  * @param {Piece[]} pieces
  */
 function layoutKeyOf(pieces) {

@@ -1,4 +1,4 @@
-// The appearance of the texts: the font size, and whether long lines wrap.
+// The appearance of the text in the editors: the font size, and whether long lines wrap.
 
 import { block, button, field, onClick } from "../ui/dom.js";
 

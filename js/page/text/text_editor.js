@@ -28,8 +28,8 @@ import * as say from "../../words/text.js";
  * @typedef {object} TextCalls
  * @property {(edits: Edit[]) => void} handleEdits Handles edits of the text, in the order in which they apply.
  * @property {() => void} handleCaretMove Handles a caret move.
- * @property {(line: number) => void} handleGutterClick Handles a click on a gutter at a line, from 1.
- * @property {(line: number, event: Event) => void} handleGutterMenu Handles a right click on a gutter at a line, from 1.
+ * @property {(line: number) => void} handleGutterClick Handles a click on a gutter. Lines count from 1.
+ * @property {(line: number, event: Event) => void} handleGutterMenu Handles a right click on a gutter. Lines count from 1.
  * @property {() => void} handleNameClick Handles a Ctrl+click on a name. The click has already moved the caret to the name.
  * @property {(size: number) => void} reportTooLong Reports that a text of `size` characters is too long and was rejected.
  * @property {(position: Position) => import("../../core/text/completion.js").Completion} complete Returns the completions for the word at a
@@ -51,7 +51,7 @@ export class TextEditor {
     this.top = 0;
     /** @type {number | null} the scroll position to restore once the text can be measured; null if there is none */
     this.pendingScrollTop = null;
-    /** The line to reveal once the text can be measured, from 1; 0 for none. */
+    /** The line, counted from 1, to reveal once the text can be measured; 0 if there is none. */
     this.pendingLine = 0;
     /**
      * True if the Tab key moves the focus out of the editor: after Escape, and after Tab has moved the focus into the editor.

@@ -50,7 +50,7 @@ import * as say from "../../words/text.js";
  * @typedef {object} EditorCalls
  * @property {(edits: Edit[]) => void} handleEdits Handles edits of the text, in the order in which they apply.
  * @property {() => void} send Sends the text to the bench.
- * @property {() => void} [prove] Proves the properties in the text. Missing for other texts.
+ * @property {() => void} [prove] Proves the properties in the text. Missing for texts of other kinds.
  * @property {(line: number) => void} toggleBreakpoint Sets or removes the breakpoint at a line.
  * @property {(line: number, fieldName: BreakpointField) => void} [editBreakpoint] Opens a field of the breakpoint at a line. Missing for
  *   texts without breakpoints.
@@ -301,7 +301,7 @@ export class EditorView {
 
   /**
    * Marks the line of the next instruction and scrolls it into view.
-   * @param {number} line the line number from 1; 0 for none
+   * @param {number} line the line number from 1, or 0 to mark no line
    */
   showNext(line) {
     this.marks.showNext(line);
@@ -319,7 +319,7 @@ export class EditorView {
     this.marks.showTexts("breakpoints", (line) => (marks.get(line) || noMark).mark, (line) => (marks.get(line) || noMark).description);
   }
 
-  /** @param {string[]} addresses the address of each line; "" for a line without an address */
+  /** @param {string[]} addresses the address of each line, or "" if the line has none */
   showAddresses(addresses) {
     this.marks.showTexts("addresses", (line) => addresses[line - 1] || "");
   }

@@ -79,7 +79,7 @@ export class TextTab {
     return { keys: face.test ? [...keys, face.test.name] : keys, lamps: [...face.lampNumbers.keys()], labels: this.calls.labels() };
   }
 
-  /** Inserts the first text. Does nothing if the editor has a text, or if the board has changed in the meantime. */
+  /** Inserts the first text. Does nothing if the editor is not empty, or if the board has changed in the meantime. */
   async insertFirstText() {
     const { boardText } = this.calls.texts();
     const text = await this.kind.firstText(this.names());

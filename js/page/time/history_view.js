@@ -29,7 +29,7 @@ const MAX_MESSAGE_LENGTH = 200;
  * Returns the names of locations to suggest for a board, such as lamps, ports and registers. The most useful names are first. The user
  * can also type other locations.
  * @param {Board} board
- * @param {string[]} lampNames the name of each lamp; "" for a lamp without a name
+ * @param {string[]} lampNames the name of each lamp, or "" if the lamp has none
  */
 export function suggestPlaces({ banks, roms, lamps, chains }, lampNames) {
   const rams = banks.flatMap(({ bank, chips }) => indices(chips).map((chip) => `ram${bank}.${chip}`));
@@ -84,7 +84,7 @@ export class HistoryView {
 
   /**
    * @param {Board} board
-   * @param {string[]} lampNames the name of each lamp; "" for a lamp without a name
+   * @param {string[]} lampNames the name of each lamp, or "" if the lamp has none
    */
   draw(board, lampNames) {
     const places = suggestPlaces(board, lampNames);

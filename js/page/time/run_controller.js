@@ -35,8 +35,8 @@ import * as say from "../../words/time.js";
  * @property {() => void} drawListing Updates the disassembly, which follows the program counter only at slow speeds.
  * @property {() => boolean} isSecondCyclePending Returns true if the second cycle of an instruction is pending.
  * @property {() => number} cycles Returns the total number of cycles in the session.
- * @property {() => string} describeCounter Returns a text with the program counter, its name and its source line.
- * @property {(id: number) => string} describeCondition Returns a text with the condition of a breakpoint, by its id.
+ * @property {() => string} describeCounter Returns the program counter with its name and its source line, as text.
+ * @property {(id: number) => string} describeCondition Returns a description of the condition of the breakpoint with this id.
  * @property {() => number} countInvalidBreakpoints Returns the number of breakpoints whose condition has an error. These breakpoints
  *   stop at every hit.
  * @property {(number: number) => string} describeRefusal Returns the message for a numbered error of the bench.
@@ -168,7 +168,7 @@ export class RunController {
 
   /**
    * @param {number} cycles
-   * @param {Key | null} key the key to press before the cycles; null for none
+   * @param {Key | null} key the key to press before the cycles, or null to press no key
    */
   async advance(cycles, key) {
     const removePending = key ? this.pendingKeys.send({ word: "press", key }) : () => {};
@@ -276,7 +276,7 @@ export class RunController {
     if (frame.changesKeys || document.hidden || performance.now() - currentSession.lastSaveTime >= SAVE_INTERVAL) currentSession.save();
   }
 
-  /** A text with the program counter, its name in the source, and its source line. */
+  /** The program counter with its name in the source and its source line, as text. */
   get counterText() {
     return this.calls.describeCounter();
   }

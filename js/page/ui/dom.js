@@ -128,7 +128,7 @@ export function onClick(node, action) {
 }
 
 /**
- * Returns a button with a text and an action.
+ * Returns a button that shows `text` and executes `action`.
  * @param {string} text
  * @param {() => void} action
  * @param {Record<string, unknown>} [properties]

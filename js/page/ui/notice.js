@@ -54,7 +54,7 @@ export class Notice {
     this.list = new NoticeList((message, action) => this.executeAction(message, action));
     /** @type {Row[]} the visible notices, newest first */
     this.rows = [];
-    /** @type {Map<NoticeKind, string>} the texts of dismissed notices about lasting errors */
+    /** @type {Map<NoticeKind, string>} the text of the dismissed notice about each lasting error */
     this.dismissedTexts = new Map();
     /** @type {HTMLElement | null} the element that had the focus before a notice received the focus */
     this.priorFocus = null;

@@ -1,5 +1,5 @@
-// The regions of a narrow window. A phone shows one region of the workbench at a time, and has tabs for the regions at the bottom. A window
-// that is too narrow for three columns shows the debugger's panels in a drawer.
+// The regions of a narrow window. A phone shows one region of the workbench at a time, and has tabs at the bottom to choose a region. A
+// window that is too narrow for three columns shows the debugger's panels in a drawer.
 
 import { Switch, block, button, onClick, pressedSwitch } from "./dom.js";
 

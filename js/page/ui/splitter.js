@@ -85,7 +85,7 @@ export class Splitter {
     this.show(0);
   }
 
-  /** @param {number} size the size in pixels; 0 for the initial size */
+  /** @param {number} size the size in pixels, or 0 to restore the initial size */
   show(size) {
     const { style } = document.documentElement;
     if (size > 0) style.setProperty(this.options.property, `${size}px`);

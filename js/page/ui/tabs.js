@@ -1,4 +1,4 @@
-// Tabs with the ARIA tabs pattern. The tab row is a single tab stop; arrow keys, Home and End move to another tab and show it.
+// Tabs that follow the ARIA tabs pattern. The tab row is a single tab stop; arrow keys, Home and End move to another tab and show it.
 
 import { block, button, onClick } from "./dom.js";
 
@@ -6,7 +6,7 @@ import { block, button, onClick } from "./dom.js";
 
 export class Tabs {
   /**
-   * Creates the tabs. The tab NAME is the element with the id `NAME-tab`. Its `aria-controls` attribute is the id of its panel.
+   * Sets up the tabs. The tab NAME is the element with the id `NAME-tab`. Its `aria-controls` attribute is the id of its panel.
    * @param {string[]} names
    * @param {string} initialName the name of the tab that is initially in front
    * @param {(name: string) => void} onChoice called after the user has chosen a tab

@@ -4,7 +4,7 @@
 
 import { element } from "./dom.js";
 
-/** @typedef {{ text: string, key: string }} Tip the contents of a tooltip: a text, and a key binding or "" */
+/** @typedef {{ text: string, key: string }} Tip the contents of a tooltip: its text, and a key binding, or "" if there is none */
 
 /** The time in milliseconds for which the pointer must rest before the tooltip opens. */
 const HOVER_DELAY_MS = 500;

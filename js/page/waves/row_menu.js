@@ -1,4 +1,4 @@
-// The context menus of wave rows. The menu of a line changes its name, group, position and colour. A group has its own menu.
+// The context menus of wave rows. The menu of a line changes its name, group, position and colour, or hides it. A group has its own menu.
 
 import { ContextMenu } from "../commands/menu_view.js";
 import { FieldBar } from "../text/field_bar.js";

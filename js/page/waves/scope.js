@@ -317,7 +317,8 @@ export class Scope {
   }
 
   /**
-   * The recording to save, or null if there is no recording or no row is visible. If no row of a recording is visible, shows a message.
+   * The recording to save, or null if there is no recording or no row is visible. If there is a recording but no visible row, shows a
+   * message.
    * @returns {Waves | null}
    */
   get wavesToSave() {

@@ -29,7 +29,7 @@ import { tickMoments } from "../../core/waves/wave_window.js";
  * @property {number} trigger The moment of the trigger, or -1 if there is none.
  * @property {RowRange | null} measuredRange The measured range at the pointer, or null if there is none.
  * @property {Colours} colours The colour of each element.
- * @property {string} font The font of all texts, as a CSS value.
+ * @property {string} font The font of all text, as a CSS value.
  */
 
 /** The height in pixels of the time axis. */
@@ -230,7 +230,7 @@ function drawLevels(context, { waves, view, gutter }, line, y) {
 }
 
 /**
- * Draws a line with text values, for example the program counter: a box for each value, with the value inside if it fits.
+ * Draws a line whose values are shown as text, for example the program counter: a box for each value, with the value inside if it fits.
  * @param {Context} context
  * @param {Picture} picture
  * @param {number} line

@@ -42,7 +42,7 @@ export class WaveChoice {
     return chosenValueNames(this.calls.boardLines(), this.selectedNames);
   }
 
-  /** @param {Waves} waves a new recording; lines that the user has selected stay selected, by name */
+  /** @param {Waves} waves a new recording; lines whose names the user has selected stay selected */
   setRecording(waves) {
     this.waves = waves;
     const isLineSelected = waves.lines.some(({ name, kind }) => kind !== "value" && this.selectedNames.has(name));

@@ -1,4 +1,4 @@
-// The table of values at the cursors, which is updated only while the table is open.
+// The table of values at the cursors. The table is updated only while it is open.
 
 import { Cell, block, byId, element } from "../ui/dom.js";
 

@@ -1,4 +1,4 @@
-// The view of the waves: the canvas, the cursors, and texts with the values at the cursors.
+// The view of the waves: the canvas, the cursors, and the values at the cursors as text.
 
 import { Cell, block, button, byId, field, onClick, pressedSwitch } from "../ui/dom.js";
 import { AXIS_HEIGHT, ROW_HEIGHT, drawWaves } from "./wave_canvas.js";
@@ -76,7 +76,7 @@ export class WaveView {
     this.view = new WaveWindow(0);
     /** True if a drawing has been requested for the next animation frame. */
     this.isDrawingRequested = false;
-    /** @type {NumberBase} the number base of values */
+    /** @type {NumberBase} the number base in which values are shown */
     this.base = "hex";
     /** The moment of the trigger, or -1 if there is none. */
     this.trigger = -1;
@@ -180,7 +180,7 @@ export class WaveView {
     this.changeView(() => this.view.showAround(moment));
   }
 
-  /** @param {NumberBase} base the number base of values */
+  /** @param {NumberBase} base the number base in which values are shown */
   setBase(base) {
     this.base = base;
     if (this.waves) this.waves.base = base;
@@ -304,7 +304,7 @@ export class WaveView {
   }
 
   /**
-   * Shows the measurement at the pointer in a text beside the pointer. Returns the range to underline, or null if there is no measurement.
+   * Shows the measurement at the pointer as text beside the pointer. Returns the range to underline, or null if there is no measurement.
    * @param {Waves} waves
    * @returns {import("./wave_canvas.js").RowRange | null}
    */

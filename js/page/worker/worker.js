@@ -21,7 +21,7 @@ const PROGRESS_INTERVAL = 100;
 const CHANGING_CALLS = new Set(["serve", "serveTyped", "runToGoal", "goBack", "goForward"]);
 
 /**
- * Returns true if a call presses a key and runs time. The user is then waiting for the lamps to react.
+ * Returns true if a call presses a key and runs cycles. The user is then waiting for the lamps to react.
  * @param {CallName} call
  * @param {any[]} callArguments
  */
