@@ -23,7 +23,7 @@ const NUMBER = "(?:0x[0-9A-Fa-f]+|[0-9]+)";
 const REGISTER = "(?:[Rr](?:1[0-5]|[0-9])|[Pp][0-7])";
 const STRING = "(?:\"(?:\\\\.|[^\"\\\\])*\"|'[^']*')";
 const KEY = "[A-Za-z0-9_-]+";
-/** Lookarounds that match after the last and before the first character of a word in an operand. */
+/** Lookarounds that match at the end and at the start of a word in an operand. */
 const WORD_END = "(?![A-Za-z0-9_])";
 const WORD_START = "(?<![A-Za-z0-9_])";
 

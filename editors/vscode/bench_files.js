@@ -7,7 +7,7 @@ const { dirname, join } = require("node:path");
 const PROJECT = "mcs4.toml";
 
 /**
- * Returns the nearest project folder, from the folder of a file upwards; "" if there is none.
+ * Returns the first project folder among the folder of a file and its parent folders; "" if there is none.
  * @param {string} file
  */
 function projectFolder(file) {

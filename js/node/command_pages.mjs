@@ -15,7 +15,7 @@ const ROFF_PLAIN = "\\fR";
 const ROFF_ESCAPES = { "\\": "\\e", "-": "\\-", "`": "\\(ga", "^": "\\(ha", "~": "\\(ti", "'": "\\(aq" };
 
 /**
- * Escapes a text for roff. Text between back quotes becomes bold.
+ * Escapes text for roff. Text between back quotes becomes bold.
  * @param {string} text
  */
 function escapeRoff(text) {

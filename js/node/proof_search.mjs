@@ -38,7 +38,7 @@ class ProofSession {
     process.on("SIGINT", interruptChildren);
   }
 
-  /** Reads the texts. Resolves to an object that proves or disproves their properties. Throws an error if one of the texts is rejected. */
+  /** Checks the texts. Resolves to an object that proves or disproves the properties. Throws an error if one of the texts is rejected. */
   async createJudge() {
     const engine = await startEngine();
     if (this.program === "") this.moduleProver = (await import("./module_prover.mjs")).makeModuleProver();
@@ -113,7 +113,7 @@ class ProofSession {
 }
 
 /**
- * Reads the texts and prepares the proof of their properties. Resolves to an object that proves or disproves one property at a time.
+ * Checks the texts. Resolves to an object that proves or disproves the properties one by one.
  * @param {Texts} texts
  * @param {Limits} limits
  * @returns {Promise<PropertyJudge>}
