@@ -1,5 +1,5 @@
 // Tests proofs that are limited to the inputs that a properties text allows: the limits in a question, and when the prover is asked again
-// with these limits. Also tests counterexamples that stay within the limits, and the texts about such proofs.
+// with these limits. Also tests counterexamples that stay within the limits, and the messages about such proofs.
 import assert from "node:assert/strict";
 import { test } from "node:test";
 import { Engine } from "../core/engine/engine.js";
@@ -115,7 +115,7 @@ class AnsweringEngine extends Engine {
   }
 }
 
-/** Resolves to the verdicts on the properties of a text and on mistakes, and to the questions about both. */
+/** Resolves to the verdicts on the properties in a text and on common mistakes, and to the questions about both. */
 async function prove(propertiesText, answer, { programText = PROGRAM, answerMistakes = () => "holds 9\n" } = {}) {
   const engine = new AnsweringEngine((question) => (question.kind === "mistake" ? answerMistakes : answer)(question));
   const texts = { boardText: BOARD, programText, testText: "", propertiesText };
