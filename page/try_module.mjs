@@ -49,8 +49,8 @@ function start(path) {
   return new WebAssembly.Instance(new WebAssembly.Module(readFileSync(path)), {}).exports;
 }
 
-// Allocates the buffers for calls (the file, the input, the answers and the report), and returns their addresses and sizes. The input is in
-// its buffer.
+// Allocates the buffers for calls (the file, the input, the answers and the report), and copies the input into its buffer. Returns their addresses
+// and sizes.
 function allocateBuffers(calls, input) {
   const size = calls.bench_file_size();
   const file = calls.bench_buffer(size);

@@ -26,7 +26,8 @@ function belongsToBench(file) {
 }
 
 /**
- * Returns the test files that a project's mcs4.toml lists, in their order. Does not check mcs4.toml for errors, because the bench does that.
+ * Returns the test files that a project's mcs4.toml lists, in the same order. Does not check mcs4.toml for errors, because the bench does
+ * that.
  * @param {string} folder
  */
 function listProjectTests(folder) {

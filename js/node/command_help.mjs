@@ -8,7 +8,7 @@ const WIDTH = 79;
 const INDENT = "  ";
 const DEEP_INDENT = INDENT.repeat(3);
 
-/** @type {Record<string, import("../words/commands.js").CommandWords>} the help texts of the commands, by command name */
+/** @type {Record<string, import("../words/commands.js").CommandWords>} the help of each command, by command name */
 export const HELP_TEXTS = say.COMMAND_WORDS;
 
 /** @type {(text: string, firstIndent?: string, otherIndent?: string) => string} wraps text; the first line begins with `firstIndent` */

@@ -131,7 +131,7 @@ async function setRandomState(random) {
   };
 }
 
-/** Returns the context in which the page parses conditions: the session with all names, including those in the watch list. */
+/** Returns the context in which the debug adapter evaluates conditions: the session with all names, including those in the watch list. */
 function createConditionContext() {
   Object.defineProperty(session, "names", { configurable: true, value: names });
   return { session, face: names.face, instructions: new Map(), frontPanelText: () => "" };

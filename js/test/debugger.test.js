@@ -326,7 +326,7 @@ test("breakpoints move with the lines of the text", () => {
   assert.deepEqual(linesAfterEdit([2, 3, 4, 5], { from: position(2), to: position(4), text: ["", ""].slice(1), removed: ["a", "b", ""] }),
     [2, 3]);
   assert.deepEqual(linesAfterEdit([3, 4, 5], { from: position(2, 3), to: position(3, 0), text: [""], removed: ["", ""] }), [3, 4]);
-  // Replace the whole text with a text that has one more line, before or after the first line.
+  // Replace the whole text. The new text has one more line, before or after the first line.
   const removed = ["a", "b", "c", "d"];
   assert.deepEqual(linesAfterEdit([2, 4], { from: position(0), to: position(3, 1), text: ["new", ...removed], removed }), [3, 5]);
   assert.deepEqual(linesAfterEdit([2, 4], { from: position(0), to: position(3, 1), text: ["a", "new", "b", "c", "d"], removed }), [3, 5]);

@@ -115,7 +115,7 @@ class AnsweringEngine extends Engine {
   }
 }
 
-/** Resolves to the verdicts on the properties in a text and on common mistakes, and to the questions about both. */
+/** Resolves to the verdicts on the properties in `propertiesText` and on common mistakes, and to the questions about both. */
 async function prove(propertiesText, answer, { programText = PROGRAM, answerMistakes = () => "holds 9\n" } = {}) {
   const engine = new AnsweringEngine((question) => (question.kind === "mistake" ? answerMistakes : answer)(question));
   const texts = { boardText: BOARD, programText, testText: "", propertiesText };

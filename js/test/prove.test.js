@@ -57,7 +57,7 @@ lit:    WMP
 const subject = createSubject(engine, BOARD, PROGRAM);
 const { board } = subject.names;
 
-/** For each kind of cell in a question, a function that returns the name of the cell's place in a list. */
+/** For each kind of cell in a question, a function that returns a list with the name of the cell's place. */
 const PLACE_BY_CELL = {
   register: (index) => [`r${index}`],
   character: (index) => [`ram.${Math.floor(index / 256)}.${index % 256}`],

@@ -1,4 +1,4 @@
-// The labels of the help and of stories, and the text of the tour with the first program (five steps).
+// Messages and labels of the help and of stories, and the text of the tour with the first program (five steps).
 
 // --- help/guide.js ---
 /** @type {(name: string) => string} */

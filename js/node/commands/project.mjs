@@ -14,7 +14,7 @@ import { isInside, checkOutputFile, readUserFile, statInput, writeNewFiles, writ
 
 const PROJECT_HEADER = "fethsaim project ";
 const SESSION_HEADER = "MCS4BEN1";
-/** The kinds of text files of which a folder can contain several. A project file can contain only one text of each kind. */
+/** The kinds of text files that can occur several times in a folder. A project file can contain only one text of each kind. */
 const LIST_KINDS = /** @type {const} */ (["tests", "properties"]);
 
 /**

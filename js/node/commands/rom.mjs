@@ -90,8 +90,8 @@ function printQueries(words) {
 }
 
 /**
- * Returns the contents of ROM, with the bytes of a range from the bench's answers, and NO_BYTE at all other addresses. A later answer
- * overrides an earlier answer. Throws a CommandError if an answer is a refusal or a byte is missing.
+ * Returns an image of ROM that contains the bytes of a range, from the bench's answers, and NO_BYTE at all other addresses. A later answer overrides
+ * an earlier answer. Throws a CommandError if an answer is a refusal or a byte is missing.
  * @param {string} answers
  * @param {{ first: number, count: number }} range
  */
