@@ -1,5 +1,5 @@
 // Checks a WebAssembly module of the bench that page/wasm has built: `node try_module.mjs MODULE SHORT`. SHORT is the same module with a stack that
-// is too short for any call. It checks properties that no compiler checks:
+// is too short for any call. The script checks properties that no compiler checks:
 // - MODULE has one memory, with 32-bit addresses and at most 256 MiB.
 // - If that memory cannot grow, calls answer `no 90` and leave the file unchanged. They work again when there is memory.
 // - The prover answers questions, including one with more states than fit into memory.

@@ -504,7 +504,7 @@ export class NativeEngine {
   }
 
   /**
-   * Returns a session at a state, and moves it to the front of the list. Starts a new session if there is none.
+   * Returns a session at a state, and moves it to the front of the list of sessions. Starts a new session if there is none.
    * @param {number} stateIndex
    */
   sessionAt(stateIndex) {

@@ -50,7 +50,7 @@ const NOT_WRITTEN_MESSAGE = "not all output was written; is the disk full?";
 
 /**
  * Throws an error if standard output is closed. Node cannot detect this, because it opens another file instead. The starter therefore sets the
- * variable `is_closed`.
+ * environment variable `is_closed`.
  */
 export function checkOutput() {
   if (process.env.is_closed) throw new CommandError("standard output is closed");

@@ -18,7 +18,7 @@ import { removeFolder, createTemporaryFolder } from "./temporary_folders.mjs";
  * @typedef {import("./input_texts.mjs").InputText} InputText
  * @typedef {{ board: InputText, program: InputText, properties: { name: string, text: string } }} Texts
  *
- * The limits of a search. `maxStates` is the maximum number of states, and `memory` the maximum memory for them in MB (0 for all memory).
+ * The limits of a search. `maxStates` is the maximum number of states, and `memory` the maximum memory for them in MB (0 means all memory).
  * @typedef {{ maxStates: number, memory: number }} Limits
  */
 

@@ -86,7 +86,7 @@ test("the limits on the inputs are lines of a question", () => {
     questionText({ board: "rom = []\n", program: "NOP" }, { ...neverQuestion([[]]), inputLimits }, limits).split("\n"));
   assert.deepEqual(linesOf(null).slice(0, 3), ["most 77", "pause 1000000", "wire"]);
   assert.deepEqual(linesOf({ keys: null, maxKeysDown: 2, words: [] }).slice(1, 4), ["pause 1000000", "together 2", "wire"]);
-  // TEST is 1 at power-on. A proof without the line `test` would be for TEST 0.
+  // TEST is 1 at power-on. A proof without the line `test` would be valid only for TEST 0.
   assert.deepEqual(linesOf({ keys: keysOf([1, 0], [0, 10]), maxKeysDown: null, words: [] }).slice(1, 7),
     ["pause 1000000", "only", "press 1 0", "press 0 10", "test", "wire"]);
   assert.deepEqual(linesOf({ keys: [], maxKeysDown: 1, words: [] }).slice(1, 6), ["pause 1000000", "together 1", "only", "test", "wire"]);

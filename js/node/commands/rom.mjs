@@ -18,7 +18,7 @@ const ACTION_FORMATS = { load: ["hex", "srec", "bnpf", "binary"], ask: [], save:
 const PARSERS = { hex: readHex, srec: readSRecords, bnpf: readBnpf };
 
 /**
- * Returns the image format that an option names, or null if there is no such option. Throws a UsageError for two formats, or for a format
+ * Returns the image format that an option names, or null if there is no such option. Throws a UsageError if options name two formats, or a format
  * that the action does not accept.
  * @param {string} action
  * @param {import("./table.mjs").Values} values
