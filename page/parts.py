@@ -1,7 +1,7 @@
 """Finds the third-party software that the page needs: esbuild bundles its modules, CodeMirror 6 is its editor, and pako decompresses its data
 in browsers without DecompressionStream.
 
-CodeMirror and pako are in page/codemirror, from Debian's packages of trixie. page/codemirror/fetch downloads them, and page/codemirror/SUMS
+CodeMirror and pako are in page/codemirror, from the packages of Debian trixie. page/codemirror/fetch downloads them, and page/codemirror/SUMS
 has the checksum of each file. The module looks for esbuild in page/from_npm, where `npm install --prefix page/from_npm esbuild@VERSION`
 puts it, and then in PATH. With another version of esbuild, or with a zlib that compresses differently, the page differs from the shipped
 one. A message then reports the difference, but the page is still built.

@@ -1,5 +1,5 @@
 // Checks a WebAssembly module of the bench that page/wasm has built: `node try_module.mjs MODULE SHORT`. SHORT is the same module with a stack that
-// is too short for any call. It checks properties that no compiler checks:
+// is too short for any call. The script checks properties that no compiler checks:
 // - MODULE has one memory, with 32-bit addresses and at most 256 MiB.
 // - If that memory cannot grow, calls answer `no 90` and leave the file unchanged. They work again when there is memory.
 // - The prover answers questions, including one with more states than fit into memory.
@@ -49,8 +49,8 @@ function start(path) {
   return new WebAssembly.Instance(new WebAssembly.Module(readFileSync(path)), {}).exports;
 }
 
-// Allocates the buffers for calls (the file, the input, the answers and the report), and returns their addresses and sizes. The input is in
-// its buffer.
+// Allocates the buffers for calls (the file, the input, the answers and the report), and copies the input into its buffer. Returns their addresses
+// and sizes.
 function allocateBuffers(calls, input) {
   const size = calls.bench_file_size();
   const file = calls.bench_buffer(size);

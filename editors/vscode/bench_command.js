@@ -19,7 +19,7 @@ class BenchCommand {
     this.hasSettingFailed = false;
   }
 
-  /** The program that the user setting names; "" for none. */
+  /** The program that the user setting names; "" if it names none. */
   get configuredCommand() {
     return this.hasSettingFailed ? "" : this.vscode.workspace.getConfiguration("mcs4").get("command") || "";
   }
@@ -42,8 +42,8 @@ class BenchCommand {
   }
 
   /**
-   * Runs a command to its end. Resolves to its output, its text on standard error, and its exit status. The status is null if the command
-   * did not start or a signal ended it.
+   * Runs a command until it ends. Resolves to its output, its standard error and its exit status. The status is null if the command did not
+   * start or a signal ended it.
    * @param {string[]} args the name of the command and its arguments
    * @param token the cancellation token
    */

@@ -7,7 +7,7 @@ const { dirname, join } = require("node:path");
 const PROJECT = "mcs4.toml";
 
 /**
- * Returns the nearest project folder, from the folder of a file upwards; "" if there is none.
+ * Returns the first project folder among the folder of a file and its parent folders; "" if there is none.
  * @param {string} file
  */
 function projectFolder(file) {
@@ -26,7 +26,8 @@ function belongsToBench(file) {
 }
 
 /**
- * Returns the test files that a project's mcs4.toml lists, in their order. Does not check mcs4.toml for errors, because the bench does that.
+ * Returns the test files that a project's mcs4.toml lists, in the same order. Does not check mcs4.toml for errors, because the bench does
+ * that.
  * @param {string} folder
  */
 function listProjectTests(folder) {

@@ -38,8 +38,8 @@ class BoardView {
   }
 
   /**
-   * Opens a panel. If no program is being debugged, starts to debug in real time: the project or the program of the active editor, or the
-   * first project of the workspace.
+   * Opens a panel. If no program is being debugged, starts debugging in real time. Debugs the project or the program of the active editor,
+   * otherwise the first project of the workspace.
    */
   async open() {
     const { window, debug, ViewColumn } = this.vscode;
@@ -65,7 +65,7 @@ class BoardView {
     return first ? { ...base, project: first.fsPath } : null;
   }
 
-  /** Handles a message of a web view: the view is ready, or the user has pressed or released a key or cleared the printout. */
+  /** Handles a message from a web view: the view is ready, or the user has pressed or released a key or cleared the printout. */
   async handleMessage(message, webview) {
     if (message.isReady) {
       webview.postMessage({ kind: "boardShown", update: this.boardState });
@@ -80,7 +80,7 @@ class BoardView {
     }
   }
 
-  /** Sends values of the board to all web views; null after the end of debugging. */
+  /** Sends values of the board to all web views, or null when debugging has ended. */
   post(update) {
     for (const webview of this.pages) webview.postMessage({ kind: "boardShown", update });
   }
@@ -97,7 +97,7 @@ class BoardView {
     }
   }
 
-  /** Sends to the web views the changes of the board that the debug session has reported. */
+  /** Handles a change of the board that the debug session reports: sends it to the web views. */
   handleEvent({ session, event, body }) {
     if (event !== "boardShown" || session !== this.session) return;
     this.boardState = { ...this.boardState, ...body };

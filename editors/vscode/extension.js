@@ -11,8 +11,8 @@ const { TestExplorer } = require("./test_explorer.js");
 const LANGUAGES = ["mcs4", "mcs4-board", "mcs4-test", "mcs4-props"];
 
 /**
- * Returns the debug configuration to use. If the user has no launch configuration and presses F5, this is a configuration for the program
- * in the active editor, if there is one.
+ * Returns the debug configuration to use. If the user presses F5 without a launch configuration, and the active editor contains a program,
+ * this is a configuration for that program.
  */
 function resolveConfiguration(folder, configuration) {
   if (configuration.type) return configuration;

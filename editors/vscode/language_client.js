@@ -93,7 +93,7 @@ class LanguageClient {
     for (const disposable of this.disposables) disposable.dispose();
   }
 
-  /** Adds received bytes, and handles the messages that are complete. */
+  /** Adds bytes to those received so far, and handles all complete messages. */
   receive(bytes) {
     this.receivedBytes = Buffer.concat([this.receivedBytes, bytes]);
     for (;;) {
@@ -142,14 +142,14 @@ class LanguageClient {
     });
   }
 
-  // --- texts
+  // --- documents
 
   /** Returns true if the server handles a document. */
   isServed(document) {
     return this.languages.includes(document.languageId) || /(^|[\\/])mcs4\.toml$/.test(document.fileName);
   }
 
-  /** Sends the server the documents that are opened, changed and closed. */
+  /** Notifies the server when documents are opened, changed or closed. */
   listenToDocuments() {
     const { workspace } = this.vscode;
     const serverIdOf = ({ languageId }) => SERVER_LANGUAGE_IDS[languageId] || languageId;

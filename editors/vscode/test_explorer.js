@@ -10,7 +10,7 @@ const TEST_FILE_PATTERN = "**/*.test";
 const TEST_HEADING = /^([ \t]*test[ \t]+)(\S.*?)[ \t]*$/;
 
 /**
- * Returns the tests in a text, with their locations.
+ * Returns the tests in the text of a test file, with their locations.
  * @param {string} text
  */
 function findTests(text) {

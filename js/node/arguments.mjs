@@ -74,8 +74,8 @@ export function requireProjectFiles(project, kind) {
 }
 
 /**
- * Resolves to the file names of the board, the program and the properties. In a project, `words` contains only the names of properties
- * files, or is empty for the file of the project.
+ * Resolves to the file names of the board, the program and the properties. In a project, `words` contains only the name of a properties file. If it
+ * is empty, uses the project's own properties file.
  * @param {string | undefined} folder
  * @param {string[]} words
  */

@@ -10,8 +10,8 @@ import { CommandError } from "./output.mjs";
 /** @typedef {import("./input_texts.mjs").InputText} InputText */
 
 /**
- * Reads a board and its front panel. Resolves to the board, the front panel, and the bench's answer lines to `board`. Rejects if one of them has
- * errors.
+ * Reads a board and its front panel. Resolves to the board, the front panel, and the lines of the bench's answer to `board`. Rejects if the board
+ * file has errors.
  * @param {import("../core/engine/engine_host.js").EngineHost} engine
  * @param {InputText} boardFile
  */

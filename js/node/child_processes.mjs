@@ -2,7 +2,7 @@
 // processes that a child has started.
 import { loadChildProcess } from "./lazy_child_process.mjs";
 
-/** The maximum length of each output stream of a child, in characters. A child that prints more to one of them is terminated. */
+/** The maximum length of each output stream of a child, in characters. A child that prints more to either stream is terminated. */
 const MAX_OUTPUT = 1048576;
 /**
  * The name of an environment variable that this module sets for children. If this variable is set, a command omits the messages that each user should
@@ -18,7 +18,7 @@ const HAS_GROUPS = process.platform !== "win32";
 const KILL_DELAYS = { command: 1000, tool: 10000 };
 
 /**
- * The end of a child: its exit status, or the signal that ended it. `error` is a message if the child could not start, otherwise "".
+ * How a child ended: its exit status, or the signal that ended it. `error` is a message if the child could not start, otherwise "".
  * @typedef {{ status: number | null, signal: NodeJS.Signals | null, error: string }} ChildEnd
  */
 
@@ -45,7 +45,7 @@ function sendSignal(pid, signal) {
 }
 
 /**
- * Tracks a child until it ends. Resolves to its end.
+ * Tracks a child until it ends. Resolves to how it ended.
  * @param {import("node:child_process").ChildProcess} child
  * @param {boolean} hasGroup true if the child has its own process group
  * @returns {Promise<ChildEnd>}
@@ -106,7 +106,7 @@ export function interruptChildren() {
   for (const [pid, { hasGroup }] of runningChildren) if (hasGroup) sendSignal(pid, "SIGINT");
 }
 
-/** Lets pending events run. Never resolves once the process is ending. */
+/** Lets the handlers of pending events run. Never resolves once the process is ending. */
 export function yieldToMessages() {
   return new Promise((resume) => {
     setImmediate(() => {

@@ -8,14 +8,14 @@ const WIDTH = 79;
 const INDENT = "  ";
 const DEEP_INDENT = INDENT.repeat(3);
 
-/** @type {Record<string, import("../words/commands.js").CommandWords>} the help texts of the commands, by command name */
+/** @type {Record<string, import("../words/commands.js").CommandWords>} the help of each command, by command name */
 export const HELP_TEXTS = say.COMMAND_WORDS;
 
-/** @type {(text: string, firstIndent?: string, otherIndent?: string) => string} wraps a text; `firstIndent` is the beginning of its first line */
+/** @type {(text: string, firstIndent?: string, otherIndent?: string) => string} wraps text; the first line begins with `firstIndent` */
 const foldText = (text, firstIndent = "", otherIndent = firstIndent) => wrapText(text, WIDTH, firstIndent, otherIndent);
 
 /**
- * Returns the paragraphs of a text, each joined into one line.
+ * Splits text into paragraphs, and joins the lines of each paragraph into one.
  * @param {string} text
  */
 export function splitParagraphs(text) {
@@ -54,7 +54,7 @@ export function listOptionRows(name) {
   return [...rows, ["-h, --help", say.HELP_OPTION]];
 }
 
-/** @type {(heading: string, rows: string[][]) => string} formats a list with a heading, and the description of each entry below the entry */
+/** @type {(heading: string, rows: string[][]) => string} formats a heading and a list of entries, each with its description below it */
 const formatList = (heading, rows) => (
   `${heading}\n${rows.map(([word, description]) => `${INDENT}${word}\n${foldText(description, DEEP_INDENT)}`).join("\n")}`);
 

@@ -1,4 +1,4 @@
-// Generates the help files that are installed with mcs4: `node command_pages.mjs FOLDER`. Writes help texts for systems without Node (help/), manual
+// Generates the help files that are installed with mcs4: `node command_pages.mjs FOLDER`. Writes the help for systems without Node (help/), manual
 // pages (man/) and shell completions (completions/) to the folder. tools/ship calls this script.
 import { mkdirSync, writeFileSync } from "node:fs";
 import { join } from "node:path";
@@ -15,7 +15,7 @@ const ROFF_PLAIN = "\\fR";
 const ROFF_ESCAPES = { "\\": "\\e", "-": "\\-", "`": "\\(ga", "^": "\\(ha", "~": "\\(ti", "'": "\\(aq" };
 
 /**
- * Escapes a text for roff. Text between back quotes becomes bold.
+ * Escapes text for roff. Text between back quotes becomes bold.
  * @param {string} text
  */
 function escapeRoff(text) {

@@ -71,7 +71,7 @@ class SessionFile {
 const toSlashes = (name) => (sep === "/" ? name : name.split(sep).join("/"));
 
 /**
- * Makes the renamed files of a folder durable.
+ * Makes the renaming of files in a folder durable.
  * @param {string} name
  */
 function syncFolder(name) {
@@ -93,7 +93,7 @@ async function openSessionFile(name) {
   }
 }
 
-/** @type {import("../core/adapter/session_launch.js").Host} the functions of the debugger's host; the type describes them */
+/** @type {import("../core/adapter/session_launch.js").Host} the debugger's host; the type describes each function */
 export const host = {
   nameOf: (name, folder) => {
     const path = isAbsolute(name) ? name : resolve(folder || ".", name);

@@ -56,8 +56,8 @@ function readStartTests({ from }, name) {
 }
 
 /**
- * Asks a model about key sequences. The model is a shell command that reads a line for each sequence and prints what the display must show.
- * Resolves to these texts, or to an error message if the command fails or prints a different number of lines.
+ * Asks a model what the display must show after each key sequence. The model is a shell command that reads one sequence per line and prints one line
+ * for each. Resolves to the printed lines, or to an error message if the command fails or prints a different number of lines.
  * @param {string} command
  * @param {string[]} keySequences
  * @returns {Promise<import("../core/explore/model.js").ModelOutput>}
@@ -85,7 +85,7 @@ class Exploration {
   }
 
   /**
-   * Reads the texts. Resolves to the subject of the search (the board and its program in the start state), the campaign, and all texts that
+   * Prepares the search. Resolves to the subject of the search (the board and its program in the start state), the campaign, and all texts that
    * determine the result. Throws an error if one of the texts is rejected.
    */
   async readTexts() {
@@ -111,7 +111,7 @@ class Exploration {
   }
 
   /**
-   * Resolves to true if `mcs4 test` confirms the test for a counterexample. Repeats the run once if Ctrl-C stopped it.
+   * Resolves to true if `mcs4 test` confirms a counterexample, given as a test. Repeats the run once if Ctrl-C stopped it.
    * @param {string} test
    * @param {boolean} isGoal
    */
@@ -203,7 +203,8 @@ function readReport(name) {
 }
 
 /**
- * Returns the combined report of several searches. Throws an error if the searches had different texts.
+ * Returns the combined report of several searches. Throws an error if the board, the program, the properties or the tests differ between the
+ * searches.
  * @param {string[]} names
  */
 export function mergeReports(names) {
@@ -215,7 +216,7 @@ export function mergeReports(names) {
 }
 
 /**
- * Loads the engine of a search. Ctrl-C then stops the search. Resolves to the search.
+ * Loads the engine for a search, and makes Ctrl-C stop the search. Resolves to the search.
  * @param {Settings} settings
  */
 async function startExploration(settings) {

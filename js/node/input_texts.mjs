@@ -1,4 +1,4 @@
-// Reads the texts that the arguments of a command name: files, pipes, or standard input (`-`).
+// Reads the files, the pipes and standard input (`-`) that the arguments of a command name.
 import { closeSync, openSync } from "node:fs";
 import { CommandError } from "./output.mjs";
 import { readStream, readUserFile, statInput } from "./user_files.mjs";
@@ -21,7 +21,7 @@ const UTF_16_ENCODINGS = { fffe: "utf-16le", feff: "utf-16be" };
  */
 
 /**
- * Decodes a text and removes its byte order mark. Recognises UTF-16 by its mark. Decodes bytes that are not valid UTF-8 as Latin 1.
+ * Decodes text and removes its byte order mark. Recognises UTF-16 by this mark. Decodes bytes that are not valid UTF-8 as Latin 1.
  * @param {Buffer} bytes
  * @returns {{ text: string, encoding: BufferEncoding }}
  */
@@ -97,7 +97,7 @@ export class InputTexts {
   }
 
   /**
-   * Returns the text of a tests file or properties file.
+   * Returns the text of a test file or a properties file.
    * @param {string} name
    */
   readSource(name) {
@@ -105,8 +105,8 @@ export class InputTexts {
   }
 
   /**
-   * Returns the text of a board (`wire`) or of a program (`asm`). If the file is a session script, returns the text after the first such
-   * command, otherwise the complete file. Throws an error if this file is too long.
+   * Returns the text of a board (`wire`) or of a program (`asm`). If the file is a session script, returns the text after its first `word` command.
+   * Otherwise, returns the complete file, or throws an error if the file is too long.
    * @param {string} name
    * @param {"wire" | "asm"} word
    * @returns {InputText}

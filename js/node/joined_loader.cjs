@@ -75,7 +75,7 @@ function findCacheFolder() {
 }
 
 /**
- * Returns the sizes and times of files as one text, and whether any of the files changed less than RECENT_CHANGE_TIME ago.
+ * Returns the sizes and times of files as a single string, and whether any of the files changed less than RECENT_CHANGE_TIME ago.
  * @param {string[]} names
  */
 function readFileStamps(names) {
@@ -108,7 +108,7 @@ function writeToCache(path, ...parts) {
 /**
  * Returns true if files have the given checksum. Does not compute the checksum if the sizes and times of the files are the same as at the
  * last successful check.
- * @param {string} folder the cache folder; "" for none
+ * @param {string} folder the cache folder; "" if there is none
  * @param {string} name the name of a command
  * @param {string[]} files
  * @param {string} checksum
@@ -131,7 +131,8 @@ function areUnchanged(folder, name, files, checksum) {
 const formatCodeHeader = (checksum, kind, length) => `${checksum} ${kind} ${length}\n`.padEnd(HEADER_LENGTH);
 
 /**
- * Returns the cached compiled code of the joined file with a checksum, and its kind. Returns undefined if there is none.
+ * Returns the cached code compiled from the joined file with the given checksum, and the kind of the run that stored the code. Returns undefined if
+ * there is no such code.
  * @param {string} path the path of the compiled code in the cache
  * @param {string} checksum
  * @returns {{ code: Uint8Array, kind: RunKind } | undefined}
@@ -184,8 +185,8 @@ function runJoinedFile(file, path, checksum) {
 
 /**
  * Returns the checksum of a joined file and its sources. Returns "" if the joined file was built from other sources, or if its list of
- * sources cannot be read. If the tree has no sources, does not compare them.
- * @param {string} folder the cache folder; "" for none
+ * sources cannot be read. Does not check the sources if the tree has none.
+ * @param {string} folder the cache folder; "" if there is none
  * @param {string} name the name of a command
  * @param {string} file
  */

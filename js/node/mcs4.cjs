@@ -21,7 +21,7 @@ async function runCommand(name, words) {
 const [, , name = "", ...words] = process.argv;
 const isNodeTooOld = Number(process.versions.node.split(".")[0]) < MIN_NODE_VERSION;
 if (isNodeTooOld && process.env.MCS4 && (name === "new" || name === "open")) {
-  // The native program can run without Node.
+  // The native program executes these commands without Node.
   const { spawnSync } = require("child_process");
   process.exitCode = spawnSync(process.env.MCS4, [name, ...words.slice(-1)], { stdio: "inherit" }).status;
 } else if (isNodeTooOld) {

@@ -29,7 +29,7 @@ function recordFirstUse() {
 
 /**
  * Starts the module. Returns the engine.
- * @param {string} message a message that says why the module is used; "" for no message
+ * @param {string} message a message that says why the module is used; "" to print none
  */
 export function startModule(message) {
   const engine = new Engine(new WebAssembly.Module(readPageModule()));

@@ -28,12 +28,12 @@ import { TOP } from "./top_folder.mjs";
  * session; -1 if unknown.
  * @typedef {{ parent: number, commands: string, copy: string, count: number }} StateNode
  *
- * An analysis of session lines. `commands` are the commands among them, including their texts, without the queries. `seqCount` is the
- * number of `seq` lines. `isComplete` is true if the last line and the last text are complete.
+ * An analysis of session lines. `commands` contains the commands among them and the texts of these commands; it does not contain queries. `seqCount`
+ * is the number of `seq` lines. `isComplete` is true if the last line and the last text are complete.
  * @typedef {{ commands: string, seqCount: number, isComplete: boolean }} LineAnalysis
  */
 
-/** The maximum number of processes, each at one state. */
+/** The maximum number of running processes. */
 const MAX_PROCESSES = 3;
 /** The maximum number of copies that the engine makes by itself, in addition to the copies that calls of `prepareForRuns` request. */
 const MAX_COPIES = 32;
@@ -59,7 +59,7 @@ export class ProgramError extends CommandError {}
  */
 function analyse(lines) {
   let [commands, seqCount] = ["", 0];
-  /** @type {{ isQuery: boolean } | null} the unfinished text; null outside of a text */
+  /** @type {{ isQuery: boolean } | null} the text that has not ended yet; null if there is none */
   let text = null;
   for (const rawLine of lines.replace(/\n$/, "").split("\n")) {
     const line = stripCarriageReturn(rawLine);
@@ -213,7 +213,7 @@ class Session {
     return Number(line.slice("session ".length));
   }
 
-  /** Returns the error for an executable whose output does not begin with an answer, so that it cannot be the native program. */
+  /** Returns the error for an executable that cannot be the native program, because its output does not begin with an answer. */
   makeNoAnswerError() {
     const { program, errorLines } = this.starter;
     const message = `${program} does not answer; set MCS4 to the path of the program if it is not the mcs4 at the top`;
@@ -240,7 +240,7 @@ class Session {
   }
 
   /**
-   * Sends lines to the program. Returns the answer lines. Sends a `seq` line after the lines, because its answer marks the end. If the
+   * Sends lines to the program. Returns the answer lines. Sends a `seq` line after the lines, because its answer marks the end of the answers. If the
    * lines themselves contain `seq`, counts the answers to `seq`.
    * @param {string} lines
    */
@@ -333,7 +333,7 @@ export class NativeEngine {
     this.states = [{ parent: -1, commands: "", copy: "", count: 0 }];
     /** @type {Session[]} the running sessions, most recently used first */
     this.sessions = [];
-    /** @type {number[]} the states with copies that the engine made by itself, oldest first */
+    /** @type {number[]} the states that the engine has copied by itself, oldest copy first */
     this.automaticCopies = [];
     this.fileCount = 0;
     /** @type {Map<string, LineAnalysis>} */
@@ -409,7 +409,7 @@ export class NativeEngine {
     return this.writeIndex(new Uint8Array(this.size), this.addState({ parent: -1, commands: "", copy, count: -1 }));
   }
 
-  /** A message that the folder for temporary files has no room for a session; "" if the folder has room. */
+  /** A message saying that the folder for temporary files has no room for a session; "" if the folder has room. */
   get roomError() {
     const { folder, root } = this.starter;
     const room = join(folder, "room");
@@ -504,7 +504,7 @@ export class NativeEngine {
   }
 
   /**
-   * Returns a session at a state, and moves it to the front of the list. Starts a new session if there is none.
+   * Returns a session at a state, and moves it to the front of the list of sessions. Starts a new session if there is none.
    * @param {number} stateIndex
    */
   sessionAt(stateIndex) {
@@ -515,7 +515,7 @@ export class NativeEngine {
   }
 
   /**
-   * Starts the program and brings it to a state.
+   * Starts a session and brings it to a state. Returns the session.
    * @param {number} stateIndex
    */
   startSession(stateIndex) {

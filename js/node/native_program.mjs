@@ -129,8 +129,8 @@ export function endOnSignals(endProcess = process.exit) {
 }
 
 /**
- * Returns a message that the folder for temporary files has no room for a session. Returns "" if the folder has room, or if no native engine was
- * started.
+ * Returns a message saying that the folder for temporary files has no room for a session. Returns "" if the folder has room, or if no native engine
+ * was started.
  */
 export function findRoomError() {
   return nativeEngine ? nativeEngine.roomError : "";

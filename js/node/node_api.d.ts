@@ -22,7 +22,7 @@ declare namespace NodeJS {
   interface Timeout { unref(): void }
   /** A system error. `code` is its name, such as ENOENT. */
   interface ErrnoException extends Error { code?: string }
-  /** A source of events. The type of "data" depends on the encoding of the stream, so it is not declared. */
+  /** A source of events. The type of the value for "data" depends on the encoding of the stream, so it is not declared. */
   interface EventEmitter {
     on(event: "error", listener: (error: ErrnoException) => void): this;
     on(event: "exit", listener: (status: number) => void): this;

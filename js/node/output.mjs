@@ -1,4 +1,4 @@
-// The output of the Node tools. A call returns only after it has written everything. Prints control characters in texts in the form `\x1B`.
+// The output of the Node tools. A call returns only after it has written everything. Control characters in text are printed in the form `\x1B`.
 import { fstatSync, writeSync } from "node:fs";
 import { escapeControls } from "../core/text/control_escapes.js";
 
@@ -50,7 +50,7 @@ const NOT_WRITTEN_MESSAGE = "not all output was written; is the disk full?";
 
 /**
  * Throws an error if standard output is closed. Node cannot detect this, because it opens another file instead. The starter therefore sets the
- * variable `is_closed`.
+ * environment variable `is_closed`.
  */
 export function checkOutput() {
   if (process.env.is_closed) throw new CommandError("standard output is closed");
@@ -85,7 +85,7 @@ export function exitOnOutputError(name) {
 }
 
 /**
- * Writes a text to standard output.
+ * Writes text to standard output.
  * @param {string} text
  */
 export function print(text) {
@@ -93,7 +93,7 @@ export function print(text) {
 }
 
 /**
- * Writes a text to standard error. Ignores errors.
+ * Writes text to standard error. Ignores errors.
  * @param {string} text
  */
 export function printError(text) {
@@ -105,7 +105,7 @@ export function printError(text) {
 }
 
 /**
- * Writes a text for other programs to standard output, byte for byte. Escapes control characters if standard output is a terminal.
+ * Writes text to standard output unchanged, so that other programs can read it. Escapes control characters if standard output is a terminal.
  * @param {string} text
  * @param {BufferEncoding} encoding
  */

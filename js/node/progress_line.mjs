@@ -39,7 +39,7 @@ export class ProgressLine {
     this.isShown = true;
   }
 
-  /** Clears the line before other output. */
+  /** Clears the line, so that other output can appear in its place. */
   clear() {
     if (this.isShown) process.stderr.write(CLEAR_SEQUENCE);
     this.isShown = false;

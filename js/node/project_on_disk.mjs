@@ -1,4 +1,4 @@
-// Reads a project folder on disk for the Node tools: its `mcs4.toml`, and the files that `mcs4.toml` names, which must exist.
+// Reads the `mcs4.toml` of a project folder on disk for the Node tools, and checks that the files that it names exist.
 import { existsSync, statSync } from "node:fs";
 import { join } from "node:path";
 import { ProjectError, readProject } from "../core/project/project_folder.js";

@@ -41,7 +41,7 @@ const belongsToUser = ({ uid }) => process.getuid !== undefined && uid === proce
 
 /**
  * Creates a missing folder and its missing parents. Throws an error if the innermost existing folder belongs to another user, so that root leaves no
- * files in other home folders.
+ * files in the home folders of other users.
  * @param {string} folder
  */
 function makeFolder(folder) {
@@ -53,7 +53,7 @@ function makeFolder(folder) {
 
 /**
  * Opens the history file, and creates it if it does not exist. Removes the access rights of other users. Returns the file descriptor.
- * Throws an error if it is not a regular file that belongs to the user.
+ * Throws an error if the file is not regular or does not belong to the user.
  * @param {string} name
  */
 function openFile(name) {
@@ -123,7 +123,7 @@ export class PromptHistory {
   /** @param {Record<string, string | undefined>} env */
   constructor(env) {
     this.name = findHistoryPath(env);
-    /** @type {string[]} the lines of the file when the prompt started, newest first */
+    /** @type {string[]} the lines that the file contained when the prompt started, newest first */
     this.lines = [];
     /** The last line that was added. */
     this.lastLine = "";

@@ -18,7 +18,7 @@ import { removeFolder, createTemporaryFolder } from "./temporary_folders.mjs";
  * @typedef {import("./input_texts.mjs").InputText} InputText
  * @typedef {{ board: InputText, program: InputText, properties: { name: string, text: string } }} Texts
  *
- * The limits of a search. `maxStates` is the maximum number of states, and `memory` the maximum memory for them in MB (0 for all memory).
+ * The limits of a search. `maxStates` is the maximum number of states, and `memory` the maximum memory for them in MB (0 means all memory).
  * @typedef {{ maxStates: number, memory: number }} Limits
  */
 
@@ -38,7 +38,7 @@ class ProofSession {
     process.on("SIGINT", interruptChildren);
   }
 
-  /** Reads the texts. Resolves to an object that proves or disproves their properties. Throws an error if one of the texts is rejected. */
+  /** Checks the texts. Resolves to an object that proves or disproves the properties. Throws an error if one of the texts is rejected. */
   async createJudge() {
     const engine = await startEngine();
     if (this.program === "") this.moduleProver = (await import("./module_prover.mjs")).makeModuleProver();
@@ -113,7 +113,7 @@ class ProofSession {
 }
 
 /**
- * Reads the texts and prepares the proof of their properties. Resolves to an object that proves or disproves one property at a time.
+ * Checks the texts. Resolves to an object that proves or disproves the properties one by one.
  * @param {Texts} texts
  * @param {Limits} limits
  * @returns {Promise<PropertyJudge>}

@@ -1,5 +1,5 @@
-// Creates the report of `mcs4 explain`. For each rejected line of a script, the report contains the reason and the line. If a text follows a rejected
-// command, the report contains the line of the text with the error instead, if this line is known.
+// Creates the report of `mcs4 explain`. For each rejected line of a script, the report contains the reason and the line. If the bench rejected a
+// command because of an error in the text after it, and the line of the error is known, the report contains that line instead.
 import { parseRefusal } from "../core/bench/answers.js";
 import { INVALID_CHARACTER, LINE_TOO_LONG, MAX_LINE_LENGTH, NOT_ASCII, opensText } from "../core/bench/inputs.js";
 import { parseNumber } from "../core/bench/numbers.js";
@@ -26,14 +26,14 @@ export class RejectedLines {
   /**
    * @param {import("../core/engine/engine_host.js").EngineHost} engine
    * @param {string[]} lines the script's lines
-   * @param {((address: number) => string) | null} describeAddress describes an address by its label and source line; null without a source
+   * @param {((address: number) => string) | null} describeAddress describes an address by its label and source line; null if there is no source
    */
   constructor(engine, lines, describeAddress) {
     this.engine = engine;
     this.lines = lines;
     this.describeAddress = describeAddress;
     /**
-     * The text of the current board; "" for none. The value is null if the text is unknown because the board was wired before the script.
+     * The text of the current board; "" if there is no board. The value is null if the text is unknown because the board was wired before the script.
      * @type {string | null}
      */
     this.boardText = null;

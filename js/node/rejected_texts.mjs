@@ -1,4 +1,4 @@
-// Composes messages about rejected texts for a terminal. A message contains the file name, the line number, the number and meaning of the
+// Composes the messages that commands print about rejected texts. A message contains the file name, the line number, the number and meaning of the
 // refusal, and the line itself.
 import { readFileSync } from "node:fs";
 import { readBoard } from "../core/bench/answers.js";
@@ -26,7 +26,7 @@ import { readPageData } from "./page_parts.mjs";
 
 /** The maximum number of errors in a message. */
 const MAX_ERRORS = 20;
-/** The maximum number of characters of a line in a message. */
+/** The maximum number of characters that a message shows of a line. */
 export const MAX_SHOWN_LENGTH = 120;
 /** The error number of the assembler for a line whose form it does not know. */
 export const UNKNOWN_FORM = 30;
@@ -41,7 +41,7 @@ let tables = null;
 /** @type {ReturnType<typeof readInstructions> | null} */
 let instructions = null;
 
-/** Returns the manual's tables about boards, and its instructions. */
+/** Returns the manual's tables about boards, and the instructions that it describes. */
 function readManual() {
   if (!tables || !instructions) {
     const { manual } = readPageData();
@@ -70,7 +70,7 @@ export function findSpellingHint(line) {
   return OTHER_SYNTAX.test(line.replace(/;.*/, "").toUpperCase()) ? "; mcs4 import takes programs in Intel's and AS's spelling" : "";
 }
 
-/** Composes the messages about rejected texts. Uses an engine to check the texts again, to find the details. */
+/** Composes the messages about rejected texts. Checks the texts again with an engine to find the details. */
 export class RejectedTexts {
   /**
    * @param {EngineHost} engine

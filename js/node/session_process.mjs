@@ -10,7 +10,7 @@ import { programEnded, sessionRejectedForReason } from "../words/commands.js";
 /** The number that shells add to the number of a signal to form an exit status. */
 const SIGNAL_STATUS_OFFSET = 128;
 
-/** The error of a program that has ended before it answered. */
+/** The error that is thrown if the program ends before it has answered. */
 export class ProgramEnded extends CommandError {}
 
 /** A running program that serves a session file. */

@@ -5,7 +5,7 @@ import { join } from "node:path";
 import { cannotMakeFolderMessage } from "../words/commands.js";
 import { CommandError } from "./output.mjs";
 
-/** @type {Set<string>} the existing folders */
+/** @type {Set<string>} the folders to remove when the process exits */
 const folders = new Set();
 
 process.on("exit", () => {

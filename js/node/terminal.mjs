@@ -9,8 +9,8 @@ export function isDumb({ TERM = "" }) {
 }
 
 /**
- * Returns a function that takes the code of a colour or style, and returns a function that applies this style to a text. If the terminal has no
- * colours, or if NO_COLOR is set, texts stay unchanged.
+ * Returns a function that takes the code of a colour or style, and returns a function that applies this colour or style to text. If the terminal has
+ * no colours, or if NO_COLOR is set, the text stays unchanged.
  * @param {Record<string, string | undefined>} env
  * @returns {(code: number) => (text: string) => string}
  */

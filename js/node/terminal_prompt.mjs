@@ -13,8 +13,8 @@ import { isDumb, makePainter } from "./terminal.mjs";
 
 /**
  * The receiver of typed lines. `label` is the text of the prompt. `isEnded` is true after a line that ends the prompt. `enterLine` executes a
- * line. `complete` resolves to the completions of a line, and to the end of the line that they replace. `interrupt` stops the line in
- * progress, and returns false if it cannot be stopped. `discardUnfinished` discards incomplete input, and returns a message about it.
+ * line. `complete` resolves to the completions of a line, and to the part of the line that they replace. `interrupt` stops the line in progress, and
+ * returns false if it cannot be stopped. `discardUnfinished` discards incomplete input, and returns a message about it.
  * @typedef {{ label: string, isEnded: boolean, enterLine: (line: string) => Promise<boolean>,
  *   complete: (line: string) => Promise<[string[], string]>, interrupt: () => boolean, discardUnfinished: () => string }} LinePrompt
  */
@@ -80,7 +80,7 @@ export class TerminalPrompt {
     this.hasEnded = false;
     /** True after the prompt has released the terminal. */
     this.hasReleasedTerminal = false;
-    /** The exit status for the signal that ended the prompt; 0 without a signal. */
+    /** The exit status for the signal that ended the prompt; 0 if no signal ended it. */
     this.status = 0;
     this.keys = new KeyStream();
     this.terminal = createInterface({
@@ -219,8 +219,7 @@ export class TerminalPrompt {
   // --- input ---
 
   /**
-   * Handles input from the terminal. If Ctrl-C arrives during the execution of a line, stops the line and discards the input before the
-   * key.
+   * Handles input from the terminal. If Ctrl-C arrives during the execution of a line, stops the line and discards the input before Ctrl-C.
    * @param {string} text
    */
   handleInput(text) {

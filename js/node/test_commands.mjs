@@ -25,8 +25,8 @@ import { CommandError, UsageError, print, printError } from "./output.mjs";
 const MAX_CYCLES = 100000000;
 
 /**
- * Resolves to the file names of the board, the program and the tests. In a project, `givenNames` contains only the names of tests, or is
- * empty for all tests of the project.
+ * Resolves to the file names of the board, the program and the tests. In a project, `givenNames` contains only the names of test files. If it is
+ * empty, the result contains all test files of the project.
  * @param {string | undefined} folder
  * @param {string[]} givenNames
  */

@@ -20,7 +20,7 @@ const WRITE_BITS = 0o222;
 const MODE_BITS = 0o7777;
 const OWNER_ONLY_MODE = 0o600;
 
-/** The error of a file that cannot be read or written. The message contains the file's name. */
+/** The error for a file that cannot be read or written. The message contains the file's name. */
 export class UserFileError extends CommandError {}
 
 /** The reason for a UserFileError, without the file's name. `withFileError` adds the name. */
@@ -105,7 +105,7 @@ function readRegular(file, maxBytes) {
 }
 
 /**
- * Reads a regular file up to a maximum size. Rejects a FIFO or a device immediately, without blocking.
+ * Reads a regular file. Throws an error if the file is too large. Rejects a FIFO or a device immediately, without blocking.
  * @param {string | URL} name
  * @param {number} maxBytes the maximum number of bytes
  */
@@ -223,7 +223,7 @@ function checkWritable(target, { mode }) {
 }
 
 /**
- * Gives a new file the owner and mode of its target. Throws a FileErrorReason if the user may not set this owner.
+ * Gives a new file the owner and mode of the file that it will replace. Throws a FileErrorReason if the user may not set this owner.
  * @param {number} file
  * @param {import("node:fs").Stats} oldStat
  */
@@ -310,8 +310,8 @@ function readBeginning(name, count) {
 }
 
 /**
- * Throws a UserFileError if a command must not overwrite a file. A command may overwrite an empty file or a file of its own kind, but none of its
- * inputs. New files, devices and pipes are accepted.
+ * Throws a UserFileError if a command must not overwrite a file. A command may overwrite an empty file or a file of the kind that it writes, but none
+ * of its inputs. New files, devices and pipes are accepted.
  * @param {string} name
  * @param {string} begin the text at the beginning of files of this kind
  * @param {string} reason the reason to reject a file of another kind
@@ -371,8 +371,8 @@ function replaceTargets(replacements) {
 }
 
 /**
- * Writes new files into a folder, either all of them or none. Creates the folder if it does not exist. Throws an error if one of the files
- * in `names` exists, or if a file cannot be written.
+ * Writes new files into a folder. If an error occurs, leaves none of them there. Creates the folder if it does not exist. Throws an error if one of
+ * the files in `names` exists, or if a file cannot be written.
  * @param {string} folder
  * @param {{ name: string, content: string | Uint8Array }[]} files
  * @param {string[]} names the names of files that must not exist in the folder

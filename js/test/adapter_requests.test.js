@@ -1,5 +1,5 @@
-// Tests the debug adapter's requests other than stops: attaching, cancelled requests, progress, number formats, memory, completion, stack
-// frames and targets.
+// Tests the debug adapter's requests except those about stops: attaching, cancelled requests, progress, number formats, memory, completion,
+// stack frames and targets.
 import assert from "node:assert/strict";
 import { test } from "node:test";
 import { frameMessage } from "../core/server/framing.js";
@@ -100,7 +100,7 @@ test("the progress of a long run and of a search of the past is reported, and ca
     const lastEvent = getProgressEvents().pop();
     assert.deepEqual([lastEvent.event, lastEvent.body], ["progressEnd", { progressId: body.progressId }]);
     const eventCount = getProgressEvents().length;
-    // The program has not changed r14 at any time in the recorded history.
+    // The search covers the whole recorded history, because the program never changes r14.
     await evaluate("back r14", "repl");
     await waitFor(() => getStops().length === 3);
     const [startEvent, ...laterEvents] = getProgressEvents().slice(eventCount);

@@ -1,5 +1,5 @@
-// Tests the debug adapter's stops other than breakpoints: changes of a register or memory cell, and common mistakes, each with and without
-// a condition.
+// Tests the debug adapter's stops other than those at breakpoints: changes of a register or memory cell, and common mistakes, each with and
+// without a condition.
 import assert from "node:assert/strict";
 import { test } from "node:test";
 import { FILES, LOCK, engine, startAdapter } from "./adapter_client.js";

@@ -35,7 +35,7 @@ function createManager(savedBreakpoints, breaks = []) {
   manager.updateFromBench(bench.breaks);
   return { manager, log, bench };
 }
-/** Returns a list with the edit that replaces one text with another. */
+/** Returns a list that contains the edit from `oldText` to `newText`. */
 function replacementEdit(oldText, newText) {
   const removed = oldText.split("\n");
   const to = { line: removed.length - 1, ch: removed[removed.length - 1].length };
@@ -233,12 +233,12 @@ for (const [length, otherText] of Object.entries(OTHER_PROGRAMS)) {
     manager.setSourceMap(MAP, "");
     manager.applyTextEdits(replacementEdit(TEXT, otherText));
     manager.setSourceMap(null, "assemble it");
-    // Load the other text into ROM. Its instructions are on other lines.
+    // Load the other program into ROM. Its instructions are on other lines.
     manager.setSourceMap(new SourceMap(["map lines 2 names 0", "line 1 000 0", "line 2 000 1"], OTHER_PROGRAMS.short), "");
     await manager.allSent;
     manager.applyTextEdits(replacementEdit(otherText, TEXT));
     assert.deepEqual(manager.list.savedBreakpoints, STORED_BREAKPOINTS);
-    // The result must be the same when the user's edits turn one text into the other.
+    // A breakpoint must also be restored if both texts end with a line feed.
     manager.removeAll();
     manager.toggleLine(1);
     manager.applyTextEdits(replacementEdit(TEXT, `${otherText}\n`));

@@ -127,7 +127,7 @@ test("each multiplexed digit shows the pattern that it has longest while it is l
     const { number, names } = new PerceivedText(face, 12).read(trace(...rows));
     return [number, names];
   };
-  // The first digit is a 4 with faint segments of the previous digit. The second is a 2 with its point. The third is never on.
+  // The first digit is a 4 with faint segments of the previous digit. The second is a 2 with its decimal point. The third is never on.
   const four = marks(".**..**", "*..", "*");
   const two = marks("**.**.**", ".*.", ".");
   const ghost = marks(".**..**", ".*.", "*");
@@ -161,8 +161,8 @@ test("the edges of a line are reported exactly, and its sound samples have the r
 });
 
 /**
- * Returns the perceived brightness of a board with one lamp, and the function `simulate`. It simulates `time` milliseconds, in which the
- * lamp is on for the fraction `litShare` of the time.
+ * Returns the perceived brightness of a board with one lamp, and the function `simulate`, which simulates `time` milliseconds. The lamp is
+ * on for the fraction `litShare` of this time.
  */
 function createLamp() {
   const brightness = new Brightness(new Face(""), 1);
@@ -239,7 +239,7 @@ test("digits that are shifted in appear at once when they are complete, and noth
   [[2, 0, "1"], [2, 1, "12"], [2, 2, "123"], [1, 0, "1234"], [1, 1, "12345"], [1, 2, "123456"]].forEach(([row, column, number], index) => {
     const key = matrixKey(row, column);
     const before = simulate(FRAME_CYCLES + 137 * index);
-    // First the cycles that are simulated early for a key press, then the cycles that are due.
+    // At the key press, some cycles are simulated early, as on the page. The loop below simulates whole frames.
     immediateCount += Number(simulate(2 * FRAME_CYCLES - 100 * index, key) === number);
     calls.release(key);
     const numbers = new Set();

@@ -7,8 +7,8 @@ import { CYCLES_PER_SECOND } from "../core/time/mcs4_time.js";
 import { SPEEDS, findSpeed } from "../core/time/speeds.js";
 
 /**
- * Returns a running clock at time 0, its calls that run the machine (`calls`), and all its reports (`log`). `setTime` sets the time.
- * `advanceTo` also delivers an animation frame.
+ * Returns a running clock at time 0, the calls with which it runs the machine (`calls`), and all its reports (`log`). `setTime` sets the
+ * time. `advanceTo` also delivers an animation frame.
  */
 function startClock(speed = "real") {
   let now = 0;

@@ -6,7 +6,7 @@ import { makeAssemblyColours } from "../page/text/assembly_colours.js";
 import { colourBoardLine } from "../page/text/board_colours.js";
 import { COLOURS } from "../core/text/test_colours.js";
 
-/** Returns the coloured ranges of a line with their style classes, in one text. */
+/** Returns the coloured ranges of a line with their style classes, as a single string. */
 function describeColours(line, colours) {
   return colours(line).map(({ from, to, style }) => `${line.slice(from, to)} ${style}`).join("|");
 }

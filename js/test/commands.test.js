@@ -1,4 +1,4 @@
-// Tests the table of mcs4's commands, its texts, and the parsing of arguments.
+// Tests the table of mcs4's commands, their help, and the parsing of arguments.
 
 import assert from "node:assert/strict";
 import { spawnSync } from "node:child_process";

@@ -32,7 +32,7 @@ function openSession(program) {
   return debug;
 }
 
-/** Returns the mistakes that are reported during some frames of a program, each with its source line. */
+/** Returns the mistakes that are reported while a program runs for `frames` frames, each with its source line. */
 function findMistakes(program, frames = 3, debug = openSession(program)) {
   const mistakes = Array.from({ length: frames }, () => debug.advance(1543).tally.mistakes).flat();
   return mistakes.map(({ address, message }) => `${debug.commonMistakes.map.lineOf(address)}: ${message}`);

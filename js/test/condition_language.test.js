@@ -1,5 +1,5 @@
-// Tests the language of conditions. A condition has the same meaning in every place that allows conditions. Old texts keep their meaning.
-// No text makes the parser throw or hang.
+// Tests the language of conditions. A condition has the same meaning in every place that allows conditions. Old conditions keep their
+// meaning. The parser neither throws an error nor hangs, whatever the text.
 import assert from "node:assert/strict";
 import { readFileSync, readdirSync } from "node:fs";
 import { before, test } from "node:test";
@@ -55,7 +55,7 @@ turn:   LD R5
         INC R5
         JUN turn
 `;
-/** A program in which each of the conditions becomes true and becomes false. */
+/** A program in which most of the conditions become true at some time. */
 const SEARCH_PROGRAM = `limit = 9
 start:  FIM P0, 0x12
         SRC P0
@@ -131,7 +131,7 @@ async function setRandomState(random) {
   };
 }
 
-/** Returns the context in which the page parses conditions: the session with all names, including those in the watch list. */
+/** Returns the context in which the debug adapter evaluates conditions: the session with all names, including those in the watch list. */
 function createConditionContext() {
   Object.defineProperty(session, "names", { configurable: true, value: names });
   return { session, face: names.face, instructions: new Map(), frontPanelText: () => "" };
@@ -217,7 +217,7 @@ for (const [use, evaluate] of Object.entries(USES)) {
         resultsByText.set(text, (resultsByText.get(text) || new Set()).add(result));
       }
     }
-    // Each condition was true in some state and false in another.
+    // Each condition must have been true in some state and false in another, except one that is rarely true.
     for (const [text, results] of resultsByText) if (text !== "lamps = 9") assert.equal(results.size, 2, text);
   });
 }
@@ -269,7 +269,7 @@ test("searches back and forward find the instructions at which a condition becam
       const rises = history
         .flatMap(({ state }, index) => (index > 0 && compute(state) && !compute(history[index - 1].state) ? [index] : []));
       const travel = await searchSession.goBack({ kind: "when", condition: text });
-      // The session is now at the instruction that makes the condition true.
+      // If the condition became true, the session is now at the instruction that last made it true.
       const expected = rises.length === 0 ? history[last] : history[rises[rises.length - 1] - 1];
       assert.deepEqual([travel.isDone, bench.count.total], [rises.length > 0, expected.total], `back ${text}: ${travel.message}`);
       if (rises.length > 0) assert.match(travel.message, /: this instruction makes .* true\.$/);
@@ -397,7 +397,7 @@ test("the conditions in the examples' tests have the same meaning elsewhere", ()
     for (const text of conditions) {
       const [testResult, result] = [compileTestCondition(text, exampleNames), compileCondition(text, exampleNames)];
       assert.equal(testResult.error, "", text);
-      // Forms that are valid only in the lines of a test are still rejected.
+      // Forms that are valid only in tests are rejected elsewhere.
       if (testResult.condition.needs.some((need) => need !== "test")) {
         assert.match(result.error, /^(the digits are multiplexed|printed text|no run changes)/, text);
         continue;

@@ -318,15 +318,15 @@ const position = (line, ch = 0) => ({ line, ch });
 test("breakpoints move with the lines of the text", () => {
   const edit = { from: position(3, 5), to: position(3, 5), text: ["x"], removed: [""] };
   assert.deepEqual(linesAfterEdit([2, 4, 6], edit), [2, 4, 6]);
-  // Insert a line break before line 4, at its beginning, in its middle, and at its end.
+  // Insert a line break in line 3, at the beginning of line 4, and in line 4.
   assert.deepEqual(linesAfterEdit([3, 4, 5], { from: position(2, 9), to: position(2, 9), text: ["", ""], removed: [""] }), [3, 5, 6]);
   assert.deepEqual(linesAfterEdit([3, 4, 5], { from: position(3), to: position(3), text: ["", ""], removed: [""] }), [3, 5, 6]);
   assert.deepEqual(linesAfterEdit([3, 4, 5], { from: position(3, 4), to: position(3, 4), text: ["", ""], removed: [""] }), [3, 4, 6]);
-  // First delete lines 3 and 4, with their line breaks. Then join line 4 to line 3.
+  // The first edit deletes lines 3 and 4 with their line breaks. The second edit, of another text, joins line 4 to line 3.
   assert.deepEqual(linesAfterEdit([2, 3, 4, 5], { from: position(2), to: position(4), text: ["", ""].slice(1), removed: ["a", "b", ""] }),
     [2, 3]);
   assert.deepEqual(linesAfterEdit([3, 4, 5], { from: position(2, 3), to: position(3, 0), text: [""], removed: ["", ""] }), [3, 4]);
-  // Replace the whole text with a text that has one more line at its beginning.
+  // Replace the whole text. The new text has one more line, before or after the first line.
   const removed = ["a", "b", "c", "d"];
   assert.deepEqual(linesAfterEdit([2, 4], { from: position(0), to: position(3, 1), text: ["new", ...removed], removed }), [3, 5]);
   assert.deepEqual(linesAfterEdit([2, 4], { from: position(0), to: position(3, 1), text: ["a", "new", "b", "c", "d"], removed }), [3, 5]);

@@ -212,7 +212,7 @@ for (const { name, text } of BOARDS) {
       const result = checkAction(name, text, { kind: "delete", part });
       const remainingComments = commentsOf(result.text);
       const lostComments = commentsOf(text).filter((comment) => !remainingComments.includes(comment));
-      // A comment in one of the part's lines is deleted with the part.
+      // A comment in one of the part's lines would be deleted with the part, but the examples have no such comments.
       if (examples.some((example) => example.name === name)) assert.deepEqual(lostComments, [], `${name}: ${part}`);
       checkOtherParts(board, new Face(text), result, part);
     }

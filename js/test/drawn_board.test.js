@@ -1,4 +1,5 @@
-// Tests the selection, the wire in progress and the resulting text of a drawn board, with the bench's module and a text that can be undone.
+// Tests the selection, the wire in progress and the resulting text of a drawn board, with the bench's module and a text whose changes can
+// be undone.
 import assert from "node:assert/strict";
 import { test } from "node:test";
 import { readBoard } from "../core/bench/answers.js";

@@ -479,7 +479,7 @@ test("the results of a search are described", () => {
 });
 
 test("a search ends when its time is up, it is stopped, or its worker dies; errors in texts are reported", async () => {
-  /** Returns an explorer whose bench gives these answers. */
+  /** Returns an explorer whose bench gives the answers in `answers`. */
   const createExplorer = (answers, endEvents = []) => new Explorer(() => ({
     start: async () => {},
     call: async (name) => answers[name](),

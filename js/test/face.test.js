@@ -66,7 +66,7 @@ test("only the first of many errors are reported", () => {
 });
 
 /**
- * Returns the marks of the lamps of digits. Each digit has four lamps, the highest bit first. With `width` 5, a fifth lamp is the decimal
+ * Returns the lamp marks for a row of digits. Each digit has four lamps, the highest bit first. With `width` 5, a fifth lamp is the decimal
  * point, which is lit only in the digit with the index `point`.
  */
 const lampsOf = (digits, width, point = -1) => digits.map((digit, index) => (

@@ -70,7 +70,7 @@ async function findCounterexample(text, program, seconds) {
   return run.counterexamples[0];
 }
 
-/** Resolves to true if a program test fails on a program. */
+/** Resolves to true if a test fails when it runs a program. */
 async function testFails(text, program) {
   const { errors, outcomes } = await runTests(engine, { boardText: BOARD, programText: program, testText: text }, async () => true);
   assert.deepEqual(errors, []);
@@ -200,7 +200,7 @@ function instantsOf({ c, g, events }, guards) {
   return instants;
 }
 
-/** For each form of property, a function that returns the first time at which it is violated as the manual defines it, or -1. */
+/** For each form of property, a function that returns the first time at which the property is violated according to the manual, or -1. */
 const VIOLATION_FINDERS = {
   never: (instants) => (instants.find(({ c, isOpen }) => isOpen && c) || { time: -1 }).time,
   always: (instants) => (instants.find(({ c, isOpen, isReset }) => isOpen && !isReset && !c) || { time: -1 }).time,

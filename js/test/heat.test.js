@@ -36,8 +36,8 @@ turn:   SRC P0
         WR2
         JUN turn
 `;
-// The expected values are calculated. 7 cycles precede the first SRC, and an iteration takes 8 cycles. In each iteration, the first WRM, at
-// 009, changes ram.0.0x12. The second WRM writes the same value. WR2 writes to a chip that the board lacks.
+// The expected values are calculated from the program's timing. 7 cycles precede the first SRC, and an iteration takes 8 cycles. In each
+// iteration, the first WRM, at 009, changes ram.0.0x12. The second WRM writes the same value. WR2 writes to a chip that the board lacks.
 const SETUP_CYCLES = 7;
 const LOOP_CYCLES = 8;
 const ALL_QUERIES = "seq\nstate\nram 0\nram 2\n";

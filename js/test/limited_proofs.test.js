@@ -1,5 +1,5 @@
 // Tests proofs that are limited to the inputs that a properties text allows: the limits in a question, and when the prover is asked again
-// with these limits. Also tests counterexamples that stay within the limits, and the texts about such proofs.
+// with these limits. Also tests counterexamples that stay within the limits, and the messages about such proofs.
 import assert from "node:assert/strict";
 import { test } from "node:test";
 import { Engine } from "../core/engine/engine.js";
@@ -86,7 +86,7 @@ test("the limits on the inputs are lines of a question", () => {
     questionText({ board: "rom = []\n", program: "NOP" }, { ...neverQuestion([[]]), inputLimits }, limits).split("\n"));
   assert.deepEqual(linesOf(null).slice(0, 3), ["most 77", "pause 1000000", "wire"]);
   assert.deepEqual(linesOf({ keys: null, maxKeysDown: 2, words: [] }).slice(1, 4), ["pause 1000000", "together 2", "wire"]);
-  // TEST is 1 at power-on. A proof without the line `test` would be for TEST 0.
+  // TEST is 1 at power-on. A proof without the line `test` would be valid only for TEST 0.
   assert.deepEqual(linesOf({ keys: keysOf([1, 0], [0, 10]), maxKeysDown: null, words: [] }).slice(1, 7),
     ["pause 1000000", "only", "press 1 0", "press 0 10", "test", "wire"]);
   assert.deepEqual(linesOf({ keys: [], maxKeysDown: 1, words: [] }).slice(1, 6), ["pause 1000000", "together 1", "only", "test", "wire"]);
@@ -115,7 +115,7 @@ class AnsweringEngine extends Engine {
   }
 }
 
-/** Resolves to the verdicts on the properties of a text and on mistakes, and to the questions about both. */
+/** Resolves to the verdicts on the properties in `propertiesText` and on common mistakes, and to the questions about both. */
 async function prove(propertiesText, answer, { programText = PROGRAM, answerMistakes = () => "holds 9\n" } = {}) {
   const engine = new AnsweringEngine((question) => (question.kind === "mistake" ? answerMistakes : answer)(question));
   const texts = { boardText: BOARD, programText, testText: "", propertiesText };

@@ -167,7 +167,7 @@ test("with key presses, a goal stops the run at the cycle in which it is reached
   for (let frame = 0; !frameResult.stop && frame < 100; frame++) frameResult = calls.advance(1543);
   assert.deepEqual([frameResult.stop.reason, frameResult.stop.cycles], ["goal", calls.bench.session.count.total - startTotal]);
   assert.notEqual(calls.ask("lamps\n")[0], lampsBefore);
-  // One cycle before the change, the lamps were unchanged.
+  // One cycle before the change, the lamps are still unchanged.
   const secondCalls = await openExample("calculator");
   secondCalls.advance(100000);
   secondCalls.press(matrixKey(2, 1));

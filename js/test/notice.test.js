@@ -3,7 +3,7 @@ import assert from "node:assert/strict";
 import { test } from "node:test";
 import { findNoticesToRemove } from "../page/ui/notice.js";
 
-/** Returns the kinds of the notices that are removed from a list of notices, given by their kinds, newest first. */
+/** Returns the kinds of the notices that are removed from a list. `kinds` has the kinds of all notices in the list, newest first. */
 const kindsToRemove = (...kinds) => findNoticesToRemove(kinds.map((kind) => ({ kind }))).map(({ kind }) => kind);
 
 test("the newest three notices are shown", () => {

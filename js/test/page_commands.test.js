@@ -1,4 +1,4 @@
-// Tests the table of the page's commands, its search in the palette, and its keys.
+// Tests the table of the page's commands, the search for commands in the palette, and the keys of commands.
 import assert from "node:assert/strict";
 import { readFileSync } from "node:fs";
 import { test } from "node:test";

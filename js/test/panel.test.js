@@ -36,8 +36,8 @@ rom = [{ chip = 0, port = "00ii" }]\nram = [{ bank = 2, chips = 1 }]\nlamp = [{ 
 };
 
 /**
- * Resolves to a panel for a session with these texts. `ask` executes lines in its session, `typeKeys` types characters, and `text` returns
- * the text of the screen's rows.
+ * Resolves to a panel for a session with the given board and program. `ask` executes lines in its session, `typeKeys` types characters, and
+ * `text` returns the text of the screen's rows.
  */
 async function openPanel({ board, program }, { lines = "", isPaused = false, hasSource = false } = {}) {
   const state = engine.begin();

@@ -33,7 +33,7 @@ function recordReport(tape, report) {
   return Object.assign(tape, { lastReport: report });
 }
 
-/** Presses the keys whose names are separated by blanks, while time is running or with console lines. */
+/** Presses keys one after another, while time is running or with console lines. `names` contains the keys' names, separated by blanks. */
 async function pressKeys(tape, names, usesLines = false) {
   for (const name of names.split(" ")) {
     if (usesLines) {

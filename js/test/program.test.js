@@ -1,4 +1,4 @@
-// Tests the page's help for programs: the words of a line, errors, completion, help, and the texts that load only a program into ROM.
+// Tests the page's support for programs: the words of a line, errors, completion, help, and the `asm` texts that load a program into ROM.
 import assert from "node:assert/strict";
 import { readFileSync } from "node:fs";
 import { test } from "node:test";
@@ -13,7 +13,7 @@ import { explainProgramLine } from "../core/text/program_words.js";
 import { MAX_SENT_LENGTH, findSendingErrors, sentText } from "../core/text/sendable_text.js";
 import { helpForProgram } from "../core/text/text_help.js";
 
-// The manual's tables, as page/build reads them.
+// The manual's table of instructions, as page/build reads it.
 const manual = readFileSync(new URL("../../docs/MANUAL.md", import.meta.url), "utf8");
 const rows = manual.split("### The 45 instructions")[1].split("### What SRC")[0].split("\n").filter((line) => /^\| `[A-Z]/.test(line))
   .map((line) => line.slice(1, -1).split("|").map((cell) => cell.trim()));

@@ -18,7 +18,7 @@ const BOARD = readExample("three_lamps/board.toml");
 const PROGRAM = readExample("three_lamps/three_lamps.asm");
 const LOCK = { board: readExample("lock/board.toml"), program: readExample("lock/lock.asm") };
 
-/** Resolves to a prompt with files, and to a function that returns its output and errors since the last call. */
+/** Resolves to a prompt with files, and to the function `ask`, which enters lines and returns the prompt's output and errors. */
 async function createPrompt({ board, program } = { board: BOARD, program: PROGRAM }, isInteractive = false, files = {}) {
   let printed = [];
   const session = new DebugSession(engine, { board, program });

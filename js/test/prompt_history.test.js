@@ -49,7 +49,7 @@ test("without a usable state folder there is no history", () => withFolder((fold
   const history = new PromptHistory({ HOME: folder });
   history.add("seq");
   assert.ok(existsSync(join(folder, ".local/state/mcs4/history")));
-  // A device or a folder is where the history file should be.
+  // The path of the history file leads to a device or a folder.
   for (const target of ["/dev/null", folder]) {
     rmSync(join(folder, ".local/state/mcs4/history"));
     symlinkSync(target, join(folder, ".local/state/mcs4/history"));

@@ -1,4 +1,5 @@
-// Tests proofs on the page: the increasing bound, combined questions, verdicts that remain valid, the worker, and the texts about them.
+// Tests proofs on the page: the increasing bound, combined questions, verdicts that remain valid, the worker, and the messages about
+// proofs.
 import assert from "node:assert/strict";
 import { test } from "node:test";
 import { Bench } from "../core/bench/bench_client.js";
@@ -22,7 +23,7 @@ const texts = {
 /** The prover's answer for a run that turns the lamp on. The 0 is the value of TEST at the only read. */
 const LAMP_ON_ANSWER = "may fail 0\n";
 
-/** The prover's answer to a question about common mistakes, unless a test gives another one. */
+/** The prover's answer to a question about common mistakes, unless a test gives another answer. */
 const NO_MISTAKE_ANSWER = "holds 9\n";
 
 /**

@@ -57,7 +57,7 @@ lit:    WMP
 const subject = createSubject(engine, BOARD, PROGRAM);
 const { board } = subject.names;
 
-/** For each kind of cell in a question, a function that reads its value from the bench's answers. */
+/** For each kind of cell in a question, a function that returns a list with the name of the cell's place. */
 const PLACE_BY_CELL = {
   register: (index) => [`r${index}`],
   character: (index) => [`ram.${Math.floor(index / 256)}.${index % 256}`],
@@ -169,7 +169,7 @@ test("a property with a time becomes a question about a stopwatch with the same 
   assert.deepEqual(stopwatchOf("every 20 @look"), { startCondition: [AT_ADDRESS_0, AT_LOOK], endCondition: [AT_LOOK], maxCycles: 20 });
   assert.deepEqual(stopwatchOf("@look to @lit within 7"), { startCondition: [AT_LOOK], endCondition: [AT_LIT], maxCycles: 7 });
   assert.deepEqual(stopwatchOf("@look to @look within 7"), { startCondition: [AT_LOOK], endCondition: [AT_LOOK], maxCycles: 7 });
-  // A guard is part of the condition.
+  // A guard with `while` is part of the condition.
   const { startCondition, endCondition } = stopwatchOf("while r5 = 2, never lamp on on for 93");
   assert.deepEqual(startCondition, [["in register 5 whole 2 2", "in ramport 0 line0 1 1"]]);
   assert.equal(endCondition.length, 3);
@@ -209,7 +209,7 @@ test("key presses that the prover cannot count are rejected with a reason", () =
   const questionWithPresses = (count) => questionOf(`lamp on on only after ${Array(count).fill("press A").join(", ")}`);
   assert.equal(questionWithPresses(MAX_PRESSES).question.presses.keys.length, 100);
   assert.match(questionWithPresses(MAX_PRESSES + 1).reason, /^it names more than 100 presses/);
-  // A one-cycle instruction at `same` is followed by another instruction that begins at `same`.
+  // JIN and BBL can jump from `same` to `same` in one cycle. The prover would not detect that the label is reached again.
   for (const [code, isAllowed] of [["JIN P0", false], ["BBL 0", false], ["FIN P0", true], ["JUN same", true]]) {
     const jumpSubject = createSubject(engine, BOARD, `        FIM P0, 2\nsame:   ${code}\n        NOP\n`);
     assert.equal(questionOf("@same only after press A", jumpSubject).question !== null, isAllowed, code);
@@ -346,7 +346,7 @@ test("a press that is too late, or missing, becomes a failing test", async () =>
   const { found } = await findCounterexample("press A B\nlamp on on only after press B", LAMP_ON_VALUES);
   assert.ok(found.isAllowed && await doesTestFail(found));
   assert.match(found.text, /^test lamp on on only after press B\n {2}run \d+\n {2}press A\n {2}run \d+\n {2}expect not lamp on on\n$/);
-  // Key B is pressed too early or too late.
+  // Key B is pressed before key A.
   const valuesWithKeyB = [0, 5, ...LAMP_ON_VALUES.slice(1)];
   const keys = "press A B C\ntogether 3\n";
   assert.ok(await doesTestFail((await findCounterexample(`${keys}lamp on on only after press A, press B`, valuesWithKeyB)).found));

@@ -65,7 +65,7 @@ class FixedAnswerEngine extends Engine {
   }
 }
 
-/** Resolves to the verdicts on the properties of a text. */
+/** Resolves to the verdicts on the properties in `propertiesText`. */
 async function findVerdicts(propertiesText, usedEngine = engine, programText = PROGRAM) {
   const texts = { boardText: BOARD, programText, testText: "", propertiesText };
   const { proving, errors } = beginProving(usedEngine, texts, 100000, { reportStates: async () => {}, yieldToMessages: async () => {} });

@@ -1,4 +1,4 @@
-// Tests the language server's messages, texts and answers. The server runs in this process, on the page's WebAssembly module.
+// Tests the language server's messages, documents and answers. The server runs in this process, on the page's WebAssembly module.
 import assert from "node:assert/strict";
 import { test } from "node:test";
 import { readFileSync } from "node:fs";

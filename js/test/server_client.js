@@ -10,7 +10,8 @@ const engine = new Engine(new globalThis.WebAssembly.Module(pageModule));
 export const bytesOf = (text) => new TextEncoder().encode(text);
 
 /**
- * Returns a server and its client. `files` are the texts that the server can read, by URI. The server calls `pause` between pieces of work.
+ * Returns a server and its client. `files` contains the text of each file that the server can read, by URI. The server calls `pause`
+ * between pieces of work.
  */
 export function startServer(files = {}, pause = async () => {}) {
   const reader = new MessageReader();

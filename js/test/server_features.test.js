@@ -23,7 +23,7 @@ async function startServerWithText(text, params, name = uri) {
   return server;
 }
 
-/** Returns a text after edits in the form of the language server protocol. */
+/** Applies edits in the form of the language server protocol to `text`. Returns the new text. */
 function applyEdits(text, edits) {
   const lines = text.split("\n");
   for (const { range: { start, end }, newText } of [...edits].reverse()) {

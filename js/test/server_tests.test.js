@@ -1,4 +1,4 @@
-// Tests the language server with texts of tests and properties: errors and their locations, completion, help, names, links, and running
+// Tests the language server with test files and properties files: errors and their locations, completion, help, names, links, and running
 // tests.
 import assert from "node:assert/strict";
 import { test } from "node:test";

@@ -30,8 +30,8 @@ columns = ["rom0.0", "rom0.1"]
 `;
 
 /**
- * Returns a prompt for a new session with files, and a function that returns its output since the last call. Messages other than answers
- * are in parentheses.
+ * Returns a prompt for a new session with files, and the function `ask`, which enters lines and returns the prompt's output. Messages other
+ * than answers are in parentheses.
  */
 function createPrompt(files = {}) {
   const state = engine.begin();

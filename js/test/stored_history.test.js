@@ -1,4 +1,4 @@
-// Tests the history from before a page reload, which a new worker receives, on the page's WebAssembly module.
+// Tests the transfer of the history from before a page reload to a new worker, on the page's WebAssembly module.
 import assert from "node:assert/strict";
 import { test } from "node:test";
 import { StoredHistory } from "../page/session/stored_history.js";

@@ -125,7 +125,7 @@ test("long work is cancelled between pieces", async () => {
 });
 
 test("ROM bytes that a test sets are counted only in its own run", async () => {
-  // With NOP instead of ISZ R3, the instruction takes one cycle.
+  // The test replaces ISZ R3, which takes two cycles, with two NOPs. A NOP takes one cycle.
   const text = "test a\n set rom.0x016 0\n set rom.0x017 0\n run 20\n save s\ntest b\n from s\n run 20\ntest c\n run 20\n";
   const { outcomes, profile } = await runTests(engine, texts(text), alwaysContinue);
   assert.deepEqual(outcomes.map(({ failure }) => failure), [null, null, null]);

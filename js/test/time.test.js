@@ -50,8 +50,8 @@ test("a gap is also detected if only the wall clock has advanced", () => {
 });
 
 /**
- * Returns the number of cycles that run in one second of frames, with key presses at some times. At each key press, some cycles are
- * simulated early.
+ * Returns the number of cycles that run in one second of frames, with key presses at the times in `keys`. At each key press, some cycles
+ * are simulated early.
  */
 function countSimulatedCycles(frame, keys) {
   const time = new RealTime(0, 0);

@@ -124,7 +124,10 @@ test("a prepared replacement is a new file, and is removed with its process", ()
   assert.deepEqual([readFileSync(file, "utf8"), readdirSync(folder)], ["old", ["file"]]);
 });
 
-/** Returns a client of a command. At the end of the test `context`, the command is killed if it still runs, so a failed test ends. */
+/**
+ * Returns a client of a command. At the end of the test `context`, the command is killed if it is still running, so that a failed test
+ * ends, too.
+ */
 function startClient(context, Client) {
   const client = new Client(MCS4);
   context.after(() => client.child.kill());

@@ -10,7 +10,7 @@ import { toSvg } from "../page/waves/wave_pictures.js";
 const NAMES = ["a", "b", "c", "d", "e"];
 const LINES = NAMES.map((name) => ({ name, title: "", group: "", kind: "level", places: [], members: [], width: 1 }));
 const ALL_LINES = NAMES.map((_, line) => line);
-/** Returns the names of the rows in one text. A group heading is written as `[NAME`, the heading of a folded group as `]NAME`. */
+/** Returns the names of the rows as a single string. A group heading is written as `[NAME`, the heading of a folded group as `]NAME`. */
 const rowsOf = (rows, chosen = ALL_LINES) => rows.arrange(LINES, chosen).map(({ line, name, group, isFolded }) => (
   line < 0 ? `${isFolded ? "]" : "["}${group}` : name)).join(" ");
 /** Moves a row to the position of another row. Returns the rows in the form of `rowsOf`. */

@@ -77,7 +77,7 @@ test("a breakpoint stops the machine and the recording", async () => {
   assert.equal(live.waves.counterAt(live.waves.cycles), 0x00c);
 });
 
-/** Returns the values of a line before a moment and at it. */
+/** Returns the values of a line one cycle before a moment and at this moment. */
 const valuesAround = (waves, name, moment) => [moment - 1, moment].map((time) => waves.valueAt(lineIndexOf(waves, name), time));
 
 /** Triggers, each with a function that reads the recording around the trigger moment, and its expected result. */

@@ -1,4 +1,4 @@
-// Tests the visible part of a recording, and the texts about it.
+// Tests the visible part of a recording, and the messages about it.
 import assert from "node:assert/strict";
 import { test } from "node:test";
 import { flagLeft } from "../page/waves/wave_canvas.js";

@@ -1,4 +1,4 @@
-// The debug adapter's texts, which users see in their editor.
+// The debug adapter's messages and labels, which users see in their editor.
 
 // --- adapter/adapter_connection.js ---
 export const MESSAGE_SYNTAX = "a message has a number seq, the type \"request\" and a command";

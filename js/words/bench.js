@@ -1,5 +1,5 @@
-// Messages about errors of the bench: wrong answers, failed calls, ROM images. (The messages for the shell's error numbers are in
-// tools/lib/refusals.txt.)
+// Messages of the bench, mainly about errors: wrong answers, failed calls, invalid ROM images. (The messages for the shell's error numbers
+// are in tools/lib/refusals.txt.)
 
 // --- bench/script_answers.js ---
 export const FIRST_IS_SESSION = "the first line of the answers must be `session N`";

@@ -1,4 +1,4 @@
-// Texts about the front panel (lamps, keys, sound) and the board's wiring.
+// Messages and labels about the front panel (lamps, keys, sound) and the board's wiring.
 
 import { EYE_CYCLES, EYE_PERSISTENCE_MS } from "../core/time/mcs4_time.js";
 

@@ -1,4 +1,4 @@
-// The texts of mcs4's commands: their help, from which the manual pages and completions are generated, and their error messages.
+// The help of mcs4's commands, from which the manual pages and completions are generated, and their error messages.
 
 import { EYE_CYCLES, EYE_PERSISTENCE_MS } from "../core/time/mcs4_time.js";
 import { didYouMean } from "./text.js";

@@ -1,4 +1,4 @@
-// Texts about conditions: error messages, the names of places, and messages that compare actual with expected values.
+// Messages about conditions: errors, the names of places, and comparisons of actual with expected values.
 
 // --- conditions/places.js ---
 export const NAMED_PLACES = "acc, cy, dcl, r0 to r15, ram.B.S, st.B.H.K, rom1.2, ram0.0.3, chain0.5, a whole port such as rom1 or ram0.0, "
@@ -89,7 +89,7 @@ export const KEY_SYNTAX = "write `key NAME down` or `key NAME up`";
 export const noKeyOfPanelMessage = (name, keyNames) => (
   `the board has no key ${name}; ${keyNames ? `it has: ${keyNames}` : "its text names no keys"}`);
 /**
- * Returns the message that the board does not have the part that a place names.
+ * Returns the message for a place whose part the board does not have.
  * @param {string} place
  * @returns {string}
  */

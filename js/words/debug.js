@@ -1,4 +1,4 @@
-// Texts about debugging: breakpoints, watches, common mistakes, and values.
+// Messages and labels about debugging: breakpoints, watches, common mistakes, and values.
 
 // --- debug/breakpoint_manager.js ---
 /** @type {(maximum: number) => string} */

@@ -1,4 +1,5 @@
-// Texts of the Wiring tab: the shelf of parts, the fields, the effects of actions, and the reasons why an action is not possible.
+// Messages and labels of the Wiring tab: the shelf of parts, the fields, the effects of actions, and the reasons why an action is not
+// possible.
 
 // --- drawing/drawing_actions.js ---
 export const TEST_IN_USE = "TEST has its button or switch: delete that one first.";

@@ -1,4 +1,4 @@
-// Texts about the examples: a first thing to try in each, and the welcome cards of a first visit.
+// Notes about the examples: a first thing to try in each, and the welcome cards for a first visit.
 
 /** A first thing to try in each example, by the example's name. */
 export const TO_DO = {

@@ -1,4 +1,4 @@
-// Texts about properties and about the search for key sequences that break them.
+// Messages and labels about properties, and about the search for key sequences that break them.
 
 // --- explore/start_state.js ---
 /** @type {(state: string) => string} */

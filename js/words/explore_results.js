@@ -88,8 +88,8 @@ export function describePropertyResult(property, report) {
 }
 
 /**
- * Returns the program's coverage: the coverage of its instructions and of its branch directions, each with a text, and the lines that never
- * ran (`unexecutedLines`).
+ * Returns the program's coverage: the coverage of its instructions and of its branch directions, each with a description, and the lines
+ * that never ran (`unexecutedLines`).
  * @param {Report} report
  */
 export function coverageOf({ covered, instructions }) {

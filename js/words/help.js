@@ -1,4 +1,4 @@
-// Texts of the help, of the tour with the first program (five steps), and of stories.
+// Messages and labels of the help and of stories, and the text of the tour with the first program (five steps).
 
 // --- help/guide.js ---
 /** @type {(name: string) => string} */

@@ -1,9 +1,9 @@
-// Texts about session lines: the effect of each, and the reasons why a line is rejected.
+// The help on session lines, with the effect of each line, and the messages about rejected lines.
 
 import { didYouMean } from "./text.js";
 
 /**
- * The session lines in groups, each with its form and its effect. Each text makes sense on its own.
+ * The session lines in groups, each with its form and its effect. Each description makes sense on its own.
  * @type {{ title: string, lines: [string, string][] }[]}
  */
 export const LINES_BY_GROUPS = [

@@ -1,4 +1,4 @@
-// Texts about the machine: registers, RAM, ports, the disassembly, breakpoints, and watched values.
+// Messages and labels about the machine: registers, RAM, ports, the disassembly, breakpoints, and watched values.
 
 // --- machine/breakpoint_marks.js ---
 /** @type {(condition: string) => string} */

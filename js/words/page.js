@@ -1,4 +1,4 @@
-// Texts of the console, the dialogs, the notices and the status bar, and messages about missing browser features.
+// Messages and labels of the console, the dialogs, the notices and the status bar, and messages about missing browser features.
 
 // --- lines/lines_view.js ---
 export const LINES_HINT = "Enter runs, Shift+Enter adds a line, the up arrow recalls. Type help for commands.";
@@ -62,7 +62,7 @@ export const cannotStartMessage = (reason, requirements) => `The bench could not
 // --- ui/status_view.js ---
 export const ROM_MATCHES = "ROM matches source";
 export const ROM_DIFFERS = "ROM differs from source";
-/** The status bar's texts about saving, by the session's state. */
+/** The status bar's messages about saving, by the session's state. */
 export const SAVED = { example: "Not saved", saved: "Saved in this browser", failed: "Not saved" };
 
 // --- print_view.js ---

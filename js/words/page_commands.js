@@ -1,5 +1,5 @@
-// Texts of the page's commands: their names, their groups, and the reasons why a command cannot run now. Also the texts of the command
-// palette and the key list.
+// The names and groups of the page's commands, and the reasons why a command cannot run now. Also the labels of the command palette and of
+// the key list.
 
 /** The groups of commands, in display order. */
 export const GROUPS = {

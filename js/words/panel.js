@@ -1,4 +1,4 @@
-// Texts of `mcs4 panel`, the front panel in a terminal.
+// Messages and labels of `mcs4 panel`, the front panel in a terminal.
 
 // --- panel/terminal_panel.js ---
 /** @type {(line: string, answer: string, meaning: string) => string} */

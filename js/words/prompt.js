@@ -1,4 +1,4 @@
-// Texts of the `mcs4 debug` prompt.
+// Messages of the `mcs4 debug` prompt.
 
 import { formatCycles } from "../core/time/cycles.js";
 
@@ -22,9 +22,9 @@ export const byContinue = (place) => `${place}, by continue`;
 export const NOTHING_WATCHED = "nothing is watched";
 
 // --- prompt/stop_commands.js ---
-/** @type {(condition: string) => string} a breakpoint's condition as an argument of `break`; "" for none */
+/** @type {(condition: string) => string} a breakpoint's condition as an argument of `break`; "" if there is none */
 export const ifCondition = (condition) => (condition && ` if ${condition}`);
-/** @type {(note: string) => string} a breakpoint's log message as an argument of `break`; "" for none */
+/** @type {(note: string) => string} a breakpoint's log message as an argument of `break`; "" if there is none */
 export const logNote = (note) => (note && ` log "${note}"`);
 export const CONDITION_SYNTAX = "write condition N CONDITION, as in condition 1 r4 = 7";
 export const IGNORE_SYNTAX = "write ignore N COUNT, as in ignore 1 5";

@@ -1,4 +1,4 @@
-// Texts about proofs: the verdicts on properties, and the reasons why a property is not decided.
+// Messages and labels about proofs: the verdicts on properties, and the reasons why a property is not decided.
 
 // --- prove/condition_comparisons.js ---
 export const READS_TOO_MUCH = "its condition uses too many places at once";
@@ -62,7 +62,7 @@ export const notDecided = (reason) => `TODO not decided: ${reason}`;
 const evenWithout = (guards) => (guards ? `, even without ${guards}` : "");
 /** @type {(words: string[]) => string} returns `"a"`, `"a" and "b"` or `"a", "b" and "c"` */
 const quotedList = (words) => words.map((word) => `"${word}"`).join(", ").replace(/, (?=[^,]*$)/, " and ");
-/** @type {(limits: string[]) => string} `limits` are the lines that limit the inputs in a proof, [] for none */
+/** @type {(limits: string[]) => string} `limits` are the lines that limit the inputs in a proof; [] if there are none */
 const forInputs = (limits) => (limits.length > 0 ? `for the inputs of ${quotedList(limits)}` : "for all inputs");
 /**
  * The inputs and the guards of a proof. `limits` are the lines of the properties text that limit the inputs. `leftOut` names the guards

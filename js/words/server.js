@@ -1,4 +1,4 @@
-// The language server's texts, which users see in their editor, and error messages about `mcs4.toml`.
+// The language server's messages and labels, which users see in their editor, and error messages about `mcs4.toml`.
 
 // --- server/dependent_language.js ---
 /** @type {(file: string) => string} */

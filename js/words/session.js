@@ -1,4 +1,4 @@
-// Texts about sessions: saved sessions, files, links, projects, and the texts of a session.
+// Messages and labels about sessions: saved sessions, files, links, projects, and the texts of a session.
 
 // --- session/trash.js ---
 /** @type {(count: number) => string} */

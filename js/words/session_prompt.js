@@ -1,4 +1,4 @@
-// Texts of the `mcs4 new` and `mcs4 open` prompt. They complement the bench's answers.
+// Messages of the `mcs4 new` and `mcs4 open` prompt. They complement the bench's answers.
 
 // --- prompt/bench_prompt.js ---
 export const GREETING = "help shows the lines, quit leaves.";

@@ -23,7 +23,7 @@ export const REASONS = {
 /** The message of Step out if no subroutine is running. */
 export const NO_CALL_WAITS = "no call is open here";
 
-/** @type {(line: number) => string} a reference to a line of a text */
+/** @type {(line: number) => string} a reference to a line, by its number */
 export const lineReference = (line) => `line ${line}`;
 
 /**
@@ -108,7 +108,7 @@ export function describeGoal(goal) {
 }
 
 /**
- * Returns the message while the session runs to a goal.
+ * Returns the message that is shown while the session runs to a goal.
  * @param {Goal} goal
  */
 export function runningToGoal(goal) {
@@ -149,7 +149,7 @@ export function pauseMessage(goal, { reason, cycles, endsAtReturn, change }, loc
 
 /**
  * Returns a breakpoint's condition and hit count in words, for example `, when r9 = 9, at hit 5`. Returns the error instead if there is
- * one, and "" without a breakpoint.
+ * one, and "" if there is no breakpoint.
  * @param {{ condition: string, from: number, hits: number } | undefined} breakpoint
  * @param {string} [error] the error in the breakpoint; a breakpoint with an error stops at every hit
  */
@@ -164,7 +164,7 @@ export function describeBreakpointCondition(breakpoint, error = "") {
 export const stoppedAt = (address) => `Paused at ${address}.`;
 
 /**
- * Returns the message when the user pauses the session. If the run has a goal, the message says that the goal was not reached.
+ * Returns the message after the user has paused the session. If the run has a goal, the message says that the goal was not reached.
  * @param {Goal | null} goal
  * @param {number} cycles the number of cycles since the start of the run
  * @param {string} location

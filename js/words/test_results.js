@@ -33,7 +33,7 @@ export function testsTabMark(outcomes) {
 }
 
 /**
- * Returns the message that nothing was run because the texts have errors: the first error, and the number of others.
+ * Returns the message that is shown if nothing was run because the texts have errors: the first error, and the number of others.
  * @param {ProjectTextError[]} errors
  * @param {(number: number) => string} describeRefusal
  */

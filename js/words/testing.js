@@ -1,4 +1,4 @@
-// Texts about tests: error messages, results, coverage and profiles.
+// Messages and labels about tests: errors, results, coverage and profiles.
 
 // --- testing/coverage.js ---
 /** @type {(counts: number[], percent: string, percentOfWays: string) => string} */

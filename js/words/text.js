@@ -1,4 +1,4 @@
-// Texts of the editors: errors in programs and boards, completion, help on words, names, and search.
+// Messages and labels of the editors: errors in programs and boards, completion, help on words, names, and search.
 
 // --- text/similar_words.js ---
 export const OR = " or ";

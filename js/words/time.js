@@ -1,4 +1,4 @@
-// Texts about time: cycles, speeds, steps, and moves back and forward in time.
+// Messages and labels about time: cycles, speeds, steps, and moves back and forward in time.
 
 import { PLACES_ARE } from "./conditions.js";
 
@@ -16,7 +16,7 @@ export const isRefusalMessage = (line, answer) => `line ${line} is a refusal: ${
 /** @type {(lines: number) => string} */
 export const tooFewAnswersMessage = (lines) => `there are only ${lines} lines of answers`;
 export const NO_RUN = "none of these lines shows a run, as `ok 5 ran 100 end` does";
-/** @type {Record<string, string>} the end of a run in `mcs4 cycles`, by the word in the answer */
+/** @type {Record<string, string>} why a run stopped, at the end of its line in `mcs4 cycles`, by the word in the bench's answer */
 export const WHY_STOPPED = {
   end: "", break: ", to a breakpoint", watch: ", to a change of a watched nibble", code: ", to a code that is not an instruction",
 };
@@ -44,7 +44,10 @@ const EXAMPLE_PLACES = "enter something such as r5, lamp 3 or rom0.2";
 // --- time/run_controller.js ---
 /** @type {(rate: string) => string} */
 export const cyclesASecond = (rate) => `${rate} cycles a second`;
-/** @type {(name: string, errors: number) => string} the status text for a session name and the number of breakpoints with errors */
+/**
+ * @type {(name: string, errors: number) => string} the status text while a session runs, with its name and the number of breakpoints with
+ * errors
+ */
 export const runningMessage = (name, errors) => `Running "${name}". F5 pauses it.${errors === 0 ? "" : errorsIn(errors)}`;
 /** @type {(errors: number) => string} */
 const errorsIn = (errors) => (

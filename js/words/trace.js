@@ -1,4 +1,4 @@
-// Texts of a trace, which has one line per instruction.
+// The words in a trace, which has one line per instruction.
 
 // --- trace/trace_lines.js ---
 export const SECOND_CYCLE = "(the second cycle)";

@@ -1,4 +1,4 @@
-// Texts of the logic analyser: recording, trigger, search, lines and values.
+// Messages and labels of the logic analyser: recording, trigger, search, lines and values.
 
 // --- waves/live_waves.js ---
 /** @type {Record<string, string>} the reasons why a recording ended */

@@ -1,4 +1,4 @@
-// Texts about the page's layout: its panels.
+// Labels for the page's layout: the names of the panels and the commands for them.
 
 // --- ui/panels.js ---
 /** The names of the panels by id, in the order in which the window shows them. */

@@ -69,8 +69,8 @@ function truncateLog(session, offset) {
 }
 
 /**
- * Removes the last commands of a session. Resolves to the line to print. Throws an error if the log has fewer commands, or if the shortened
- * session would not open as expected.
+ * Removes the last commands of a session. Resolves to the line to print. Throws an error if the log has fewer than `count` commands, or if the
+ * shortened session would not open as expected.
  * @param {string} session the session's file name
  * @param {number} count the number of commands to remove; 0 to report only how many can be removed
  */

@@ -10,8 +10,8 @@ import { CommandError, UsageError, print } from "../output.mjs";
 const LINE_NUMBER = /^\d{1,9}$/;
 
 /**
- * Parses the range of answer lines with the runs to add up. Returns the numbers of the first and the last line, from 1; `last` is 0 for all
- * lines from `first` to the end. Throws a UsageError if the words are not a valid range.
+ * Parses the range of answer lines whose runs are added up. Returns the numbers of the first and the last line, from 1; `last` is 0 if the range has
+ * no end. Throws a UsageError if the words are not a valid range.
  * @param {string[]} words
  */
 function parseRange(words) {

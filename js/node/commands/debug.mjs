@@ -19,7 +19,7 @@ import { SAVED_HEAD } from "../../words/prompt.js";
 import { NOT_A_BREAKPOINTS_FILE, noSessionToDebugMessage } from "../../words/commands.js";
 
 /**
- * The file names of board, program and session; undefined for none.
+ * The file names of the board, the program and the session; a file that is not used has the name undefined.
  * @typedef {{ board?: string, program?: string, session?: string }} DebuggedNames
  */
 

@@ -9,7 +9,7 @@ import { createTemporaryFolder } from "../temporary_folders.mjs";
 import { checkOutputFile, writeUserFile } from "../user_files.mjs";
 import { NOT_COUNTEREXAMPLES, NOT_A_REPORT, excludeEachOther } from "../../words/commands.js";
 
-/** The texts at the beginning of the files that the command writes. */
+/** The first characters of the files that the command writes. */
 const COUNTEREXAMPLES_HEADER = "# Found by ";
 const REPORT_HEADER = "{\"form\":\"explore 1\"";
 /** The maximum and the default of each numeric option. */

@@ -11,7 +11,7 @@ import { CommandError, printVerbatim } from "../output.mjs";
 const UTF8_MARK = /^\u00ef\u00bb\u00bf/;
 
 /**
- * Throws an error if the bench rejects a converted program. A converted line has the same number as its line in the source.
+ * Throws an error if the bench rejects a converted program. The converted program has the same line numbers as the source.
  * @param {string} name the file name of the source
  * @param {string} source
  * @param {string} text the converted program

@@ -1,4 +1,4 @@
-// `mcs4 names`: replaces program names by their values in session lines.
+// `mcs4 names`: replaces the names that a program defines with their values in session lines.
 import { replaceNames } from "../../core/bench/name_substitution.js";
 import { errorInLine } from "../../words/commands.js";
 import { checkArguments, findProject } from "../arguments.mjs";

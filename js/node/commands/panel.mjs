@@ -55,8 +55,8 @@ async function readAnswers(session, lines) {
 }
 
 /**
- * Reads the board and the program. Throws an error if they differ from the session's board or from the contents of its ROM. Resolves to the
- * board, its front panel and the source, which is null without a program.
+ * Reads the board and the program. Throws an error if the board differs from the session's board, or the program from the contents of the session's
+ * ROM. Resolves to the board, its front panel and the source; the source is null if there is no program.
  * @param {SessionProcess} session
  * @param {string} name the session's file name
  * @param {{ board: InputText, program: InputText | null }} texts
@@ -74,7 +74,7 @@ async function readTexts(session, name, texts) {
 }
 
 /**
- * Returns a message about the first chip or line that the front panel names but the board does not have, or "" if there is none.
+ * Returns a message about the first front-panel line that is faulty or names a part that the board does not have; "" if there is no such line.
  * @param {Awaited<ReturnType<typeof readTexts>>} panelTexts
  * @param {number} linesBefore the number of lines before the board's text in its file
  */

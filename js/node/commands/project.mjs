@@ -14,11 +14,11 @@ import { isInside, checkOutputFile, readUserFile, statInput, writeNewFiles, writ
 
 const PROJECT_HEADER = "fethsaim project ";
 const SESSION_HEADER = "MCS4BEN1";
-/** The kinds of texts that a folder can contain more than once. A project file can have only one text of each kind. */
+/** The kinds of text files that can occur several times in a folder. A project file can contain only one text of each kind. */
 const LIST_KINDS = /** @type {const} */ (["tests", "properties"]);
 
 /**
- * Calls `operation` and returns its result. If a text is not a valid project, throws an error with the name of the file.
+ * Calls `operation` and returns its result. If `operation` throws InvalidProject, throws an error that also contains the name of the file.
  * @template Result
  * @param {string} name
  * @param {() => Result} operation
@@ -55,7 +55,7 @@ function readFileIn(folder, name) {
 }
 
 /**
- * Reads a UTF-8 text in a folder. Throws an error if the file is not valid UTF-8 or contains NUL bytes.
+ * Reads a UTF-8 text file in a folder. Throws an error if the file is not valid UTF-8 or contains NUL bytes.
  * @param {string} folder
  * @param {string} name the path of the file, including the folder
  */
@@ -70,8 +70,8 @@ function readText(folder, name) {
 }
 
 /**
- * Resolves to the paths of the texts: those in `mcs4.toml`. Without that file, the texts have their standard names, and a missing file of
- * tests or properties has the path "". Throws an error if the project has several files of tests or properties.
+ * Resolves to the paths of the board, program, tests and properties that `mcs4.toml` names. Without `mcs4.toml`, resolves to the paths with the
+ * standard file names. Throws an error if the project has several files of tests or properties.
  * @param {string} folder
  * @returns {Promise<{ board: string, program: string, tests: string, properties: string }>} "" if there are no tests or no properties
  */

@@ -27,7 +27,7 @@ export async function run({ folder, most: statesWord, memory: memoryWord }, posi
 }
 
 /**
- * Proves or disproves all properties. Prints each result as soon as it is known. Resolves to the exit status.
+ * Tries to prove or disprove each property. Prints each result as soon as it is known. Resolves to the exit status.
  * @param {import("../../core/prove/property_judge.js").PropertyJudge} judge
  * @param {string} file the name of the properties file
  */

@@ -51,7 +51,7 @@ async function serveBytes(session, bytes) {
 }
 
 /**
- * Returns the bytes after a number of lines.
+ * Returns the bytes after the first `lineCount` lines.
  * @param {Buffer} bytes
  * @param {number} lineCount the number of lines to skip
  */

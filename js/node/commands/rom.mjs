@@ -18,7 +18,7 @@ const ACTION_FORMATS = { load: ["hex", "srec", "bnpf", "binary"], ask: [], save:
 const PARSERS = { hex: readHex, srec: readSRecords, bnpf: readBnpf };
 
 /**
- * Returns the image format that an option names, or null if there is no such option. Throws a UsageError for two formats, or for a format
+ * Returns the image format that an option names, or null if there is no such option. Throws a UsageError if options name two formats, or a format
  * that the action does not accept.
  * @param {string} action
  * @param {import("./table.mjs").Values} values
@@ -90,8 +90,8 @@ function printQueries(words) {
 }
 
 /**
- * Returns the contents of ROM, with the bytes of a range from the bench's answers, and NO_BYTE at all other addresses. A later answer
- * overrides an earlier answer. Throws a CommandError if an answer is a refusal or a byte is missing.
+ * Returns an image of ROM that contains the bytes of a range, from the bench's answers, and NO_BYTE at all other addresses. A later answer overrides
+ * an earlier answer. Throws a CommandError if an answer is a refusal or a byte is missing.
  * @param {string} answers
  * @param {{ first: number, count: number }} range
  */

@@ -11,7 +11,7 @@ import { createRejectedTextsError, startEngine } from "../native_program.mjs";
 import { printVerbatim } from "../output.mjs";
 
 /**
- * Returns a text with its comments, or without them if the text with comments is too long for the bench.
+ * Returns the text to send to the bench: with comments, or without comments if it would be too long with them.
  * @param {string} text
  * @param {import("../../core/text/sendable_text.js").CommentMark} mark
  */

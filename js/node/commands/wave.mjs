@@ -33,7 +33,7 @@ const MAX_CYCLES = 10000000;
 const WAV_HEADER = "RIFF";
 
 /**
- * Resolves to the file names of board and program, from the options or from the project (undefined for none).
+ * Resolves to the file names of board and program, from the options or from the project. A name is undefined if there is none.
  * @param {Values} values
  */
 async function resolveNames({ folder, board, names }) {
