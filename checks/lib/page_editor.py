@@ -355,7 +355,7 @@ def check_board_text(browser):
 
 def compose(browser, *words, replaced_range=None):
     """Enters words as a phone's keyboard does: as one composition that takes the value of each word in turn. The composition replaces the text in
-    `replaced_range`, from the first offset to the second, if there is one."""
+    `replaced_range`, from the first offset to the second, if this range is not None."""
     range_parameters = {"replacementStart": replaced_range[0], "replacementEnd": replaced_range[1]} if replaced_range else {}
     for word in words:
         browser.command("Input.imeSetComposition", text=word, selectionStart=len(word), selectionEnd=len(word), **range_parameters)

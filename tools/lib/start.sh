@@ -1,4 +1,4 @@
-# Functions that find the program to start, such as need_program. A script reads this file by `.`, after it has set `top`, the folder of the
+# Functions that find the program to start, such as need_program. A script reads this file with `.`, after it has set `top`, the folder of the
 # repository.
 # shellcheck shell=sh disable=SC2034
 
@@ -103,7 +103,7 @@ is_other_system() {
     reason="$other_system_text x86-64, and this is $(uname -s) on $(uname -m)"
 }
 
-# Succeeds if `reason` says that the program is for another system, so that no program can be built here. Commands then run on the proved module.
+# Succeeds if no program runs on this system, as `reason` says, and none can be built here. Commands then run on the proved module.
 is_without_program() {
     case $reason in
     "$other_system_text"*) ;;

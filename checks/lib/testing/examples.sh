@@ -22,7 +22,8 @@ test 1
 run 8
 lamps" "a button at TEST, by its name"
 
-# Inserts a bug into a copy of a program: replaces a text in the N-th line that contains it. Arguments: the program, N, the text, the new text.
+# Inserts a bug into a copy of a program: replaces a string in the N-th line that contains it. Arguments: the program, N, the string, and the new
+# string.
 plant_bug() {
     awk -v n="$2" -v old="$3" -v new="$4" '{
         at = index($0, old)

@@ -2,7 +2,7 @@
 # boards with a display and other lamps.
 # shellcheck shell=sh
 
-# Checks that a saved state is known only in its own text.
+# Checks that a saved state is known only in the text that saves it.
 printf 'test a\n press 1 2 ; keys\n run 5   # a moment\n save begun ; here\ntest b # 1\n from begun\n release 1 2\n' > "$folder/first.test"
 printf 'test c\n press #\n release # ; the key #\n save begun\ntest d\n from begun\n run 54 us\n expect cycles 54us # five\n' > "$folder/second.test"
 verdict "$(outcome ./mcs4 test $lock/board.toml $lock/lock.asm "$folder/first.test" "$folder/second.test")" "TAP version 13
