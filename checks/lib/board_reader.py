@@ -177,8 +177,8 @@ def has_part(document, section, index, key):
 
 
 def line_of(lines, part):
-    """Returns the number of lines in the shortest prefix of the text that is valid TOML and contains a part. `part` is an error that
-    `BoardReading.first_error` has returned."""
+    """Returns the number of lines in the shortest prefix of the text that is valid TOML and contains a part. `part` describes this part as
+    `BoardReading.first_error` does."""
     _number, section, index, key = part
     too_short, long_enough = 0, len(lines)
     while long_enough - too_short > 1:

@@ -157,7 +157,7 @@ def check_many_clicks(browser):
 
 
 def check_reload_after_edit(browser):
-    """Checks that a text that was typed immediately before a reload is restored."""
+    """Checks that text that was typed immediately before a reload is restored."""
     choose_example(browser, "three lamps")
     browser.script(PUT_INTO_EDITOR, "#program-editor", PROGRAM)
     browser.reload()

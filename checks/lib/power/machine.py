@@ -31,7 +31,7 @@ echo ready
 while read -r line; do eval "$line"; echo "done $?"; done
 """
 # `clearcpuid=cx16`: Linux 6.12 triggers a bug of CMPXCHG16B in QEMU 7.2 without KVM. `no_timer_check`: on a busy host, the kernel would consider
-# its timer broken. The default processor is too old for Debian's glibc.
+# its timer broken. QEMU's default processor is too old for Debian's glibc.
 KERNEL_ARGUMENTS = "console=ttyS0 loglevel=5 panic=-1 mitigations=off random.trust_cpu=on clearcpuid=cx16 no_timer_check cryptomgr.notests"
 PROCESSOR = "Nehalem"
 MEMORY = 512

@@ -24,7 +24,7 @@ not ok 2 - b
   message: \"the state begun is missing, because the test \`a\` did not reach its \`save\`\"
   at: \"$folder/unsaved.test:5\"
 status 1" "a state that was not saved"
-# Checks that a text that is not UTF-8 is read as Latin-1, and printed in UTF-8.
+# Checks that text that is not UTF-8 is read as Latin-1, and printed in UTF-8.
 printf 'loop: JUN loop ; \344\n' > "$folder/latin.asm"
 verdict "$(outcome ./mcs4 cover $lock/board.toml "$folder/latin.asm" "$folder/unsaved.test" | sed -n 's/.*loop:/loop:/p')" \
     "loop: JUN loop ; $(printf '\303\244')" "a program in Latin 1"
