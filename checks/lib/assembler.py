@@ -99,7 +99,7 @@ def parse_line(line):
 
 
 def size_of(parsed):
-    """Returns the number of bytes of a parsed statement, which can be None."""
+    """Returns the number of bytes of a parsed statement, or 0 if `parsed` is None."""
     if parsed is None or parsed[0] == "ORG":
         return 0
     if parsed[0] == "DB":
@@ -144,7 +144,8 @@ class FirstPass:
 
 
 def bytes_of(address, parsed, names, number):
-    """Returns the bytes of a parsed statement at an address, which can be None. Raises ProgramError with the line `number` if a value is wrong."""
+    """Returns the bytes of a parsed statement at an address, or none if `parsed` is None. Raises ProgramError with the line `number` if a value is
+    wrong."""
     if parsed is None or parsed[0] == "ORG":
         return []
     if parsed[0] == "CODE":

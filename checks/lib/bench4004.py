@@ -1,7 +1,7 @@
-"""A second implementation of the bench's answers to lines, which docs/MANUAL.md ("Lines") defines. It runs the board of board4004.py.
+"""A second implementation of the answers to lines that docs/MANUAL.md ("Lines") defines. It runs the board of board4004.py.
 
 It implements the commands and these queries: `regs`, `state`, `lamps`, `ram`, `list`, `breaks` and `seq`, and also `count` and `trace`, which run
-a copy of the board. Python's TOML parser reads the texts of boards, and assembler.py assembles the programs. This bench rejects only keys, RAM chips
+a copy of the board. Python's TOML parser reads the boards, and assembler.py assembles the programs. This bench rejects only keys, RAM chips
 and ROM chips that the board lacks, and assumes that all other lines are valid.
 """
 

@@ -21,7 +21,8 @@ Line = tuple[str, tuple[int, ...]]
 
 
 def operations_by_code() -> dict[int, tuple[str, int]]:
-    """Returns the mnemonic and the operand of each valid code. The operand in the code's lower half is a register, a pair or a value (0 for none)."""
+    """Returns the mnemonic and the operand of each valid code. The operand in the code's lower half is a register, a pair or a value, or 0 if there
+    is none."""
     codes = {code: (name, 0) for name, code in CODES_WITHOUT_OPERAND.items()}
     for name, code in [*CODES_ON_REGISTER.items(), *((name, CODES_WITH_VALUES[name][1]) for name in ("JCN", "JUN", "JMS", "ISZ", "BBL", "LDM"))]:
         codes.update({code + low: (name, low) for low in range(16)})

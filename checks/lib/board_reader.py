@@ -18,7 +18,7 @@ def is_within(first, last):
 
 
 def numbers_of(name):
-    """Returns the kind and numbers in a line's name, or None if the text is not a line's name."""
+    """Returns the kind and numbers in a line's name, or None if `name` is not a line's name."""
     if not isinstance(name, str):
         return None
     match = re.fullmatch(r"(rom|ram|chain)(0|[1-9]\d?)\.(0|[1-9]\d?)(?:\.(0|[1-9]))?", name, re.ASCII)
@@ -74,8 +74,8 @@ class BoardReading:
         self.tables = list(tables_of(document))
 
     def first_error(self):
-        """Returns the first error: its number, the section, the number of the table, and the key. A section that does not apply is "", a number 0,
-        and a key None. Returns None if the board is valid."""
+        """Returns the first error: its number, the section, the number of the table, and the key. Where they do not apply, the section is "", the
+        number of the table 0, and the key None. Returns None if the board is valid."""
         for find_errors in (self.unknown_key_errors, self.missing_key_errors, self.value_errors, self.excess_errors, self.repetition_errors):
             for part in find_errors():
                 return part
@@ -177,8 +177,8 @@ def has_part(document, section, index, key):
 
 
 def line_of(lines, part):
-    """Returns the number of lines in the shortest prefix of the text that is valid TOML and contains a part. `part` is an error that
-    `BoardReading.first_error` has returned."""
+    """Returns the number of lines in the shortest prefix of the text that is valid TOML and contains a part. `part` describes this part as
+    `BoardReading.first_error` does."""
     _number, section, index, key = part
     too_short, long_enough = 0, len(lines)
     while long_enough - too_short > 1:

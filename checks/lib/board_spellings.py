@@ -58,7 +58,7 @@ def value_text(rng, value):
 
 
 def pairs_of(rng, table, prefix=""):
-    """Returns the texts `KEY = VALUE` of a table in random order, each with a prefix."""
+    """Returns a table's `KEY = VALUE` strings in random order, each with a prefix."""
     items = list(table.items())
     rng.shuffle(items)
     return [f"{prefix}{key_text(rng, key)}{rng.choice(EQUALS)}{value_text(rng, value)}" for key, value in items]

@@ -1,4 +1,4 @@
-"""Finds the comments in the sources, so that checks/documents can check their sentences. Also finds the texts in js/words."""
+"""Finds the comments in the sources, so that checks/documents can check their sentences. Also finds the strings in js/words."""
 
 import ast
 import pathlib
@@ -125,7 +125,7 @@ def commented_files():
 
 
 def shown_texts():
-    """Yields the file, the line and the words of each text that js/words can show. Replaces each value in a text with `VALUE`. Omits programs and
+    """Yields the file, the line and the words of each string that js/words can show. Replaces each value in a string with `VALUE`. Omits programs and
     keys."""
     for path in sorted((TOP / "js/words").glob("*.js")):
         source = path.read_text()

@@ -246,7 +246,7 @@ function measureSeconds(act) {
 
 const shortestTime = (act) => Math.min(...[1, 2, 3].map(() => measureSeconds(act)));
 
-// Returns the cycles per second of the page's module and of the program, with the calculator.
+// Returns the speeds of the page's module and of the program when they run the calculator, in cycles per second.
 function measureSpeeds(engine) {
   const board = `wire\n${calculator}.\nasm\n${readFileSync(join(examples, "calculator/calculator.asm"), "utf8")}.\n`;
   const runs = "run 100000\n".repeat(300);
@@ -261,7 +261,7 @@ const engine = await Engine.load(readFileSync(modulePath));
 for (const name of readdirSync(examples, { recursive: true })) {
   if (name.endsWith(".txt")) compare(name, engine, null, readFileSync(join(examples, name), "utf8"));
 }
-// Texts that are longer than a chunk, longer than the module's initial memory, and longer than the bench accepts.
+// Inputs that are longer than a chunk, longer than the module's initial memory, and longer than the bench accepts.
 for (const size of [70000, 1100000, 16777300]) compare(`an input of ${size} bytes`, engine, null, `poke acc 1\n${"\n".repeat(size)}seq\n`);
 for (let number = 1; number <= Number(count); number++) {
   const file = compare(`script ${number}`, engine, null, randomScript());

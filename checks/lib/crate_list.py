@@ -36,7 +36,7 @@ def crates_by_heading():
 
 
 def crate_list():
-    """Returns the whole text, which has a list of crates for each heading."""
+    """Returns the text of crates/README.md, which has a list of crates for each heading."""
     lines = [HEADER.rstrip("\n")]
     for heading, crates in crates_by_heading().items():
         lines += ["", f"## {heading.capitalize()}", "", *(f"- [{crate}]({crate}/src): {first_sentence(crate)}" for crate in crates)]

@@ -33,7 +33,7 @@ function valuesOf(state) {
   return Object.fromEntries(words.flatMap((word, index) => (index % 2 === 0 ? [[word, words[index + 1]]] : [])));
 }
 
-/** Returns a text without its comments, which begin with `mark`. */
+/** Returns `text` without its comments, which begin with `mark`. */
 const withoutComments = (text, mark) => text.split("\n").map((line) => line.replace(new RegExp(`${mark}.*`), "").trim()).join("\n");
 /** Returns the files of an example. */
 const example = (name) => ({

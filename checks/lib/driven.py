@@ -69,7 +69,7 @@ class BrowserDriver:
         })
 
     def type_into(self, selector, text):
-        """Types a text into an element."""
+        """Types text into an element."""
         self.send_to_element(self.find(selector), text)
 
     def text(self, selector):
@@ -130,8 +130,8 @@ class BrowserDriver:
         self.set_window_size(1280, 900)
 
     def until(self, code, expected, seconds=30):
-        """Repeats a script until it returns the expected value, or a text that matches a pattern, but for at most this number of seconds. Returns the
-        last result. A script that fails is also repeated, because scripts fail while the browser leaves the page."""
+        """Repeats a script until it returns the expected value, or a string that matches the expected pattern, but for at most this number of
+        seconds. Returns the last result. A script that fails is also repeated, because scripts fail while the browser leaves the page."""
         deadline = time.monotonic() + seconds
         while True:
             try:

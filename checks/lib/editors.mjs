@@ -63,7 +63,7 @@ async function compare(client, name) {
 const median = (list) => [...list].sort((a, b) => a - b)[Math.floor(list.length / 2)];
 const describeTimes = (list) => `median ${median(list).toFixed(1)} ms, ${Math.max(...list).toFixed(1)}`;
 
-/** Measures the time until diagnostics and hovers arrive for a text of maximum length. Each edit adds an error. */
+/** Measures the time until diagnostics and hovers arrive for a program of maximum length. Each edit adds an error. */
 async function trySpeed(client) {
   const uri = "file:///long.asm";
   const text = `start:\n${"LDM 5\n".repeat(2728)}NOP`;

@@ -1,6 +1,6 @@
 // Tests of checks/editors for the program formatter. The server formats random programs, alternately with spaces and with tabs. The bench must give
-// the same answers to both texts, byte for byte, and formatting twice must give the same result as formatting once. Prints `ok TEXT` or `failed:
-// TEXT`.
+// the same answers to a program before and after formatting, byte for byte, and formatting twice must give the same result as formatting once. Prints
+// `ok TEXT` or `failed: TEXT`.
 import { execFileSync } from "node:child_process";
 import { mkdirSync, readFileSync, rmSync } from "node:fs";
 import { Client } from "./lsp_client.mjs";
@@ -18,7 +18,7 @@ const LIST_ALL_ROM = [...Array(16).keys()].map((page) => `list ${page * 256} 256
 
 const verdict = (isRight, description) => console.log(isRight ? `ok ${description}` : `failed: ${description}`);
 
-/** Applies edits to a text. Each edit is within one line. */
+/** Returns `text` with the edits applied. Each edit is within one line. */
 function applyEdits(text, edits) {
   const lines = text.split("\n");
   for (const { range: { start, end }, newText } of edits) {
@@ -28,8 +28,8 @@ function applyEdits(text, edits) {
 }
 
 /**
- * Returns the native program's output for source texts. For each text, the output has the answers to `map` and `asm`, and then the contents
- * of the whole ROM.
+ * Returns the native program's output for the programs in `texts`. For each of them, the output has the answers to `map` and `asm`, and then the
+ * contents of the whole ROM.
  */
 function answersTo(texts) {
   const input = ALL_ROMS + texts.map((text) => `map\n${text}.\nasm\n${text}.\n${LIST_ALL_ROM}`).join("");
@@ -38,7 +38,7 @@ function answersTo(texts) {
   return execFileSync(process.env.MCS4, ["new", file], { input, encoding: "latin1", maxBuffer: 1 << 28 });
 }
 
-/** Resolves to a text after formatting. */
+/** Resolves to `text` as the server formats it. */
 async function format(client, name, text, options) {
   const textDocument = { uri: `file://${folder}/${name}` };
   client.notify("textDocument/didOpen", { textDocument: { ...textDocument, languageId: "asm", version: 1, text } });

@@ -91,12 +91,12 @@ class Kate {
     return spawnSync("xdotool", args, { env: this.environment, encoding: "utf8", timeout: RETRY_AFTER }).stdout ?? "";
   }
 
-  /** Returns the id of a window whose title contains a text, or "" if there is none. */
+  /** Returns the id of a window whose title contains `title`, or "" if there is none. */
   window(title) {
     return this.xdotool("search", "--onlyvisible", "--name", title).trim().split("\n").at(-1);
   }
 
-  /** Sends keys to the window whose title contains a text. */
+  /** Sends keys to the window whose title contains `title`. */
   async keys(title, ...keys) {
     const window = await waitFor(`the window ${title}`, () => this.window(title));
     this.xdotool("windowfocus", window, "key", "--delay", "100", ...keys);
@@ -157,7 +157,7 @@ async function checkProgram(display) {
 
 /**
  * Checks that Kate uses the generated grammars. Its settings assign a server only to the file type that a grammar defines. So if Kate asks about the
- * server when it opens a text, it has recognised the grammar.
+ * server when it opens a file, it has recognised the grammar.
  */
 async function checkGrammar(display, file) {
   const settings = `${folder}/home/.config/kate/lspclient/settings.json`;

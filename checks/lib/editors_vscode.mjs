@@ -40,7 +40,7 @@ function makeProject() {
   writeFileSync(`${folder}/mcs4.toml`, "board = \"board.toml\"\nprogram = \"lock.asm\"\ntests = [\"lock.test\"]\nproperties = [\"lock.props\"]\n");
 }
 
-/** Sends the requests at the start. */
+/** Sends the requests that the editor sends when it starts. */
 async function begin(client) {
   const params = {
     processId: process.pid, clientInfo: { name: "Visual Studio Code", version: "1.85.0" }, locale: "en", rootPath: folder, rootUri: uriOf(""),
@@ -102,7 +102,7 @@ async function change(client, { colours, resultId }) {
   verdict((await client.request("textDocument/diagnostic", { textDocument })).items.length, 0, "the text with the correction");
 }
 
-/** Opens the other texts of the project, runs a test, and changes the board, so that the server requests a refresh. */
+/** Opens the other files of the project, runs a test, and changes the board, so that the server requests a refresh. */
 async function openOthers(client) {
   for (const [name, language] of [["lock.test", "mcs4-test"], ["lock.props", "mcs4-props"], ["board.toml", "toml"], ["mcs4.toml", "toml"]]) {
     open(client, name, language);

@@ -103,7 +103,7 @@ EXAMPLES = [
         "lamp left on and lamp middle on": "in ramport 0 line2 1 1 & in ramport 0 line1 1 1",
         "lamp middle on and lamp right on": "in ramport 0 line1 1 1 & in ramport 0 line0 1 1"}),
 ]
-# The answers of longer searches, which need a gigabyte of memory. checks/prove runs them only with more than its default number of seeds.
+# The answers of longer searches, which need a gigabyte of memory. checks/prove runs these searches only with more than its default number of seeds.
 LONGER_ANSWERS = {"counter.props": "holds 2240113"}
 # The values that each RAM port, by its index, can output in the examples that have mutants. The lock, the traffic light and the three lamps never
 # output other values, whatever is pressed.
@@ -122,7 +122,7 @@ AT_POWER_ON = "in counter 3 whole 0 0 & in counter 4 whole 0 0 & in counter 5 wh
 
 @dataclass
 class TimeLimit:
-    """A line of a properties file that limits a time: the comparisons that start and stop the stopwatch, the limit in cycles, and the answer.
+    """A line of a properties file that sets a time limit: the comparisons that start and stop the stopwatch, the limit in cycles, and the answer.
     `longest` is the longest possible time, or -1 if it is unknown because there are too many states."""
 
     props: str
@@ -182,7 +182,8 @@ TIME_LIMITS = [
     duration_question(THREE_LAMPS, "never lamps none for 1 ms", all_zero("ramport", [0]), 93, "holds 2", 7),
     TimeLimit(THREE_LAMPS, "every 6 ms @next", [AT_POWER_ON, "@next"], ["@next"], 556, "holds 2", 538),
 ]
-# Lines with a time limit that are not tested, because their conditions depend on the digits of a display and their programs have too many states.
+# Lines with a time limit that checks/prove does not test, because their conditions depend on the digits of a display and their programs have too many
+# states.
 UNTESTED_LINES = {"never display -0 and st.0.0.2 3 for 20 ms"}
 
 
@@ -224,7 +225,7 @@ class LimitedCondition:
     value_count: int
 
     def question(self, limits: InputLimits) -> Question:
-        """Returns the question with these limits."""
+        """Returns the question of whether the condition can become true within these limits."""
         question = question_of(self.props, [self.condition], 1000000, 1000000)
         question.limits = limits
         return question
@@ -254,13 +255,13 @@ def press_lines(props: str) -> list[str]:
 
 
 def time_lines(props: str) -> list[str]:
-    """Returns the lines of a properties file that limit a time, except the limits of key presses and the untested lines."""
+    """Returns the lines of a properties file that set a time limit, except those that limit key presses and those in UNTESTED_LINES."""
     lines = (EXAMPLE_FILES / props).read_text().splitlines()
     return [line for line in lines if re.match(r"never .* for \d|every |@\S+ to ", line) and line not in UNTESTED_LINES]
 
 
 def never_conditions(props: str) -> list[str]:
-    """Returns the conditions of the `never` lines in a properties file, except those with a time."""
+    """Returns the conditions of the `never` lines in a properties file, except those with a duration."""
     lines = (EXAMPLE_FILES / props).read_text().splitlines()
     return [line.removeprefix("never ") for line in lines if line.startswith("never ") and " for " not in line]
 

@@ -99,7 +99,7 @@ def trace_row(board: Board, cycle: int, details: str, source: Source | None, wit
 
 
 def trace_output(start: Board, cycles: int, last_count: int = 0, source: Source | None = None, with_lines: bool = False) -> str:
-    """Returns the output of `mcs4 trace` for the next cycles. With `last_count`, stops as a run does, and returns only that number of last rows."""
+    """Returns the output of `mcs4 trace` for the next cycles. With `last_count`, stops as a run does, and returns only the last `last_count` rows."""
     board, reason, cycle, rows = start.copy(), "end", 0, []
     if last_count:
         cycles, reason = start.copy().run(cycles)
@@ -152,7 +152,8 @@ def wave_output(start: Board, cycles: int, names: list[str], source: Source) -> 
 
 
 def read_vcd(text: str) -> tuple[list[str], Changes, int]:
-    """Parses a VCD file. Returns the names of its lines, their changes, and its end in cycles. A time that is not a whole number of cycles is -1."""
+    """Parses a VCD file. Returns the names of its lines, their changes, and its end in cycles. A time that is not a whole number of cycles becomes
+    -1."""
     names: dict[str, str] = {}
     changes: Changes = {}
     cycle = 0
@@ -272,7 +273,7 @@ def profile_output(start: Board, cycles: int, source: Source) -> str:
 # ---- cycles
 
 def duration_text(cycles: int) -> str:
-    """Returns a text with a number of cycles and the time that a 4004 needs for them."""
+    """Returns a number of cycles, and the time that a 4004 needs for them, as text."""
     tenths = 108 * cycles
     return f"{cycles} cycle{'' if cycles == 1 else 's'}, {tenths // 10}.{tenths % 10} microseconds"
 

@@ -1,5 +1,5 @@
-// Starts the extension of editors/vscode with a stand-in for the editor's module and the real `mcs4 lsp`. Opens a text with an error and checks the
-// results of the providers. Prints `ok TEXT` or `failed: TEXT` for each check.
+// Starts the extension of editors/vscode with a stand-in for the editor's module and the real `mcs4 lsp`. Opens a program with an error and checks
+// the results of the providers. Prints `ok TEXT` or `failed: TEXT` for each check.
 import { createRequire } from "node:module";
 import { mkdirSync, mkdtempSync, readFileSync, rmSync, writeFileSync } from "node:fs";
 import { tmpdir } from "node:os";
@@ -23,7 +23,7 @@ class Plain {
     this.given = given;
   }
 }
-/** The texts whose language the extension has set, with these languages. */
+/** The names of the documents whose language the extension has set, each with this language. */
 const assignedLanguages = [];
 const setTextDocumentLanguage = async (document, language) => {
   assignedLanguages.push([document.fileName, language]);
@@ -104,7 +104,7 @@ const vscode = {
     "DocumentLink", "SymbolInformation", "CallHierarchyItem", "CallHierarchyIncomingCall", "CallHierarchyOutgoingCall"].map((name) => [name, class extends Plain {}])),
 };
 
-/** Checks the extension's features other than hover, names and diagnostics, in a text with the lines `start:  JUN start` and `LDM 3`. */
+/** Checks the extension's features other than hover, names and diagnostics, in a program with the lines `start: JUN start` and `LDM 3`. */
 async function tryFeatures() {
   const [formatted] = await providers.registerDocumentRangeFormattingEditProvider
     .provideDocumentRangeFormattingEdits(document, { start: { line: 1, character: 0 }, end: { line: 1, character: 3 } }, { tabSize: 4, insertSpaces: true })

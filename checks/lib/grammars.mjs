@@ -1,7 +1,7 @@
-// Prints the syntax highlighting of a text, so that a grammar can be compared with the page: `node grammars.mjs page|textmate|kate
-// NAME.asm|board.toml`. Prints one letter for each character of the text: the kind of highlighting that the page or the grammar's editor
-// gives it. The letters are `c` comment, `l` label, `k` name that `=` defines, `i` instruction, `d` directive, `r` register, `n` number,
-// `v` other name, `t` table, `p` key, `s` string. The character `.` is text without highlighting.
+// Prints the syntax highlighting of a file, so that a grammar can be compared with the page: `node grammars.mjs page|textmate|kate
+// NAME.asm|board.toml`. Prints one letter for each character of the file: the kind of highlighting that the page or the grammar's editor gives it.
+// The letters are `c` comment, `l` label, `k` name that `=` defines, `i` instruction, `d` directive, `r` register, `n` number, `v` other name, `t`
+// table, `p` key, `s` string. A `.` stands for a character without highlighting.
 import { readFileSync } from "node:fs";
 import { readInstructions } from "../../js/core/help/manual.js";
 import { BoardLanguage } from "../../js/core/server/board_language.js";

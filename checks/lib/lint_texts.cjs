@@ -1,5 +1,5 @@
-// Prints the messages of ESLint about texts: `NODE_PATH=/usr/share/nodejs node lint_texts.cjs < LINES`, in the folder js. Each line has the name of a
-// module, a space, and the text of the module. The output has one line for each module, with its messages. One process reads all texts, because
+// Prints the messages of ESLint about modules: `NODE_PATH=/usr/share/nodejs node lint_texts.cjs < LINES`, in the folder js. Each line has the name of
+// a module, a space, and the text of the module. The output has one line for each module, with its messages. One process reads all modules, because
 // starting ESLint takes most of the time.
 const eslint = require("eslint");
 

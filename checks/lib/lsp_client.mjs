@@ -32,20 +32,20 @@ export class Client extends MessageClient {
     return result;
   }
 
-  /** Sends the requests at the start, and resolves to the answer to `initialize`. */
+  /** Sends the requests that begin a session, and resolves to the answer to `initialize`. */
   async begin() {
     const answer = await this.request("initialize", { processId: process.pid, rootUri: null, capabilities: {} });
     this.notify("initialized", {});
     return answer;
   }
 
-  /** Opens a text, and waits until the server has reported its errors. Resolves to these errors. */
+  /** Opens a document, and waits until the server has reported its errors. Resolves to these errors. */
   async open(uri, text, languageId = "asm") {
     this.notify("textDocument/didOpen", { textDocument: { uri, languageId, version: 1, text } });
     return this.errorsIn(uri);
   }
 
-  /** Waits for the errors in a text, and resolves to them. */
+  /** Waits for the errors in a document, and resolves to them. */
   async errorsIn(uri) {
     const { params } = await this.next((message) => message.method === "textDocument/publishDiagnostics" && message.params.uri === uri);
     return params.diagnostics;

@@ -104,7 +104,7 @@ class Firefox(BrowserDriver):
         self.send_command("WebDriver:ElementClick", id=element)
 
     def send_to_element(self, element, text):
-        """Types a text into the element with an id."""
+        """Types text into the element with an id."""
         self.send_command("WebDriver:ElementSendKeys", id=element, text=text)
 
     def actions(self, *sources):

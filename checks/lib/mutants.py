@@ -98,15 +98,15 @@ BOARD_MUTANTS: dict[str, Callable[[], AbstractContextManager]] = {
 }
 
 
-# ---- tools that compare texts as numbers if the texts look like numbers
+# ---- tools that compare strings as numbers if the strings look like numbers
 
 def as_number(text: str) -> object:
-    """Converts a text to the number that it looks like, or returns the text."""
+    """Converts a string to a number if it looks like one. Otherwise returns it unchanged."""
     return float(text) if re.fullmatch(r"[0-9]+(E[0-9]+)?", text) else text
 
 
 def changes_compared_as_numbers(before: Board, after: Board) -> list[str]:
-    """Returns the changes by an instruction, except changes of chains whose texts are equal as numbers."""
+    """Returns the changes by an instruction, except changes of chains whose strings are equal as numbers."""
     chains = ["".join(str(bit) for bit in chain) for chain in before.chips.chains]
     return [change for change in CORRECT_CHANGES_BETWEEN(before, after)
             if not change.startswith("chain") or as_number(change.split()[1]) != as_number(chains[int(change[5])])]

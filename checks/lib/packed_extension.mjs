@@ -1,7 +1,7 @@
 // Checks that the packed extension for Visual Studio Code works if nothing else of Fethsaim is installed: `node packed_extension.mjs EXTENSION
 // FOLDER`. EXTENSION is the unpacked extension, and FOLDER is a folder for a workspace. The script acts like the editor, with a stand-in for its
-// module. It activates the extension, opens a text, waits for errors, runs and debugs a test, opens the front panel, lets a board print, and runs a
-// task. Prints `ok TEXT` or `failed: TEXT` for each check.
+// module. It activates the extension, opens a program, waits for errors, runs and debugs a test, opens the front panel, lets a board print, and runs
+// a task. Prints `ok TEXT` or `failed: TEXT` for each check.
 import { spawnSync } from "node:child_process";
 import { copyFileSync, cpSync, existsSync, mkdirSync, readFileSync, writeFileSync } from "node:fs";
 import Module, { createRequire } from "node:module";
@@ -177,7 +177,7 @@ function keyPositionOf(legend) {
   return `${row} ${keys.indexOf(legend)}`;
 }
 
-/** Returns the problems that the problem matchers of package.json find in a text. */
+/** Returns the problems that the problem matchers of package.json find in `text`. */
 function problemsIn(text, matchers) {
   return text.split("\n").flatMap((line) => matchers.flatMap(({ pattern: { regexp, file, line: lineGroup, message } }) => {
     const match = new RegExp(regexp).exec(line);

@@ -1,6 +1,6 @@
 """The part of checks/page about accessibility: the order in which the Tab key reaches the panels, and announcements of answers. In Chromium, it also
-checks the names, roles and states that the browser reports to a screen reader (the accessibility tree). There, it checks the contrast of all texts,
-borders, marks and lamps in both colour schemes."""
+checks the names, roles and states that the browser reports to a screen reader (the accessibility tree). There, it also checks the contrast of all
+text, borders, marks and lamps in both colour schemes."""
 
 import re
 
@@ -227,8 +227,8 @@ def check_dialogs(browser):
     eventually(browser, "Escape closes the question", "return document.querySelectorAll('#ask[open]').length", 0)
 
 
-# Returns descriptions of at most 12 texts, borders, marks, lamps and lines with too little contrast. Computes the contrast as WCAG defines it, and
-# blends a transparent colour with its background.
+# Returns descriptions of at most 12 pieces of text, borders, marks, lamps and lines with too little contrast. Computes the contrast as WCAG defines
+# it, and blends a transparent colour with its background.
 FIND_LOW_CONTRAST = """
 const parts = (text) => (text.match(/[\\d.]+/g) || []).map(Number);
 const blend = (text, ground) => {

@@ -58,7 +58,7 @@ def hash_of(script):
 
 def write_altered_page(page, folder, page_code="", worker_code="", replacements=()):
     """Writes a copy of a page, with `page_code` before the page's script and `worker_code` before the worker's script. Each pair in `replacements`
-    replaces the first occurrence of a text, which must exist. Returns the copy's path."""
+    replaces the first occurrence of a string, which must exist. Returns the copy's path."""
     text = page.read_text()
     if page_code:
         text = text.replace("<body>", f"<body><script>{page_code}</script>", 1)

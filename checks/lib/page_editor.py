@@ -9,7 +9,7 @@ from verdicts import eventually, verdict
 CONTROL, SHIFT, ALT, ENTER, ESCAPE, TAB = "\ue009", "\ue008", "\ue00a", "\ue007", "\ue00c", "\ue004"
 END, DOWN, F2, F9, F12, BACKSPACE = "\ue010", "\ue015", "\ue032", "\ue039", "\ue03c", "\ue003"
 PROGRAM_EDITOR, BOARD_EDITOR = "#program-editor", "#board-editor"
-# A text at the limit: 16,381 bytes without comments and indentation, 36,497 bytes with them.
+# A program at the limit: 16,381 bytes without comments and indentation, 36,497 bytes with them.
 LONGEST_TEXT = "; a line of a comment, with words in it, and then some more of them\n" * 240 + "\tNOP\n" * 4035 + ";\n"
 
 GET_SCROLL_TOP = "return document.querySelector('#program-editor .cm-editor').lineEditor.getScrollInfo().top"
@@ -22,8 +22,8 @@ GET_STATUS_OF = "return document.querySelector('{} .status-text').textContent"
 GET_EXPLANATION = "return document.querySelector('{} .meaning').textContent"
 GET_LISTING = "return document.querySelector('#lines-of-program').textContent"
 IS_FOCUS_IN_PROGRAM = "return document.activeElement.closest('.paper') !== null"
-# Scrolls to the end of a text. Returns the last line number, whether the text is wider than its box, and whether each visible line number is beside
-# a line.
+# Scrolls an editor to the end of its text. Returns the last line number, whether the text is wider than its box, and whether each visible line number
+# is beside a line.
 GET_LINE_NUMBERS = f"""{FIND_EDITOR}
 editor.scrollTo(1e6);
 editor.view.scrollDOM.scrollLeft = 1000;
@@ -247,7 +247,7 @@ return lines.length > 20 && lines.every((line) => line.querySelector('span') !==
 
 
 def check_limits(browser):
-    """Checks that typing stays fast in a text of maximum length, and that a longer text is rejected with a message."""
+    """Checks that typing stays fast in a program of maximum length, and that a longer program is rejected with a message."""
     set_text(browser, PROGRAM_EDITOR, LONGEST_TEXT)
     eventually(browser, "the size of the text", f"return document.querySelector('{PROGRAM_EDITOR} .size').textContent", "16,381 of 16,384 bytes")
     key_time, slowdown = browser.script(MEASURE_KEY_TIMES, PROGRAM_EDITOR, 120), browser.script(MEASURE_SLOWDOWN)
@@ -355,7 +355,7 @@ def check_board_text(browser):
 
 def compose(browser, *words, replaced_range=None):
     """Enters words as a phone's keyboard does: as one composition that takes the value of each word in turn. The composition replaces the text in
-    `replaced_range`, from the first offset to the second, if there is one."""
+    `replaced_range`, from the first offset to the second, if this range is not None."""
     range_parameters = {"replacementStart": replaced_range[0], "replacementEnd": replaced_range[1]} if replaced_range else {}
     for word in words:
         browser.command("Input.imeSetComposition", text=word, selectionStart=len(word), selectionEnd=len(word), **range_parameters)

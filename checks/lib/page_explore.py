@@ -3,8 +3,8 @@
 The check inserts an error into an example's program, and the page must find it. The counterexample must be the same as that of `mcs4 explore` with
 the same seed, and the session must keep running during the search. The counterexample opens as a session. Its test can be added to the tests, where
 it fails. A search can be stopped. Errors in properties, seconds and boards are reported. The check also covers a program with so few states that its
-properties are proved, and a search from a saved state. It also covers the keyboard, a phone's width, and saving the text with the session and in a
-project."""
+properties are proved, and a search from a saved state. It also covers the keyboard, a phone's width, and saving the properties with the session and
+in a project."""
 
 import os
 import re
@@ -33,7 +33,7 @@ GET_CYCLES = "return Number(document.getElementById('cycles').textContent.match(
 GET_COUNTEREXAMPLE_TEST = "return document.querySelector('#property-list pre').textContent"
 CONTROL, ENTER = "\ue009", "\ue007"
 LOCK = TOP / "examples/lock"
-# The seconds for a search. Page and tool must use the same number, because the limit for minimising a counterexample depends on it.
+# The time limit of a search in seconds. Page and tool must use the same number, because the limit for minimising a counterexample depends on it.
 SEARCH_SECONDS = 10
 
 

@@ -68,7 +68,7 @@ GET_EARLY_ANNOUNCEMENTS = "return window.saidEarly.join(' ')"
 
 
 def lamps_pattern(names):
-    """Returns a pattern that matches only the complete text `names`, which lists the names and states of lamps."""
+    """Returns a pattern that matches only the complete string `names`, which lists the names and states of lamps."""
     return re.compile("^" + re.escape(names) + "$")
 
 
@@ -92,7 +92,7 @@ def check_traffic_light(browser):
 
 
 def check_test_button(browser):
-    """Checks that the TEST button WALK is down only while it is held by finger, letter or space bar. While paused, a click must toggle it."""
+    """Checks that the TEST button WALK is down only while it is held by finger, letter or space bar. While time is paused, a click must toggle it."""
     verdict("TEST is a button with its name", browser.text(f"{TEST_KEY} b"), "WALK")
     verdict("the other TEST button is hidden", browser.script("return document.getElementById('test').hidden"), True)
     browser.script(f"window.presses = []; new MutationObserver(() => window.presses.push(document.querySelector('{TEST_KEY}')"

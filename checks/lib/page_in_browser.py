@@ -348,7 +348,7 @@ def show_text(browser, name):
 
 
 def status_of(browser, editor, text):
-    """Puts a text into an editor (such as `#board-editor`) and presses its button. Returns the message that appears."""
+    """Puts text into an editor (such as `#board-editor`) and presses its button. Returns the message that appears."""
     show_text(browser, editor[1:].removesuffix("-editor"))
     browser.script(PUT_INTO_EDITOR, editor, text)
     browser.click(f"{editor} .send")

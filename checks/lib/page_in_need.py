@@ -23,7 +23,7 @@ FILL_STORE = """
 window.put = IDBObjectStore.prototype.put;
 IDBObjectStore.prototype.put = () => { throw new DOMException("", "QuotaExceededError"); }"""
 
-# Returns the texts of the visible buttons and fields.
+# Returns the text of each visible button and field.
 GET_SHOWN_CONTROLS = """
 return [...document.querySelectorAll("button, input, select, textarea")].filter(isShown)
   .map((each) => each.textContent)"""

@@ -585,7 +585,7 @@ return [...document.querySelectorAll("#bench *")].filter((node) => isShown(node)
 
 
 def check_print(browser):
-    """Checks that a printout has the source, the board's text and the lamps, but no buttons, fields and editors."""
+    """Checks that a printout has the source, the board's text and the lamps, but no buttons, fields or editors."""
     has_board = browser.script("return document.querySelector('#board-title') !== null")
     emulate_media(browser, media="print")
     eventually(browser, "the number of printed texts", "return document.querySelectorAll('#print h2').length", 2)

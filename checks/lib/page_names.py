@@ -105,7 +105,7 @@ def read_listing(mcs4):
 
 
 def with_single_spaces(text):
-    """Returns a text with one space between its words."""
+    """Returns `text` with one space between its words."""
     return " ".join(text.split())
 
 

@@ -25,7 +25,7 @@ SEND_SEQ = """
 window.before = document.getElementById("log").textContent.length;
 document.getElementById("lines").value = "seq";
 document.getElementById("send").click()"""
-# True if the line of SEND_SEQ is answered. If the log is shorter than before, another session was opened, whose log began empty.
+# True if the line that SEND_SEQ sends has been answered. If the log is shorter than before, another session was opened, whose log began empty.
 IS_SEQ_ANSWERED = """
 const text = document.getElementById("log").textContent;
 return /seq \\d+/.test(text.slice(window.before > text.length ? 0 : window.before))"""
@@ -98,7 +98,7 @@ def file_drops():
 
 
 def check_dropped_files(browser):
-    """Checks that each set of dropped files is opened, causes a question, or is rejected with a message."""
+    """Checks that each set of dropped files is opened, prompts the user with a question, or is rejected with a message."""
     choose_example(browser, "three lamps")
     for drop in file_drops():
         browser.script(CLOSE_ALL)
@@ -115,7 +115,7 @@ def check_dropped_files(browser):
 
 
 def check_invalid_numbers(browser):
-    """Checks that numbers out of range and other texts are rejected in the fields for numbers."""
+    """Checks that numbers out of range, and input that is not a number, are rejected in the fields for numbers."""
     choose_example(browser, "three lamps")
     browser.click("#run")
     browser.until(GET_STATUS, re.compile("^Paused"))
@@ -157,7 +157,7 @@ def check_many_clicks(browser):
 
 
 def check_reload_after_edit(browser):
-    """Checks that a text that was typed immediately before a reload is restored."""
+    """Checks that text that was typed immediately before a reload is restored."""
     choose_example(browser, "three lamps")
     browser.script(PUT_INTO_EDITOR, "#program-editor", PROGRAM)
     browser.reload()

@@ -1,7 +1,7 @@
 """The part of checks/page about proofs. The page proves the properties of an example with the same numbers of states as `mcs4 prove`. Editing a text
 removes the mark that shows that a property is proved, and undoing the edit restores it. A proof can be cancelled. A counterexample opens before the
-step that breaks its property, and time can go back from there. The check also covers goals, wrong numbers and texts, the keyboard, and a phone's
-width."""
+step that breaks its property, and time can go back from there. The check also covers goals, invalid numbers and properties, the keyboard, and a
+phone's width."""
 
 import os
 import re
@@ -51,7 +51,8 @@ def prove_to_end(browser, description, states=1000000):
 
 
 def prove_with_tool(browser, folder, mcs4):
-    """Runs `mcs4 prove` with the page's texts. Returns a text and a number of states for each proved property, and then for each kind of mistake."""
+    """Runs `mcs4 prove` with the page's texts. Returns the description and the number of states of each proved property, and then of each kind of
+    mistake."""
     names = [("board", "board.toml"), ("program", "program.asm"), ("properties", "some.props")]
     for name, file in names:
         (folder / file).write_text(text_of(browser, name))

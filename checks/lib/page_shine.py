@@ -68,7 +68,7 @@ def check_pulses(browser, speed):
 
 
 def check_lamps_while_paused(browser):
-    """Checks that while paused, each lamp is either on or off, as the bench reports it."""
+    """Checks that while time is paused, each lamp is either on or off, as the bench reports it."""
     browser.click("#run")
     eventually(browser, "the program is paused", GET_STATUS, re.compile("^Paused"))
     marks = re.search(r"lamps ([.*]+)", send_lines(browser, "lamps")).group(1)
@@ -101,7 +101,7 @@ def check_shifted_display(browser):
 
 
 def check_clock(browser):
-    """Checks that the clock's multiplexed display shows the time while running, and at most one digit while paused."""
+    """Checks that the clock's multiplexed display shows the time while the program runs, and at most one digit while it is paused."""
     choose_example(browser, "clock")
     eventually(browser, "the multiplexed display shows the time", GET_DIGITS, re.compile(r"^12\.?00$"))
     record_brightness(browser, 1500)
@@ -116,7 +116,7 @@ def check_clock(browser):
 
 
 def check_pictures(browser):
-    """Checks that a multiplexed matrix of lamps shows its pictures while running, and at most one row while paused."""
+    """Checks that a multiplexed matrix of lamps shows its pictures while the program runs, and at most one row while it is paused."""
     choose_example(browser, "pictures")
     rows_script = ("const bulbs = [...document.querySelectorAll('.matrix .bulb')].map((bulb) => (bulb.classList.contains('lit') ? '*' : '.'));"
             "return Array.from({ length: 8 }, (_, row) => bulbs.slice(8 * row, 8 * row + 8).join('')).join(' ')")

@@ -35,7 +35,7 @@ def press_tab_until(browser, description, code, max_presses=90):
 
 
 def type_keys(browser, text):
-    """Types a text on the keyboard."""
+    """Types text on the keyboard."""
     browser.keys([*text], 2, 2)
 
 

@@ -1,4 +1,4 @@
-"""The part of checks/page about the printer tape. Operands and results are printed, by pointer and keyboard, in real time and at full speed. Also
+"""The part of checks/page about the printer tape. Calculations by pointer and keyboard must be printed, in real time and at full speed. Also
 about going back, a reload, clearing, and errors in the description of a printer."""
 
 import re

@@ -1,6 +1,6 @@
 """The part of checks/page about the tests of programs. An example's tests pass. An error in the program makes a test fail at one of its lines, and
-the session opens in the state of that failure. The source shows how often each line ran. Also: a text with errors, a text without tests, a run that
-is cancelled, and saving the text with the session and in a project."""
+the session opens in the state of that failure. The source shows how often each line ran. The check also covers errors in the tests text, a text
+without tests, a run that is cancelled, and saving the tests with the session and in a project."""
 
 import re
 import time
@@ -110,7 +110,7 @@ PASSED_MESSAGE = re.compile(r"^(The test|All \d+ tests) passed\.$")
 
 
 def check_examples(browser):
-    """Checks that each example's tests pass, and so does the sample test of its board."""
+    """Checks that each example's tests pass, and that the sample test of its board passes, too."""
     examples = browser.script(GET_EXAMPLES)
     verdict("the page has at least 17 examples", len(examples) >= 17, True)
     for example in examples:

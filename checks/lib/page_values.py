@@ -42,7 +42,7 @@ VALUE_CELL = "#program-editor .meaning button.value"
 
 
 def line_of(text):
-    """Returns the number, from 1, of the first source line that contains a text."""
+    """Returns the number, from 1, of the first source line that contains `text`."""
     return LINES.index(next(line for line in LINES if text in line)) + 1
 
 
@@ -55,7 +55,7 @@ def point_until_shown(browser, line, word, query, expected):
 
 
 def run_to_add(browser):
-    """Runs the program to ADD, the instruction after RDM. R5 is then 1, and the nibble that the program writes is 7. Also checks texts that the page
+    """Runs the program to ADD, the instruction after RDM. R5 is then 1, and the nibble that the program writes is 7. Also checks words that the page
     shows in the new session."""
     browser.script("document.getElementById('change-place').value = 'nonsense'")
     choose_example(browser, "empty bench")
@@ -90,7 +90,7 @@ def check_values_at_pointer(browser):
 
 
 def check_edited_value(browser):
-    """Checks that the value of R5 is shown below the text when the caret is there, and that it can be edited there."""
+    """Checks that the value of R5 is shown below the source when the caret is at R5, and that it can be edited there."""
     browser.script(SET_CARET, line_of("INC R5"), "R5")
     eventually(browser, "the value at the caret", GET_EXPLANATION, "R5 = 1. R5: the lower half of P2.")
     browser.script(f"document.querySelector('{VALUE_CELL}').focus()")

@@ -1,4 +1,4 @@
-"""Finds errors in the sentences of documents, comments and shown texts: sentences that are too long, and words that have a better replacement."""
+"""Finds errors in the sentences of documents, comments and shown strings: sentences that are too long, and words that have a better replacement."""
 
 import re
 
@@ -77,7 +77,7 @@ def sentences_of(text):
 
 
 def errors_of(text):
-    """Yields descriptions of the errors in the sentences of a text, with the numbers of their lines."""
+    """Yields descriptions of the errors in the sentences of `text`, with the numbers of their lines."""
     for number, sentence in sentences_of(text):
         if sentence.startswith(tuple(EXCEPTIONS)):
             continue

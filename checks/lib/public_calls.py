@@ -75,7 +75,7 @@ def calls_in(lines, index, pattern):
 def fields_of(lines, index):
     """Returns the variants of an enum, or the public fields of a struct."""
     if lines[index].endswith(";"):
-        # A struct whose fields have no names.
+        # A struct whose fields have no names has all of them on its first line.
         return [lines[index][lines[index].index("("):-1]] if "(" in lines[index] else []
     body = re.sub(r"\s+", " ", " ".join(block_at(lines, index)))
     return [part.removeprefix("pub ") for part in parts_of(body) if " enum " in f" {lines[index]} " or part.startswith("pub ")]

@@ -1,4 +1,4 @@
-"""Random boards, programs and commands, reproducible from a seed. All of them are texts as a user types them.
+"""Random boards, programs and commands, reproducible from a seed. All of them are text as a user types it.
 
 Many contain details that tools once reported incorrectly. Some parsers read addresses such as 0E0 and 1E2, and the names `inf` and `nan`, as numbers.
 A chain of up to 80 bits is clocked often.
@@ -89,8 +89,8 @@ class Program:
         self.names = self.random_labels()
 
     def put_phrases(self, address: int, phrase_count: int) -> None:
-        """Adds phrases (short sequences of instructions) from an address on, as far as there is room. Usually ends them by a jump, or by a code that
-        is not an instruction."""
+        """Adds phrases (short sequences of instructions) from an address on, as far as there is room. Usually ends them with a jump, or with a code
+        that is not an instruction."""
         statement = [word for _n in range(phrase_count) for word in self.phrase()]
         self.put(address, statement + self.rng.choice([["JUN"], ["JUN"], ["BBL 3"], [f"DB 0x{self.rng.choice(INVALID_CODES):02X}"], []]))
 

@@ -41,7 +41,7 @@ def chain_line(chain, bit):
 
 
 def name_of(line):
-    """Returns the name of a line in texts, for example rom0.3."""
+    """Returns the name of a line in a board's text, for example rom0.3."""
     kind, *numbers = line
     return ("rom{}.{}", "ram{}.{}.{}", "chain{}.{}")[kind].format(*numbers)
 

@@ -348,7 +348,7 @@ class Run:
             time.sleep(0.2)
 
     def show(self, text):
-        """Prints a text in place of the progress line."""
+        """Prints text in place of the progress line."""
         print(f"\r\033[K{text}" if sys.stdout.isatty() else text, flush=True)
 
     def progress(self):

@@ -123,7 +123,7 @@ export function standIn(folder, settings = {}) {
   };
   const languages = new Proxy({
     createDiagnosticCollection: () => ({ set: (uri, list) => shown.diagnostics.set(uri.toString(), list), dispose: () => {} }),
-    // The editor closes a text and opens it again when its language changes.
+    // The editor closes a document and opens it again when its language changes.
     setTextDocumentLanguage: async (document, languageId) => {
       events.close.fire(document);
       document.languageId = languageId;
@@ -196,7 +196,7 @@ export function standIn(folder, settings = {}) {
     };
     return view;
   }
-  /** Opens a text as the editor does: first with the language that package.json assigns to its name. */
+  /** Opens a document as the editor does: first with the language that package.json assigns to its name. */
   function open(name, languageId) {
     const uri = Uri.file(join(folder, name));
     const text = readFileSync(uri.fsPath, "utf8");

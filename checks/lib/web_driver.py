@@ -80,7 +80,7 @@ class WebDriver(BrowserDriver):
         self.do("POST", f"/element/{element}/click", {})
 
     def send_to_element(self, element, text):
-        """Types a text into the element with an id."""
+        """Types text into the element with an id."""
         self.do("POST", f"/element/{element}/value", {"text": text})
 
     def actions(self, *sources):

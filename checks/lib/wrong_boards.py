@@ -89,7 +89,7 @@ CHANGES = (remove_key, add_key, set_invalid_value, set_invalid_value, replace_li
 
 
 def spoil_text(rng, text):
-    """Returns a text with characters added, removed or replaced, with one line more or fewer, or without its end."""
+    """Returns `text` with characters added, removed or replaced, with one line more or fewer, or without its end."""
     for _n in range(rng.choice([1, 1, 2, 5])):
         index = rng.randrange(len(text) + 1)
         lines = text.split("\n")
@@ -103,7 +103,7 @@ def spoil_text(rng, text):
 
 
 def top_line(rng):
-    """Returns a line to insert at the top of a board's text, which is usually an error there."""
+    """Returns a line to insert at the top of a board's text. The line is usually an error there."""
     section, value = rng.choice([*KINDS, *UNKNOWN_KEYS[:6]]), rng.choice(["1", "[1]", "[{}, 2]", "{}", "{ chip = 1 }", '"a"', "[\n]"])
     return f"{section}{rng.choice(EQUALS)}{value}{rng.choice(TEXT_ENDS)}"
 

@@ -1,11 +1,11 @@
-"""Invalid and unusual input for mcs4-prove, with the expected answers: invalid lines, rejected texts, and texts at the limits that are accepted."""
+"""Invalid and unusual input for mcs4-prove, with the expected answers: invalid lines, rejected texts, and accepted texts at the limits."""
 
 from __future__ import annotations
 
 BOARD = ["wire", "[[rom]]", "chip = 0", 'port = "0000"', "."]
 PROGRAM = ["asm", "next: RDR", " JUN next", "."]
 QUESTION_LINES = ["most 9", "pause 9", *BOARD, *PROGRAM]
-# Lines that are invalid in a question, after the lines in QUESTION_LINES.
+# Lines that are invalid in a question if they follow the lines in QUESTION_LINES.
 INVALID_LINES = [
     "most", "most x", "most -1", "most 1 2", "most 4000000001", f"most {'9' * 5000}", "most 0x", "most 1.5", "Most 1", "pause", "pause 0", "pause 1000000001",
     "pause 0x", "memory", "memory x", "memory 1000001", "wire", "wire x", "asm", "asm x", ".", "[[rom]]", "never x", "nevermore", "prove it", "proved",

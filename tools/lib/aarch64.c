@@ -1,5 +1,5 @@
 /* The C functions of the Rattle kit that the program calls (the heap, errno, the arguments), for Linux on aarch64. The kit contains them compiled
- * only for x86-64. Each function does the same as the kit's function of that name, by the same calls of the C library. */
+ * only for x86-64. Each function does the same as the kit's function of that name, with the same calls of the C library. */
 #include <errno.h>
 #include <stdint.h>
 #include <stdlib.h>

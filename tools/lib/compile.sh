@@ -1,5 +1,5 @@
 # Functions that compile a crate once more, for another processor or only as an object file, with the libraries that the gate or tools/build has
-# proved here. A script reads this file by `.`, after tools/lib/sums.sh.
+# proved here. A script reads this file with `.`, after tools/lib/sums.sh.
 # shellcheck shell=sh
 
 # Prints the name of the file that lists the libraries on which a crate depends, as they were built here. Each has the checksum of its file `format`,

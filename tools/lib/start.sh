@@ -1,4 +1,4 @@
-# Functions that find the program to start, such as need_program. A script reads this file by `.`, after it has set `top`, the folder of the
+# Functions that find the program to start, such as need_program. A script reads this file with `.`, after it has set `top`, the folder of the
 # repository.
 # shellcheck shell=sh disable=SC2034
 
@@ -90,7 +90,7 @@ is_installed() {
     [ -f "$top/installed" ] && [ ! -e "$top/crates.txt" ]
 }
 
-# The beginnings of two messages: for a program for other systems, and for a program that is for this system but does not run.
+# The beginnings of two messages: the program is for another system, and the program is for this system but does not run.
 other_system_text="it is for Linux on"
 not_running_text="it does not run on this system"
 
@@ -103,7 +103,7 @@ is_other_system() {
     reason="$other_system_text x86-64, and this is $(uname -s) on $(uname -m)"
 }
 
-# Succeeds if `reason` says that the program is for another system, so that no program can be built here. Commands then run on the proved module.
+# Succeeds if no program runs on this system, as `reason` says, and none can be built here. Commands then run on the proved module.
 is_without_program() {
     case $reason in
     "$other_system_text"*) ;;
@@ -112,7 +112,8 @@ is_without_program() {
     esac
 }
 
-# Sets `program` to an installed program, or `reason` to the reason why it cannot be started. Arguments: its file, and the name of its checksum.
+# Sets `program` to an installed program, or `reason` to a message that says why it cannot be started. Arguments: its file, and the name of its
+# checksum.
 find_installed() {
     if { [ ! -x "$1" ] || [ ! -e /lib64/ld-linux-x86-64.so.2 ]; } && is_other_system; then
         return

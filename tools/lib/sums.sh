@@ -1,4 +1,4 @@
-# Checksums of the sources that the program and the page are made from. A script reads this file by `.`, after it has set `top`, the folder of
+# Checksums of the sources that the program and the page are made from. A script reads this file with `.`, after it has set `top`, the folder of
 # the repository. It needs sha256sum (Debian's package coreutils).
 # shellcheck shell=sh disable=SC2034
 
@@ -165,8 +165,8 @@ sum_of_module() {
     } | sum_of_input
 }
 
-# Prints the checksum of the sources of the page: its module, the page's folder without generated files, the modules in js, and the examples. Also the
-# tables that tools and page share, and the manual, whose tables the page shows.
+# Prints the checksum of the sources of the page: its module, the page's folder without generated files, the modules in js, and the examples. It also
+# covers the tables that tools and page share, and the manual, whose tables the page shows.
 sum_of_page() {
     {
         sum_of_module

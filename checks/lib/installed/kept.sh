@@ -18,7 +18,7 @@ add_user_files() {
     chmod 600 "$library_folder/private/mine"
 }
 add_user_files
-# Changes three installed files: appends a comment to each. Argument: its text.
+# Changes three installed files: appends a comment to each. Argument: the text of the comment.
 change_files() {
     for each in lib/fethsaim/examples/calculator/board.toml share/man/man1/mcs4.1 lib/fethsaim/mcs4; do echo "# $1" >> "$prefix/$each"; done
 }

@@ -1,7 +1,7 @@
 """The images that a power cut can leave on a disk, computed from the list of events on it.
 
-A write is durable once a flush has been answered that arrived after the write was answered. All other writes are pending. An image has none of the
-pending writes (`none`), all of them (`all`), or all, none or random sectors of each one (`some`).
+A write is durable once the disk has answered a flush that arrived after the answer to the write. All other writes are pending. An image has none of
+the pending writes (`none`), all of them (`all`), or all, none or random sectors of each one (`some`).
 
 The list of events also contains the program's acknowledgements. So for a cut after any event, the allowed numbers of commands are known. At least the
 acknowledged commands must be found, and at most one more, which was sent after them.

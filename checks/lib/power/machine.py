@@ -31,7 +31,7 @@ echo ready
 while read -r line; do eval "$line"; echo "done $?"; done
 """
 # `clearcpuid=cx16`: Linux 6.12 triggers a bug of CMPXCHG16B in QEMU 7.2 without KVM. `no_timer_check`: on a busy host, the kernel would consider
-# its timer broken. The default processor is too old for Debian's glibc.
+# its timer broken. QEMU's default processor is too old for Debian's glibc.
 KERNEL_ARGUMENTS = "console=ttyS0 loglevel=5 panic=-1 mitigations=off random.trust_cpu=on clearcpuid=cx16 no_timer_check cryptomgr.notests"
 PROCESSOR = "Nehalem"
 MEMORY = 512
@@ -134,7 +134,7 @@ class Line:
         self.texts += [text.decode(errors="replace").rstrip("\r") for text in texts]
 
     def send(self, text: str) -> None:
-        """Writes a text and a line feed to the line."""
+        """Writes `text` and a line feed to the serial line."""
         assert self.channel is not None
         self.channel.sendall(text.encode() + b"\n")
 
@@ -220,7 +220,7 @@ class Machine:
             raise PowerCheckError(f"QEMU has ended with status {self.process.returncode}; the last lines:\n{self.last_lines()}")
 
     def receive(self, line: Line, seconds: float = 600) -> str:
-        """Returns the next text on a line. Raises PowerCheckError if none arrives within this number of seconds."""
+        """Returns the next line of text from a serial line. Raises PowerCheckError if none arrives within this number of seconds."""
         deadline = time.monotonic() + seconds
         while not line.texts:
             if time.monotonic() > deadline:

@@ -114,8 +114,8 @@ class Sessions:
             raise PowerCheckError("two commands leave the same state")
 
     def state_after(self, process: subprocess.Popen[bytes], number: int) -> tuple[str, str]:
-        """Sends the command with this number (none for 0) and QUERIES to a running program. Returns the first word of the first answer, and a hash of
-        the state."""
+        """Sends the command with this number (or no command if it is 0) and QUERIES to a running program. Returns the first word of the first answer,
+        and a hash of the state."""
         assert process.stdin is not None and process.stdout is not None
         text = (self.commands[number - 1] + "\n" if number else "") + QUERIES + "seq\n"
         process.stdin.write(text.encode())

@@ -1,4 +1,4 @@
-# Checks that mcs4 cover counts correctly, compared with single steps and with a report that was worked out manually. Also checks the LCOV format.
+# Compares the counts of mcs4 cover with those of single steps and with a report that was worked out manually. Also checks the LCOV format.
 # shellcheck shell=sh
 
 make_count

@@ -22,7 +22,8 @@ test 1
 run 8
 lamps" "a button at TEST, by its name"
 
-# Inserts a bug into a copy of a program: replaces a text in the N-th line that contains it. Arguments: the program, N, the text, the new text.
+# Inserts a bug into a copy of a program: replaces a string in the N-th line that contains it. Arguments: the program, N, the string, and the new
+# string.
 plant_bug() {
     awk -v n="$2" -v old="$3" -v new="$4" '{
         at = index($0, old)
@@ -32,7 +33,7 @@ plant_bug() {
     verdict "$(cmp -s "$1" "$folder/buggy" || echo changed)" changed "a bug planted in $1"
 }
 
-# Checks that the bug makes exactly these tests fail. Arguments: the board, the text of tests, and the names of the tests that must fail.
+# Checks that the bug makes exactly these tests fail. Arguments: the board, the file of tests, and the names of the tests that must fail.
 check_tests_fail() {
     verdict "$(outcome ./mcs4 test "$1" "$folder/buggy" "$2" | sed -n 's/^not ok [0-9]* - //p; /^status/p')" "$3
 status 1" "a bug found by $2"

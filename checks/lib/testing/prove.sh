@@ -1,13 +1,13 @@
-# Checks the verdicts of mcs4 prove, and that its counterexamples fail as tests of mcs4 test. Also checks provers that fail, and Ctrl-C. shellcheck
-# shell=sh disable=SC2034
+# Checks the verdicts of mcs4 prove, and that its counterexamples fail as tests of mcs4 test. Also checks provers that fail, and Ctrl-C.
+# shellcheck shell=sh disable=SC2034
 
 export MCS4_PROVE="${MCS4_PROVE:-$(. tools/lib/start.sh && find_prover && echo "$program")}"
 if [ -z "$MCS4_PROVE" ]; then
     unset MCS4_PROVE
     echo "not run: mcs4 prove, in checks/testing (its program: tools/build mcs4_prove)"
 else
-    # Prints the remark about each property in the text, and the exit status. Omits the properties that are added for every program, whose names begin
-    # with "no".
+    # Prints the remark about each property of the properties text, and the exit status. Omits the properties that are added for every program, whose
+    # names begin with "no".
     remarks() {
         sed -n '/ok [0-9]* - no /d; s/^\(not \)\{0,1\}ok .*# //p; /^status/p' "$@"
     }
@@ -78,7 +78,8 @@ status 3" "a key that is held for too long"
         "proved for all inputs (1 state)
 broken, 0 steps
 status 1" "an empty program"
-    # Checks a program that makes each kind of mistake, with a text without properties. Also checks what the tests of the counterexamples expect.
+    # Checks a program that makes each kind of mistake, with a properties text that states no properties. Also checks what the tests of the
+    # counterexamples expect.
     cat > "$folder/wrong.toml" << 'END'
 # test: button WALK
 [[rom]]
@@ -139,7 +140,8 @@ status 1" "a program with mistakes"
     verdict "$(outcome env MCS4_PROVE="$folder/prover" ./mcs4 prove examples/die.txt examples/die.txt "$folder/faces.props" | remarks)" \
         "TODO not decided: the bench does not confirm the counterexample that was found
 status 3" "an invalid counterexample"
-    # Checks that mcs4 prove asks again with the limits on the inputs that the text states. The prover here decides only questions with these limits.
+    # Checks that mcs4 prove asks again with the limits on the inputs that the properties text states. The prover here decides only questions with
+    # these limits.
     printf '#!/bin/sh\nif [ "$(grep -c -x -e only -e "press 0 0" -e test -e "together 1")" = 3 ]; then echo holds 7; else echo gave up; fi\n' \
         > "$folder/prover"
     chmod +x "$folder/prover"

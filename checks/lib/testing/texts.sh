@@ -2,7 +2,7 @@
 # boards with a display and other lamps.
 # shellcheck shell=sh
 
-# Checks that a saved state is known only in its own text.
+# Checks that a saved state is known only in the text that saves it.
 printf 'test a\n press 1 2 ; keys\n run 5   # a moment\n save begun ; here\ntest b # 1\n from begun\n release 1 2\n' > "$folder/first.test"
 printf 'test c\n press #\n release # ; the key #\n save begun\ntest d\n from begun\n run 54 us\n expect cycles 54us # five\n' > "$folder/second.test"
 verdict "$(outcome ./mcs4 test $lock/board.toml $lock/lock.asm "$folder/first.test" "$folder/second.test")" "TAP version 13
@@ -24,7 +24,7 @@ not ok 2 - b
   message: \"the state begun is missing, because the test \`a\` did not reach its \`save\`\"
   at: \"$folder/unsaved.test:5\"
 status 1" "a state that was not saved"
-# Checks that a text that is not UTF-8 is read as Latin-1, and printed in UTF-8.
+# Checks that text that is not UTF-8 is read as Latin-1, and printed in UTF-8.
 printf 'loop: JUN loop ; \344\n' > "$folder/latin.asm"
 verdict "$(outcome ./mcs4 cover $lock/board.toml "$folder/latin.asm" "$folder/unsaved.test" | sed -n 's/.*loop:/loop:/p')" \
     "loop: JUN loop ; $(printf '\303\244')" "a program in Latin 1"

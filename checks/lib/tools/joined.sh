@@ -64,7 +64,7 @@ status 2" "node $words"
     verdict "$(print_loader listing)" modules "a joined file in the cache, from other sources"
     cp -p js/core/text/control_escapes.js "$tree/js/core/text"
     verdict "$(print_loader listing)" joined "a joined file in the cache, from the same sources again"
-    # Changes a text in the modules, so that the output shows whether the modules or the joined file were used.
+    # Changes a string in the modules, so that the output shows whether the modules or the joined file were used.
     sed 's/Prints this help/Shows this help/' js/words/commands.js > "$tree/js/words/commands.js"
     verdict "$(print_loader listing); $("$tree/mcs4" listing -h | grep -c 'Shows this help')" "modules; 1" "a joined file from other sources"
     cp js/words/commands.js "$tree/js/words"

@@ -1,4 +1,4 @@
-# Checks that mcs4 names replaces the names in lines by addresses, and reports a name that the program lacks.
+# Checks that mcs4 names replaces the names in lines with addresses, and reports a name that the program lacks.
 # shellcheck shell=sh
 
 cat > "$folder/named.txt" <<'lines'

@@ -91,8 +91,8 @@ mkdir "$folder/split_guessed"
 sh -c 'echo precious > "$1/board.toml.$$"; exec ./mcs4 project split examples/a_fault_to_find.mcsp "$1"' sh "$folder/split_guessed"
 verdict "$(cat "$folder/split_guessed"/board.toml.*); $(cmp "$folder/split_guessed/board.toml" "$folder/taken_apart/board.toml" 2>&1)" "precious; " "a file at PART.PID"
 
-# Stops tools by a signal at many different moments. Then the file must be either the old or the new one, a folder must be complete or missing, and no
-# other files may be left.
+# Stops tools with a signal at many different moments. Then the file must be either the old or the new one, a folder must be complete or missing, and
+# no other files may be left.
 mkdir "$folder/stopped" "$folder/temporary"
 stop_command() {
     TMPDIR=$folder/temporary setsid env --default-signal=INT,TERM,HUP timeout --foreground -s KILL 60 "$@" > "$folder/printed" 2>&1 &

@@ -100,7 +100,7 @@ check_bnpf_error 'BNNNNNNNPF\nBNNNN' "line 2: a word without its end, \`F\`: BNN
 check_bnpf_error 'none\n' "it has no byte"
 check_rejected 1 "rom: $folder/few.bnpf: line 2: past the last address, FFF" ./mcs4 rom load "$folder/few.bnpf" 4095
 
-# Checks that a text is not loaded as a binary image, unless an option requests that.
+# Checks that a source text is not loaded as a binary image, unless an option requests that.
 for text in $calculator/calculator.asm "$folder/z.asm"; do
     printf ' NOP ; z\303\244hler\n' > "$folder/z.asm"
     check_rejected 1 "rom: $text is a text, but not Intel HEX, S-records or BNPF; if its characters are the bytes of an image: rom load --binary" ./mcs4 rom load "$text"

@@ -46,8 +46,8 @@ for order in le be; do
     { if [ $order = le ]; then printf '\377\376'; else printf '\376\377'; fi && iconv -f utf-8 -t "utf-16$order" $lock/lock.asm; } > "$folder/wide.asm"
     verdict "$(outcome ./mcs4 listing "$folder/wide.asm")" "$(outcome ./mcs4 listing $lock/lock.asm)" "a program in UTF-16, $order"
 done
-# Checks that comments and indentation do not count in the limits, with a text of almost 20,000 bytes and a line of more than 300. A script must keep
-# the comments of a text that the bench accepts.
+# Checks that comments and indentation do not count towards the limits, with a text of almost 20,000 bytes and a line of more than 300. A script must
+# keep the comments of a text that the bench accepts.
 { awk 'BEGIN { for (i = 0; i < 200; i++) { printf "%40s NOP ; ", ""; for (n = 0; n < 50; n++) printf "."; print "" } }' && echo "here: JUN here"; } > "$folder/long.asm"
 awk 'BEGIN { printf " NOP ;"; for (n = 0; n < 300; n++) printf "."; print "" }' >> "$folder/long.asm"
 verdict "$(wc -c < "$folder/long.asm" | tr -d ' '), $(outcome ./mcs4 listing --names "$folder/long.asm" | tr '\n' ' ')" "19922, here 0C8 status 0 " "a text that is long by its comments"
