@@ -1,4 +1,4 @@
-// Presents the machine state as scopes of variables: registers, pairs, RAM, ports, lamps, keys, program names.
+// Presents the machine state as scopes of variables: registers, pairs, RAM, ports, lamps, keys, names from the program.
 
 import { readBoard, readItems } from "../bench/answers.js";
 import { hex, indices } from "../bench/numbers.js";

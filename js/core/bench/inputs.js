@@ -31,7 +31,7 @@ export function stripCarriageReturn(rawLine) {
 }
 
 /**
- * Returns whether a text follows a line, such as a program after `asm`. The text ends at a line that consists of a dot.
+ * Returns whether text follows a line, such as a program after `asm`. The text ends at a line that consists of a dot.
  * @param {string} line
  */
 export function opensText(line) {
@@ -169,7 +169,7 @@ export function matchAnswers(inputs, answers) {
 }
 
 /**
- * Joins lines into a text in which each line ends with a line feed.
+ * Joins lines into a string in which each line ends with a line feed.
  * @param {string[]} lines
  */
 export function joinLines(lines) {

@@ -16,7 +16,7 @@ const END_TYPES = ["7", "8", "9"];
 
 /**
  * Stores the bytes of a data record in the image. Ignores other records. Returns whether the record ends the file. Throws `RecordError` or
- * `ImageError` for an error.
+ * `ImageError` if the record is invalid.
  * @param {string} record
  * @param {ImageBytes} image
  */
@@ -35,7 +35,7 @@ function storeSRecord(record, image) {
 }
 
 /**
- * Parses S-records; returns the image bytes. Throws `ImageError` for an error.
+ * Parses S-records; returns the image bytes. Throws `ImageError` if the text is invalid.
  * @param {string} text
  * @param {number} [offset] added to each address
  */
@@ -72,8 +72,8 @@ function beginsWord(line, index) {
 }
 
 /**
- * Parses BNPF; returns the image bytes. Throws `ImageError` for an error. A word is `B`, eight letters `P` (1) or `N` (0) with the highest
- * bit first, and `F`. A word can continue on the next line. Ignores text between words.
+ * Parses BNPF; returns the image bytes. Throws `ImageError` if the text is invalid. A word is `B`, eight letters `P` (1) or `N` (0) with
+ * the highest bit first, and `F`. A word can continue on the next line. Ignores text between words.
  * @param {string} text
  * @param {number} [from] the address of the first word
  */

@@ -39,7 +39,7 @@ export function stateValue(answer, key) {
 
 /**
  * Returns the answer without the command count, so that callers can compare the states of two sessions.
- * @param {string} answer the answer to `state`; other answers can follow in the same text
+ * @param {string} answer the answer to `state`; other answers can follow in the same string
  */
 export function stripSeq(answer) {
   return answer.replace(/^state seq \d+ /, "");

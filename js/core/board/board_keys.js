@@ -10,8 +10,8 @@ import * as say from "../../words/board.js";
  * @typedef {import("./key_place.js").Key} Key
  *
  * A key of the board, or the button or switch at the TEST pin. `legend` is the text on the key, "" for a position without a key.
- * `description` is a longer text with the key's position. `isNamed` is true if the front panel defines the legend. `letter` is the keyboard
- * character that presses the key, "" for none.
+ * `description` is a longer text that includes the key's position. `isNamed` is true if the front panel defines the legend. `letter` is the
+ * keyboard character that presses the key, "" for none.
  * @typedef {{ key: Key, legend: string, description: string, isNamed: boolean, isSwitch: boolean, letter: string }} BoardKey
  */
 

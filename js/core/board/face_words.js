@@ -56,7 +56,7 @@ const FACE_LINE = /^[ \t]*#[ \t]*([A-Za-z]+)(?:[ \t]+([^ \t:]+)(?:[ \t]+to[ \t]+
 export const findLimit = (name) => LIMITS.get(name) || 0;
 
 /**
- * Returns an error message with its values.
+ * Returns an error message with the values inserted.
  * @param {string} name the name of the message
  * @param {...(string | number)} values values for `{1}`, `{2}` ..
  */
@@ -65,7 +65,7 @@ export function formatMessage(name, ...values) {
   return values.reduce((/** @type {string} */ words, value, index) => words.replace(`{${index + 1}}`, () => String(value)), message);
 }
 
-/** @type {(text: string) => string[]} splits a text at blanks and tabs */
+/** @type {(text: string) => string[]} splits text at blanks and tabs */
 export const splitWords = (text) => text.split(/[ \t]+/).filter(Boolean);
 
 /** @type {(word: string | undefined) => boolean} returns whether a word is a decimal number of at most four digits */
