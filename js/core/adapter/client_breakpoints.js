@@ -35,8 +35,7 @@ import { stopsEachTime } from "../../words/machine.js";
  * watched.
  * @typedef {{ id: number, name: string, condition: string, from: number, error: string }} RequestedDataBreakpoint
  * @typedef {{ kind: string, condition: string }} RequestedFilter a requested exception filter: the kind of mistake, and the condition of
- * the
- *   filter ("" for none)
+ *   the filter ("" for none)
  */
 
 /** @type {Omit<RequestedBreakpoint, "id">} */

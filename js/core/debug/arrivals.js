@@ -185,7 +185,8 @@ export class Arrivals {
   }
 
   /**
-   * Restores the hit counts that a caller saved before typed lines. Called if the lines fail, because their counted hits did not happen.
+   * Restores the hit counts that a caller saved before it executed typed lines. Called if the lines fail, because the counted hits did not
+   * happen.
    * @param {number[]} counts
    */
   restoreCounts(counts) {

@@ -77,7 +77,7 @@ export class DebugSession {
   }
 
   /**
-   * Sends a text to the bench, unless the text is empty. Adds an error of the bench to `rejectedTexts`.
+   * Sends a board or program text to the bench, unless the text is empty. If the bench rejects the text, adds the error to `rejectedTexts`.
    * @param {Engine} engine
    * @param {Uint8Array} file the session file; modified in place
    * @param {"wire" | "asm"} word the bench command for the text
@@ -107,7 +107,7 @@ export class DebugSession {
   }
 
   /**
-   * Assembles another text into ROM, and changes nothing else in the machine. Resolves to the error if the bench rejects the text,
+   * Assembles another program text into ROM, and changes nothing else in the machine. Resolves to the error if the bench rejects the text,
    * otherwise to null.
    * @param {string} program
    * @returns {Promise<Refusal | null>}

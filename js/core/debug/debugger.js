@@ -300,7 +300,7 @@ export class Debugger {
 
   /**
    * Returns the id of the breakpoint that ended a run at the current address, 0 for none.
-   * @param {string} reason the word that ended the run
+   * @param {string} reason the bench's word for the reason why the run ended
    */
   breakpointIdAtStop(reason) {
     if (reason !== "break" || !this.hardBreakpoints) return 0;
@@ -320,7 +320,7 @@ export class Debugger {
   }
 
   /**
-   * Returns the tally of lines that have run, without common mistakes.
+   * Returns the tally of lines that have run. It contains no common mistakes.
    * @param {BreakpointEvents} events the breakpoint events that were found in advance
    * @param {{ reason: string, id: number } | null} stop
    * @param {number} before the cycle count before the lines

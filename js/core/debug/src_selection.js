@@ -119,7 +119,7 @@ export class SrcSelection {
   }
 
   /**
-   * Returns the mistake of an instruction that writes to RAM; null if there is none.
+   * Returns the mistake in an instruction that writes to RAM; null if there is none.
    * @param {string} name the mnemonic of the instruction
    * @param {number} bank the selected bank
    * @returns {SelectionMistake | null}

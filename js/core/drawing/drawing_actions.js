@@ -220,7 +220,7 @@ function completionMessage(part, participle) {
 }
 
 /**
- * Returns a text with an upper-case first letter.
+ * Returns the text with an upper-case first letter.
  * @param {string} text
  */
 function capitalize(text) {
@@ -318,7 +318,7 @@ export function reasonNotToAdd(text, part) {
 }
 
 /**
- * Returns whether the page and the bench read the same board from a text. If not, the board editor cannot edit the text.
+ * Returns whether the page and the bench read the same board from a board text. If not, the board editor cannot edit the text.
  * @param {string} text
  * @param {string[]} answers the bench's answer to `board` after `wire` with the text
  */
