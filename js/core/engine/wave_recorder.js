@@ -90,7 +90,7 @@ class WaveRecorder {
 }
 
 /**
- * Returns the listing lines at some addresses.
+ * Returns the listing lines at the given addresses.
  * @param {Engine} engine
  * @param {Uint8Array} file
  * @param {Iterable<number>} addresses

@@ -143,7 +143,7 @@ class PropertiesReader {
   }
 
   /**
-   * Returns the front-panel input with a name; throws `ConditionError` if there is none.
+   * Returns the front-panel input with the given name; throws `ConditionError` if there is none.
    * @param {string} name
    */
   findInput(name) {
@@ -333,8 +333,8 @@ const PROPERTY_PARSERS = {
 const GUARD_START = /^(while|once|after press)\b/;
 
 /**
- * Splits a line into its first guard and the text after the comma; a comma in a quoted text does not count. Returns null if the line has no
- * guard. Throws `ConditionError` if the comma is missing.
+ * Splits a line into its first guard and the text after the comma; a comma in quotes does not count. Returns null if the line has no guard.
+ * Throws `ConditionError` if the comma is missing.
  * @param {string} text
  */
 function splitGuard(text) {
