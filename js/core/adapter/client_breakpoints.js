@@ -354,7 +354,10 @@ export class ClientBreakpoints {
     return answers;
   }
 
-  /** Finds the breakpoints and watches that the client did not set, after console lines have changed breakpoints or watches. */
+  /**
+   * Updates the lists of breakpoints and watches that the client did not set. Called after console lines have changed breakpoints or
+   * watches.
+   */
   updateOtherBreakpoints() {
     const { lines, labels, addresses } = this.requestedByKind;
     const clientAddresses = new Set([...lines, ...labels, ...addresses].map(({ address }) => address));

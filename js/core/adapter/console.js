@@ -102,7 +102,7 @@ export class Console {
   // --- keys ---
 
   /**
-   * Returns the key with a name; throws AdapterError if there is none.
+   * Returns the key with the given name; throws AdapterError if there is none.
    * @param {string} name
    */
   findKey(name) {

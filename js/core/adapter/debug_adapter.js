@@ -103,7 +103,7 @@ export class DebugAdapter {
     this.isConfigured = false;
     /** @type {Promise<string> | null} the result of `endDebugging`; null before `leave` is called */
     this.leavePromise = null;
-    /** @type {MoveEnd | null} the end of the last move */
+    /** @type {MoveEnd | null} the end of the last move; null before the first one */
     this.lastStop = null;
     /** @type {RemoteFrontPanel | null} the reports to a client that draws the front panel; null until the client asks for them */
     this.remoteFrontPanel = null;

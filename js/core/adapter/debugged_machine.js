@@ -27,7 +27,7 @@ import { stoppedAt } from "../../words/stops.js";
  * @typedef {object} MachineCallbacks
  * @property {(moveEnd: MoveEnd) => void} handleStop Reports the end of a move, once for each move.
  * @property {(text: string, category: "console" | "stdout" | "stderr") => void} output Prints text that ends with a line feed, in an output
- * category of the protocol.
+ *   category of the protocol.
  * @property {() => Promise<void>} pause Yields to other tasks, between two pieces of a move.
  * @property {() => void} handleStateChange Reports that the machine state has changed, so that views can update.
  * @property {(title: string) => LongTask} [startTask] Creates the progress report of a move.

@@ -21,7 +21,7 @@ export function readFormatFlag(args, name) {
 }
 
 /**
- * Returns the number base for a request.
+ * Returns the number base that a request specifies; "usual" if it specifies none.
  * @param {any} args
  * @returns {Base}
  */

@@ -51,7 +51,8 @@ import { leadsOut } from "../../words/server.js";
  * @property {(name: string, folder: string) => boolean} isInside Returns whether a file is in a folder, after symbolic links are resolved.
  * @property {(name: string) => Promise<OpenFile>} open Starts a program that opens a session file. Resolves to the open file.
  * @property {(name: string) => Promise<OpenFile>} create Starts a program that creates a session file. Resolves to the open file.
- * @property {(name: string) => Promise<Uint8Array>} readSession Resolves to the bytes of a session file that no other program has open.
+ * @property {(name: string) => Promise<Uint8Array>} readSession Resolves to the bytes of a session file. Rejects if another program has the
+ * file open.
  * @property {() => Promise<void>} pause Yields to other tasks.
  */
 

@@ -9,7 +9,7 @@ export const MAX_LINE_LENGTH = 255;
 /** The error numbers of the bench for a line that is too long, and for a line with a character that INVALID_CHARACTER matches. */
 export const LINE_TOO_LONG = 12;
 export const NOT_ASCII = 14;
-/** Matches a character that the bench never accepts: any character other than a tab and printable ASCII characters. */
+/** Matches a character that the bench never accepts: any character other than a tab or a printable ASCII character. */
 export const INVALID_CHARACTER = /[^\t -~]/u;
 /** The maximum number of places in a `trace` line. */
 export const MAX_PLACES = 16;

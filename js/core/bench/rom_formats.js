@@ -55,7 +55,7 @@ export function readSRecords(text, offset = 0) {
 
 // --- BNPF ---
 
-/** The number of letters in a BNPF word, without the final `F`. */
+/** The number of letters in a BNPF word, not counting the final `F`. */
 const WORD_LENGTH = 9;
 /** Matches the text after the `B` of a BNPF word: the next three letters of the word, or fewer if the line ends. */
 const TEXT_AFTER_B = /[ \t]*(?:[NP][ \t]*[NP][ \t]*[NP]|(?:[NP][ \t]*)?(?:[NP][ \t]*)?$)/iy;

@@ -24,7 +24,8 @@ export class Announcer {
   }
 
   /**
-   * Sets the text. The text is announced after it has been unchanged for at least ANNOUNCEMENT_DELAY_MS, unless it was announced last.
+   * Sets the text. The text is announced after it has been unchanged for at least ANNOUNCEMENT_DELAY_MS, unless the last announcement had
+   * the same text.
    * @param {string} text
    */
   announce(text) {

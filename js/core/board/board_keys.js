@@ -74,8 +74,8 @@ function testKey({ kind, name, level }, takeLetter) {
 const SPECIAL_KEYS = { Enter: "=", Escape: "C", Backspace: "CE", Delete: "CE", ",": "." };
 
 /**
- * Returns the board key that a keyboard key presses; undefined if there is none. The first match counts, in this order: a key with exactly
- * this letter, a key with the legend in SPECIAL_KEYS, a key whose letter differs only in case.
+ * Returns the board key that a keyboard key presses; undefined if there is none. Returns the first match in this order: a key whose letter
+ * is exactly this character, a key with the legend in SPECIAL_KEYS, a key whose letter differs only in case.
  * @template {BoardKey} ShownKey
  * @param {ShownKey[]} keys
  * @param {string} keyboardKey the `key` of the keyboard event

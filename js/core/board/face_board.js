@@ -147,7 +147,7 @@ export function missingParts(face, board) {
 }
 
 /**
- * Returns whether names or displays depend on lines of this kind.
+ * Returns whether names or displays depend on lines of the given kind.
  * @param {string} kind the first word of the line
  */
 function isFatal(kind) {

@@ -17,7 +17,7 @@ import table from "#face-table";
 const rows = table.split("\n").filter((line) => line !== "" && !line.startsWith("#")).map((line) => line.split("\t"));
 
 /**
- * Returns the rows of the table that start with a word, without this word.
+ * Returns the table rows that start with the given word, without that word.
  * @param {string} word
  */
 const tableRows = (word) => rows.filter((row) => row[0] === word).map((row) => row.slice(1));
@@ -45,7 +45,7 @@ export const SEGMENT_CHARACTERS = new Map(tableRows("digit").map(([marks, word])
 const LIMITS = new Map(tableRows("limit").map(([name, number]) => [name, Number(number)]));
 /** The patterns of the text between the first word and the colon, by name. */
 const HEADS = new Map(tableRows("head").map(([name, expression]) => [name, new RegExp(expression)]));
-/** For each synonym, the first word of a line that it can replace. */
+/** For each synonym, the first word of a line that the synonym can replace. */
 const SYNONYMS = new Map(tableRows("other").map(([synonym, word]) => [synonym, word]));
 /** The error messages, by name. */
 const MESSAGES = new Map(tableRows("say").map(([name, words]) => [name, words]));

@@ -34,8 +34,8 @@ import * as say from "../../words/debug.js";
  * @typedef {import("./debugger.js").Tally} Tally
  * @typedef {import("./goals.js").Goal} Goal
  *
- * The contents of a new session. `file`: the bytes of a session file. Without `file`, the constructor sends the texts of the board and the
- * program to the bench. With `file`, these texts only supply names and source lines.
+ * The contents of a new session. `file`: the bytes of a session file. Without `file`, the constructor sends the board text and the program
+ * text to the bench. With `file`, these texts only supply names and source lines.
  * @typedef {{ file?: Uint8Array, board?: string, program?: string }} SessionContents
  *
  * The end of a run. `message` describes the stop. Additional values of `reason`: "pause" if `shouldContinue` ended the run, "passed"
