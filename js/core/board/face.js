@@ -67,7 +67,7 @@ export class Face {
     this.comments = "";
     /**
      * @type {Map<string, number>} the line numbers of definitions that a board text can contain only once, by the identifier of the
-     * definition
+     *   definition
      */
     this.definitionLines = new Map();
     /** @type {{ row: number, column: number, word: string, line: number }[]} the words of grid lines, before lamp names are resolved */

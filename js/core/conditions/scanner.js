@@ -21,7 +21,7 @@ export class ConditionError extends Error {
 }
 
 /**
- * Throws `ConditionError`.
+ * Throws a `ConditionError` with the given message and column.
  * @param {string} message
  * @param {number} [column]
  * @returns {never}

@@ -32,7 +32,7 @@ const MAX_RUNS = 400;
 export const MAX_NOTES = 200;
 
 /**
- * Returns events without a stop, a hit or a note.
+ * Returns breakpoint events without a stop, a hit or a note.
  * @returns {BreakpointEvents}
  */
 export function createEmptyEvents() {

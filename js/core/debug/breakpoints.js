@@ -41,7 +41,7 @@ export class BreakpointList {
     this.all = savedBreakpoints.map((savedBreakpoint) => this.createBreakpoint(savedBreakpoint));
     /**
      * @type {{ text: string, breakpoint: Breakpoint }[]} the breakpoints that were deleted with their lines, and the text of these lines,
-     * newest last
+     *   newest last
      */
     this.deletedBreakpoints = [];
     /** @type {Map<string, Breakpoint[]>} the breakpoints of replaced source texts, by source text, newest last */

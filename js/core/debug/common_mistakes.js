@@ -105,7 +105,7 @@ export class CommonMistakes {
    * Returns the mistakes in the next lines, up to the first mistake that stops the machine. Checks only the cycles that `cyclesToCheck`
    * chooses.
    * @param {PlannedLine[]} plannedLines the next lines
-   * @param {Uint8Array} [file] the session before the lines, if the lines have already run
+   * @param {Uint8Array} [file] the session file from before the lines, if the lines have already run
    * @returns {FoundMistakes}
    */
   searchLines(plannedLines, file = this.session.file) {
@@ -123,7 +123,7 @@ export class CommonMistakes {
    * Returns whether a mistake stops the machine.
    * @param {CommonMistake} mistake
    * @param {PlannedLine[]} plannedLines the lines with the mistake
-   * @param {Uint8Array} file the session before these lines
+   * @param {Uint8Array} file the session file from before these lines
    */
   stopsMachine({ kind, cycles }, plannedLines, file) {
     if (!this.stoppingKinds.has(kind)) return false;
@@ -164,7 +164,7 @@ export class CommonMistakes {
   /**
    * Returns all mistakes in the planned lines.
    * @param {PlannedLine[]} plannedLines
-   * @param {Uint8Array} file the session before the lines
+   * @param {Uint8Array} file the session file from before the lines
    */
   findMistakes(plannedLines, file) {
     const { engine } = this.session;

@@ -24,7 +24,7 @@ import { changedFrom, CHANGES_ALWAYS } from "../../words/debug.js";
  * `from`: the number of the first change that stops the machine, among those that count.
  * @typedef {{ id: number, name: string, condition: string, from: number }} RequestedWatch
  *
- * A compiled watch. `probes`: the `trace` places that report the value. `changeCount`: the number of changes that counted so far.
+ * A compiled watch. `probes`: the `trace` places that report the value. `changeCount`: the number of changes that have counted so far.
  * @typedef {{ id: number, place: Place, probes: string[], condition: Condition | null, from: number,
  *   changeCount: number }} DataWatch
  *

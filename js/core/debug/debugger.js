@@ -271,7 +271,7 @@ export class Debugger {
   }
 
   /**
-   * Returns a stop without a breakpoint.
+   * Returns a stop that no breakpoint has caused.
    * @param {string} reason
    * @returns {Stop}
    */
