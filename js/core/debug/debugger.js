@@ -394,8 +394,7 @@ export class Debugger {
   }
 
   /**
-   * Executes typed bench lines. If an error occurs or the work is cancelled, no line takes effect. A `run` line ends at its first
-   * breakpoint.
+   * Executes typed bench lines. If the call fails or is cancelled, no line takes effect. A `run` line ends at its first breakpoint.
    * @param {string} lines
    * @param {(done: number) => Promise<boolean>} shouldContinue called with the number of processed characters; resolves to true to continue
    * @returns {Promise<{ result: LinesResult & { snapshot: string[] }, typedResult: TypedResult }>}

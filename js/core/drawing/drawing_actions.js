@@ -28,7 +28,7 @@ import * as say from "../../words/drawing.js";
  * - `delete`, `copy`: deletes a part, or adds a copy of the part.
  * - `name`: names a part, a key (`key ROW COLUMN`), the board (`title`), or the button or switch at the TEST pin (`test`). "" removes the
  *   name.
- * - `colour`: sets the lamp colour; "" for the default colour.
+ * - `colour`: sets the lamp colour; "" selects the default colour.
  *
  * @typedef {{ kind: "add", part: ShelfPart, line?: string, digits?: number } | { kind: "wire", line: string, target: string }
  *   | { kind: "port", line: string, mode: string } | { kind: "chips", chain: number, chips: number } | { kind: "rows", rows: number }
@@ -203,7 +203,7 @@ function renamePart(editedBoard, part, name) {
  * Sets the colour of a lamp; throws `ImpossibleAction` for an unknown colour.
  * @param {EditedBoard} editedBoard
  * @param {number} lamp
- * @param {string} colour "" for the default
+ * @param {string} colour the new colour; "" selects the default colour
  */
 function setColour(editedBoard, lamp, colour) {
   if (colour !== "" && !COLOURS.has(colour)) throw new ImpossibleAction(say.noColourMessage(colour, [...COLOURS].join(", ")));

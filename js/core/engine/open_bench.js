@@ -92,8 +92,8 @@ export class OpenBench {
   }
 
   /**
-   * Executes lines in the session. If an error occurs or the work is cancelled, no line takes effect. Resolves to their result, with the
-   * new state for the page.
+   * Executes lines in the session. If the call fails or is cancelled, no line takes effect. Resolves to their result, with the new state
+   * for the page.
    * @param {string} lines
    * @returns {Promise<LinesReply>}
    */

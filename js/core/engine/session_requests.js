@@ -51,7 +51,7 @@ export class SessionRequests {
   }
 
   /**
-   * Executes lines in the session. If an error occurs or the work is cancelled, no line takes effect. Resolves to their result.
+   * Executes lines in the session. If the call fails or is cancelled, no line takes effect. Resolves to their result.
    * @param {string} lines
    * @returns {Promise<LinesReply>}
    */
@@ -60,8 +60,8 @@ export class SessionRequests {
   }
 
   /**
-   * Executes lines that the user typed. If an error occurs or the work is cancelled, no line takes effect. A `run` command in these lines
-   * ends at the first breakpoint.
+   * Executes lines that the user typed. If the call fails or is cancelled, no line takes effect. A `run` command in these lines ends at the
+   * first breakpoint.
    * @param {string} lines
    * @returns {Promise<TypedReply>}
    */

@@ -34,7 +34,7 @@ import { noKeyMessage } from "../../words/testing.js";
  * - `command`: the external command of the model ("" for none); `downTime`, `upTime`: the times for which each key in a sequence for the
  *   model is pressed and then released;
  * - `notedPlaces`: the `trace` places whose values distinguish states;
- * - `from`: the start state, null for power-on; `leadingLines`: the test lines that lead to the start state;
+ * - `from`: the start state, null to start at power-on; `leadingLines`: the test lines that lead to the start state;
  * - `calls`: the minimum and the maximum number of calls that have not returned in the start state.
  * @typedef {{ inputs: Input[], inputWords: string[], maxKeysDown: number, canReset: boolean, minWait: number, maxWait: number,
  *   maxHoldTime: number, minReleaseTime: number, checkStart: number, downTime: number, upTime: number, notedPlaces: string[],

@@ -139,8 +139,8 @@ export function atProperty(text, condition, address) {
 }
 
 /**
- * Creates the property that a condition becomes true only after certain keys were pressed in order. After the condition was true, the keys
- * must be pressed again. Memory: the number of these presses so far; 1 if the condition is true; and 1 if it was ever true.
+ * Creates the property that a condition becomes true only after the given keys were pressed in order. After the condition was true, the
+ * keys must be pressed again. Memory: the number of these presses so far; 1 if the condition is true; and 1 if it was ever true.
  * @param {string} text
  * @param {Condition} condition
  * @param {string[]} keys
