@@ -274,7 +274,7 @@ function formatFrameName(name, isHex) {
 }
 
 /**
- * Returns the subroutine calls at and after an address. The scan ends at an unconditional jump or return, before an instruction without a
+ * Returns the subroutine calls at and after an address. The scan ends at an unconditional jump or return, at a later instruction without a
  * source line, or after MAX_SCANNED_INSTRUCTIONS instructions.
  * @param {import("../debug/debug_session.js").DebugSession} session
  * @param {number} from

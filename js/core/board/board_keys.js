@@ -75,7 +75,7 @@ const SPECIAL_KEYS = { Enter: "=", Escape: "C", Backspace: "CE", Delete: "CE", "
 
 /**
  * Returns the board key that a keyboard key presses; undefined if there is none. Returns the first match in this order: a key whose letter
- * is exactly this character, a key with the legend in SPECIAL_KEYS, a key whose letter differs only in case.
+ * equals `keyboardKey`, a key with the legend in SPECIAL_KEYS, a key whose letter differs only in case.
  * @template {BoardKey} ShownKey
  * @param {ShownKey[]} keys
  * @param {string} keyboardKey the `key` of the keyboard event

@@ -138,8 +138,9 @@ export class CommonMistakes {
   }
 
   /**
-   * Returns the number of cycles to check in the next lines. All cycles are checked for some time after the machine starts or a key
-   * changes, and whenever mistakes stop the machine. Otherwise only a sample is checked, because a check runs each cycle three more times.
+   * Returns the number of cycles to check in the next lines, at most MAX_CYCLES_PER_CALL. All cycles up to this limit are checked for some
+   * time after the machine starts or a key changes. If mistakes stop the machine, all cycles are checked unless they exceed the limit.
+   * Otherwise only a sample is checked, because a check runs each cycle three more times.
    * @param {PlannedLine[]} plannedLines
    */
   cyclesToCheck(plannedLines) {

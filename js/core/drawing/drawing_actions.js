@@ -143,8 +143,8 @@ function setLineMode(editedBoard, line, mode) {
 }
 
 /**
- * Adds a copy of a part; returns the name of the copy. For the first lamp of a display, copies the display. Throws `ImpossibleAction` if
- * the part cannot be copied.
+ * Adds a copy of a part; returns the name of the copy. If the part is the first lamp of a display, copies the display. Throws
+ * `ImpossibleAction` if the part cannot be copied.
  * @param {EditedBoard} editedBoard
  * @param {string} part
  */

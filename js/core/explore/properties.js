@@ -57,8 +57,8 @@ const DEFAULT_PROPERTY = {
 };
 
 /**
- * Returns a condition for a property. If the condition is only a label, returns its address instead: the condition is true whenever the
- * program counter reaches the address.
+ * Returns a condition for a property. If the condition is only a label or `pc = ADDRESS`, returns the address instead: the condition is
+ * true whenever the program counter reaches the address.
  * @param {Condition} condition
  * @returns {Pick<Property, "condition" | "address">}
  */
