@@ -190,7 +190,8 @@ export class Console {
 
   /**
    * Executes typed bench lines, after the names in them are replaced by values. Throws AdapterError if a name is unknown, if there are too
-   * many lines, or if the bench rejects all lines. Also throws AdapterError if a line requests a run while the machine runs.
+   * many lines, or if some lines are commands and the bench rejects all lines. Also throws AdapterError if a line requests a run while the
+   * machine runs.
    * @param {string} line one or more lines, separated by line feeds
    * @param {ShouldContinue} [shouldContinue]
    * @returns {Promise<LineResult>}

@@ -184,8 +184,8 @@ async function sessionFromTest(engine, test, host) {
 }
 
 /**
- * Opens or creates a session file. Resolves to the session and its writer. Rejects if the board or program text is missing or has errors,
- * or if ROM differs from a program that is not loaded.
+ * Opens or creates a session file. Resolves to the session and its writer. Rejects if a text for a new file is missing, if a text has
+ * errors, or if ROM differs from a program that is not loaded.
  * @param {Engine} engine
  * @param {RequestedFiles} requestedFiles
  * @param {Host} host
@@ -216,8 +216,8 @@ async function sessionFromFile(engine, requestedFiles, host, messages) {
 }
 
 /**
- * Loads a copy of a session file into memory. Resolves to the session. Rejects if the board or program text has errors, or if ROM differs
- * from a program that is not loaded.
+ * Loads a copy of a session file into memory. Resolves to the session. Rejects if the program has errors, or if ROM differs from a program
+ * that is not loaded.
  * @param {Engine} engine
  * @param {RequestedFiles} requestedFiles
  * @param {Host} host

@@ -124,7 +124,8 @@ export class DebugSession {
 
   /**
    * Sends the breakpoint list to the debugger and the bench. In the result, `messages` are the messages about breakpoints that moved to
-   * another instruction. `errors` contains the ids and error messages of breakpoints that cannot be compiled.
+   * another instruction, or that no instruction follows. `errors` contains the ids and error messages of breakpoints that cannot be
+   * compiled.
    */
   async applyBreakpoints() {
     const { session } = this.debugger;

@@ -298,9 +298,9 @@ export function reachAddressProperty(text, address) {
 export const GUARDABLE_FORMS = new Set(["never", "never for", "always", "at", "after press", "reach", "reach at"]);
 
 /**
- * Returns the memory of a guard after an event. For a `press` or `once` guard, this is the time at which the guard opened. For a `while`
- * guard, it is the time of the last event at which the guard was open. The memory is UNSET before a `press` or `once` guard first opens,
- * and while a `while` guard is closed.
+ * Returns the memory of a guard after an event. For a `press` guard, this is the time of the last press; for a `once` guard, the time at
+ * which the guard opened. For a `while` guard, it is the time of the last event at which the guard was open. The memory is UNSET before a
+ * `press` or `once` guard first opens, and while a `while` guard is closed.
  * @param {Guard} guard
  * @param {number} openSince the memory of the guard before the event
  * @param {Event} event
