@@ -101,7 +101,7 @@ export class BreakpointManager {
     if (this.benchAddresses) this.apply();
   }
 
-  /** Sends the list again after a restart of the bench, which deletes the bench's breakpoints. */
+  /** Sends the list again after the bench has restarted, because a restart deletes the bench's breakpoints. */
   resend() {
     this.lastRequest = "";
     this.apply();
