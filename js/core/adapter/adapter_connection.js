@@ -41,7 +41,7 @@ export class AdapterConnection extends MessageStream {
     this.queueEnd = Promise.resolve();
     /** @type {Set<PendingRequest>} the requests that have no response yet, both queued and running */
     this.pendingRequests = new Set();
-    /** @type {(id: string) => void} stops the task with a progress id */
+    /** @type {(id: string) => void} stops the task that has the given progress id */
     this.stopTask = (id) => fail(say.unknownProgressIdMessage(id));
   }
 
@@ -126,7 +126,7 @@ export class AdapterConnection extends MessageStream {
   }
 
   /**
-   * Handles the `cancel` request. If the request to cancel is queued, rejects that request at once. If its handler runs, sets
+   * Handles the `cancel` request. If the request to cancel is queued, rejects that request at once. If its handler is running, sets
    * `isCancelled`. If the request already has its response, does nothing. For a progress id, stops the task.
    * @param {any} args
    */

@@ -1,5 +1,5 @@
-// Manages the breakpoints that the client sets on lines, labels and addresses. Merges them with the breakpoints that the session already
-// had into one list for the debugger. Also manages data breakpoints, which watch a place, and exception filters, which stop the machine at
+// Manages the breakpoints that the client sets on lines, labels and addresses. Merges them and the breakpoints that the session already had
+// into one list for the debugger. Also manages data breakpoints, which watch a place, and exception filters, which stop the machine at
 // common mistakes.
 
 import { watchedPlaces } from "../bench/answers.js";
@@ -23,7 +23,7 @@ import { stopsEachTime } from "../../words/machine.js";
  * @typedef {import("../debug/common_mistakes.js").Kind} MistakeKind
  *
  * A breakpoint that the client requested. `address` is -1 if no instruction was found. `from` is the number of the first hit that stops the
- * machine. `note` is the text to log instead of a stop, "" for none. `error` is the error message, "" if the breakpoint can be set.
+ * machine. `note` is the text to log instead of stopping, or "". `error` is the error message, "" if the breakpoint can be set.
  * @typedef {{ id: number, line: number, address: number, condition: string, from: number, note: string,
  *   error: string }} RequestedBreakpoint
  *
@@ -34,8 +34,8 @@ import { stopsEachTime } from "../../words/machine.js";
  * A data breakpoint that the client requested. `name` is the name of the place. `error` is the error message, "" if the place can be
  * watched.
  * @typedef {{ id: number, name: string, condition: string, from: number, error: string }} RequestedDataBreakpoint
- * @typedef {{ kind: string, condition: string }} RequestedFilter a requested exception filter: the kind of mistake, and the text of its
- *   condition ("" for none)
+ * @typedef {{ kind: string, condition: string }} RequestedFilter a requested exception filter: the kind of mistake, and the condition of
+ *   the filter ("" for none)
  */
 
 /** @type {Omit<RequestedBreakpoint, "id">} */
@@ -92,9 +92,12 @@ export class ClientBreakpoints {
     this.requestedByKind = { lines: [], labels: [], addresses: [] };
     /** The addresses of the bench's breakpoints that the client did not set. */
     this.otherAddresses = session.debugger.session.breakpointAddresses;
-    /** The RAM characters that the bench watches, but not for the client. Each has the form `B 0xSS`: its bank and its SRC byte. */
+    /**
+     * The RAM characters that the bench watches, without those that it watches for the client. Each has the form `B 0xSS`: its bank and its
+     * SRC byte.
+     */
     this.otherWatches = readBenchWatches(session);
-    /** @type {string[]} the RAM characters that the bench watches for the client, in the same form */
+    /** @type {string[]} the RAM characters that the bench watches for the client, in the form of `otherWatches` */
     this.clientWatches = [];
     /** @type {RequestedDataBreakpoint[]} the data breakpoints that the client requested */
     this.dataBreakpoints = [];
@@ -105,8 +108,8 @@ export class ClientBreakpoints {
   }
 
   /**
-   * Copies the breakpoints and filters from before a restart. Moves each line breakpoint to its instruction in the new program. Resolves to
-   * the breakpoints that moved.
+   * Copies the breakpoints and filters that were set before a restart. Moves each line breakpoint to its instruction in the new program.
+   * Resolves to the breakpoints that moved.
    * @param {ClientBreakpoints} other
    */
   async copyBreakpointsFrom({ requestedByKind, lastId, dataBreakpoints, exceptionFilters }) {
@@ -351,7 +354,10 @@ export class ClientBreakpoints {
     return answers;
   }
 
-  /** Finds the breakpoints and watches that the client did not set, after console lines have changed breakpoints or watches. */
+  /**
+   * Updates the lists of breakpoints and watches that the client did not set. Called after console lines have changed breakpoints or
+   * watches.
+   */
   updateOtherBreakpoints() {
     const { lines, labels, addresses } = this.requestedByKind;
     const clientAddresses = new Set([...lines, ...labels, ...addresses].map(({ address }) => address));

@@ -40,7 +40,7 @@ const COMPARISON_LINE = /^[^\n]*[=<>]/;
 const RUN_WORDS = new Set(["run", "step"]);
 const BREAKPOINT_WORDS = new Set(["break", "unbreak", "watch", "unwatch"]);
 
-/** @type {(text: string) => LineResult} returns the result of a line that only shows a text */
+/** @type {(text: string) => LineResult} returns the result of a line that only shows text */
 const textResult = (text) => ({ text, changes: false, move: null });
 
 export class Console {
@@ -102,7 +102,7 @@ export class Console {
   // --- keys ---
 
   /**
-   * Returns the key with a name; throws AdapterError if there is none.
+   * Returns the key with the given name; throws AdapterError if there is none.
    * @param {string} name
    */
   findKey(name) {
@@ -190,7 +190,8 @@ export class Console {
 
   /**
    * Executes typed bench lines, after the names in them are replaced by values. Throws AdapterError if a name is unknown, if there are too
-   * many lines, or if the bench rejects all lines. Also throws it for a run while the machine runs.
+   * many lines, or if some lines are commands and the bench rejects all lines. Also throws AdapterError if a line requests a run while the
+   * machine runs.
    * @param {string} line one or more lines, separated by line feeds
    * @param {ShouldContinue} [shouldContinue]
    * @returns {Promise<LineResult>}

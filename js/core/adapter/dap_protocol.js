@@ -16,13 +16,13 @@ export class AdapterError extends Error {
   }
 }
 
-/** The protocol's error message if a request needs a paused machine, but the machine runs. */
+/** The protocol's error message for a request that is rejected because the machine runs. */
 export const NOT_STOPPED = "notStopped";
 /** The protocol's error message for a cancelled request. */
 export const REQUEST_CANCELLED = "cancelled";
 
 /**
- * Throws AdapterError.
+ * Throws an AdapterError with the given message.
  * @param {string} message
  * @returns {never}
  */

@@ -78,7 +78,7 @@ export class DebugAdapter {
   /**
    * @param {AdapterConnection} connection
    * @param {import("../engine/engine_host.js").EngineHost} engine
-   * @param {{ refusals: Record<string, string>, manual: import("../help/manual.js").ManualSection[] }} data the refusal texts and the
+   * @param {{ refusals: Record<string, string>, manual: import("../help/manual.js").ManualSection[] }} data the refusal messages and the
    *   manual
    * @param {Host & { end: (status: number) => void }} host
    */
@@ -88,7 +88,7 @@ export class DebugAdapter {
     this.host = host;
     this.errorMessages = new ErrorMessages(refusals);
     this.instructions = readInstructions(manual);
-    /** The client's number of the first line and of the first column: 0 or 1. */
+    /** The number that the client gives to the first line, and to the first column: 0 or 1. */
     this.firstLine = 1;
     this.firstColumn = 1;
     /** True if the client supports the event `invalidated`. */
@@ -103,7 +103,7 @@ export class DebugAdapter {
     this.isConfigured = false;
     /** @type {Promise<string> | null} the result of `endDebugging`; null before `leave` is called */
     this.leavePromise = null;
-    /** @type {MoveEnd | null} the end of the last move */
+    /** @type {MoveEnd | null} the end of the last move; null before the first one */
     this.lastStop = null;
     /** @type {RemoteFrontPanel | null} the reports to a client that draws the front panel; null until the client asks for them */
     this.remoteFrontPanel = null;

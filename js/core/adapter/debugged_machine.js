@@ -26,8 +26,8 @@ import { stoppedAt } from "../../words/stops.js";
  * The callbacks of a machine.
  * @typedef {object} MachineCallbacks
  * @property {(moveEnd: MoveEnd) => void} handleStop Reports the end of a move, once for each move.
- * @property {(text: string, category: "console" | "stdout" | "stderr") => void} output Prints a text, which ends with a line feed, under
- *   an output category of the protocol.
+ * @property {(text: string, category: "console" | "stdout" | "stderr") => void} output Prints text that ends with a line feed, in an output
+ *   category of the protocol.
  * @property {() => Promise<void>} pause Yields to other tasks, between two pieces of a move.
  * @property {() => void} handleStateChange Reports that the machine state has changed, so that views can update.
  * @property {(title: string) => LongTask} [startTask] Creates the progress report of a move.
@@ -80,7 +80,7 @@ export class Machine {
   // --- moves ---
 
   /**
-   * Starts a run to a goal or an earlier stop.
+   * Starts a run that ends at a goal, or at an earlier stop.
    * @param {Goal | null} goal null to run to the next stop
    */
   runToGoal(goal) {
@@ -212,7 +212,7 @@ export class Machine {
   }
 
   /**
-   * Waits until a real 4004 would have run this number of cycles.
+   * Waits until a real 4004 would have run the given number of cycles.
    * @param {number} cycles the number of cycles since the start of the move
    */
   async waitForRealTime(cycles) {

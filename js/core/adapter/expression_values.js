@@ -1,4 +1,4 @@
-// Evaluates an expression in the current state: a place, a program name, a lamp, the display, a sum, or a condition.
+// Evaluates an expression in the current state: a place, a name from the program, a lamp, the display, a sum, or a condition.
 
 import { hex } from "../bench/numbers.js";
 import { compileExpression } from "../conditions/condition_language.js";
@@ -23,7 +23,7 @@ import { errorInColumn } from "../../words/conditions.js";
 
 /** Matches the places whose values are hexadecimal digits. */
 const HEX_PLACES = /^(acc|dcl|src|r\d+|p\d|ram\.\d\..*|st\..*|rom\d+|ram\d\.\d)$/;
-/** Matches the places whose value is a text with one character per bit or lamp. */
+/** Matches the places whose value is text with one character per bit or lamp. */
 const MARK_PLACES = /^(chain\d|lamps)$/;
 
 /**
@@ -100,7 +100,7 @@ export function evaluateExpression(text, context, base = "usual") {
 }
 
 /**
- * Returns the hover text for a word or expression: the current value, or the effect of an instruction that has no value. Throws
+ * Returns the hover text for a word or expression: the current value, or the effect of the instruction if there is no value. Throws
  * AdapterError if the text is neither an instruction nor a valid expression.
  * @param {string} text the word or expression under the pointer
  * @param {ExpressionContext} context

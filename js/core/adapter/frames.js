@@ -8,7 +8,7 @@ import { findLiveReturns, callAddress } from "../machine/return_addresses.js";
  *
  * A stack frame. `address` is the program counter in the newest frame, and the address of a JMS in any other frame. `line` is 0 if the
  * address has no source line. `name` is a label with an offset, or else the address. `call` is the address of the JMS that created the
- * frame, -1 for the outermost frame. `returns` are the return addresses before that JMS, newest first.
+ * frame, -1 for the outermost frame. `returns` are the return addresses on the stack before that JMS, newest first.
  * @typedef {{ address: number, line: number, name: string, call: number, returns: string[] }} Frame
  */
 

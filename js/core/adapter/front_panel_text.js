@@ -39,7 +39,7 @@ export class FrontPanelText {
   }
 
   /**
-   * Returns the number and the lamp names that a person perceives on a front panel with a multiplexed display.
+   * Returns the displayed number and the lamp names that a person perceives on a front panel with a multiplexed display.
    * @param {number} count the number of lamps
    */
   perceivedText(count) {
@@ -47,7 +47,7 @@ export class FrontPanelText {
   }
 
   /**
-   * Returns the current text if it has changed since the previous call; otherwise "". The first call compares with the text at
+   * Returns the current text if it has changed since the previous call; otherwise "". The first call compares it with the text at
    * construction.
    */
   take() {

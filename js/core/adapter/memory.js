@@ -15,7 +15,8 @@ import * as say from "../../words/adapter.js";
  * @typedef {import("../debug/debug_session.js").DebugSession} DebugSession
  *
  * A memory range: ROM, the RAM characters of a bank, or the status characters of a bank. `start` is the memory reference of its first byte.
- * `bytes` contains a byte of ROM or one character per element. `place` returns the place in `poke` lines for the byte at an index.
+ * `bytes` contains a byte of ROM or one character per element. `place` returns the place that a `poke` line names to write the byte at an
+ * index.
  * @typedef {{ start: number, bytes: Uint8Array, place: (index: number) => string }} MemoryRange
  *
  * The location that a request names: a memory range, and an index in this range (`from`). The index can be out of bounds.

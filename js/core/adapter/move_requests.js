@@ -27,7 +27,7 @@ export class MoveHandlers {
   }
 
   /**
-   * Returns the handlers by command.
+   * Returns the handlers of the move requests, by command.
    * @returns {Record<string, RequestHandler>}
    */
   handlers() {
@@ -92,7 +92,7 @@ export class MoveHandlers {
     return new ResponseWithFollowUp(undefined, () => machine.goBack({ kind: "call", call, returns }));
   }
 
-  /** Throws AdapterError if the machine runs, or before `configurationDone`. */
+  /** Throws AdapterError if the machine runs, or if the client has not sent `configurationDone` yet. */
   checkPaused() {
     if (!this.adapter.isConfigured) fail(say.CONFIGURED_FIRST);
     if (this.adapter.current.machine.isMoving) fail(NOT_STOPPED);

@@ -21,7 +21,7 @@ export function readFormatFlag(args, name) {
 }
 
 /**
- * Returns the number base for a request.
+ * Returns the number base that a request specifies; "usual" if it specifies none.
  * @param {any} args
  * @returns {Base}
  */
@@ -33,7 +33,7 @@ export function requestedBase(args) {
 
 /**
  * Converts the numbers in a value to a base.
- * @param {string} text a text whose numbers begin with 0x; after the first number, the same number can follow in decimal, as in `0x1F, 31`
+ * @param {string} text text whose numbers begin with 0x; it can be one number followed by its decimal form, as in `0x1F, 31`
  * @param {Base} base
  */
 export function convertToBase(text, base) {

@@ -15,7 +15,7 @@ import { cannotBeSetMessage, errorInColumn } from "../../words/conditions.js";
 
 /**
  * Returns the current value of an expression as a number; throws AdapterError if its value is not a number.
- * @param {string} text a numeral, a program name, a place or a sum
+ * @param {string} text a numeral, a name from the program, a place or a sum
  * @param {DebugSession} session
  * @param {number} [startColumn] the column in the typed line at which the text starts
  */
@@ -51,7 +51,7 @@ function assignmentLines(place, text, session, startColumn = 0) {
 
 /**
  * Returns the bench lines for a `set` line; throws AdapterError if the line has an error.
- * @param {string} text the text after `set`: `r4 = r5 + 1`
+ * @param {string} text the text after `set`, such as `r4 = r5 + 1`
  * @param {DebugSession} session
  */
 export function compileSetLine(text, session) {
@@ -64,8 +64,8 @@ export function compileSetLine(text, session) {
 }
 
 /**
- * Returns the place that a text names, in the form for `setPlace`: a key is `key 0 2`. Throws AdapterError if the text names no place that
- * can be set.
+ * Returns the place that the text names, in the form that `setPlace` accepts, such as `key 0 2` for a key. Throws AdapterError if the text
+ * names no place that can be set.
  * @param {string} text a place of the machine, or `key NAME`
  * @param {import("../board/face.js").Face} face
  * @returns {string}

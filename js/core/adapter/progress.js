@@ -83,7 +83,7 @@ export class Progress {
   }
 
   /**
-   * Stops the task with a progress id; throws AdapterError if there is no such task.
+   * Stops the task that has the given progress id; throws AdapterError if there is no such task.
    * @param {string} progressId
    */
   stop(progressId) {

@@ -39,7 +39,7 @@ export class QueryHandlers {
    * @param {LaunchResult} launchResult
    * @param {Scopes} scopes
    * @param {ExpressionContext} expressionContext
-   * @param {{ firstLine: number, firstColumn: number }} numbering the client's number of the first line and of the first column: 0 or 1
+   * @param {{ firstLine: number, firstColumn: number }} numbering the client's numbers for the first line and the first column: 0 or 1
    */
   constructor(launchResult, scopes, expressionContext, { firstLine, firstColumn }) {
     this.launchResult = launchResult;
@@ -63,7 +63,7 @@ export class QueryHandlers {
   }
 
   /**
-   * Returns whether a source of the client is the program.
+   * Returns whether a source that the client names is the debugged program.
    * @param {any} source
    */
   isProgram(source) {
@@ -204,8 +204,8 @@ export class QueryHandlers {
 
   /**
    * Returns the completions for the word at the end of a line, and the typed start of this word. The completions are key names after
-   * `press`, `release`, `keys` and `key`, and lamp names after `lamp`. Anywhere else, the completions are program names, place names, lamp
-   * names and keywords. At the start of a line, commands are added.
+   * `press`, `release`, `keys` and `key`, and lamp names after `lamp`. Anywhere else, the completions are names from the program, place
+   * names, lamp names and keywords. At the start of a line, commands are added.
    * @param {string} textBefore the text before the caret
    * @returns {{ words: string[], word: string }}
    */
@@ -274,7 +274,7 @@ function formatFrameName(name, isHex) {
 }
 
 /**
- * Returns the subroutine calls at and after an address. The scan ends at an unconditional jump or return, before an instruction without a
+ * Returns the subroutine calls at and after an address. The scan ends at an unconditional jump or return, at a later instruction without a
  * source line, or after MAX_SCANNED_INSTRUCTIONS instructions.
  * @param {import("../debug/debug_session.js").DebugSession} session
  * @param {number} from

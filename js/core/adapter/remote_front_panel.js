@@ -23,7 +23,7 @@ import * as say from "../../words/adapter.js";
  * - `keys`: the pressed keys as `row.column`; `test`: the TEST level;
  * - `isRunning`: true if the machine runs;
  * - `litShares`: while the machine runs, how long each lamp is on during the next 30 ms;
- * - `printed`: the complete printout, after new output of the printer.
+ * - `printed`: the complete printout, if the printer has printed since the last report.
  * @typedef {{ board?: string[], boardText?: string, lamps?: string, keys?: string[], test?: string, isRunning?: boolean,
  *   litShares?: import("../engine/brightness_meter.js").LitShares,
  *   printed?: import("../engine/printer_codes.js").PrintoutData }} FrontPanelUpdate

@@ -1,4 +1,4 @@
-// Presents the machine state as scopes of variables: registers, pairs, RAM, ports, lamps, keys, program names.
+// Presents the machine state as scopes of variables: registers, pairs, RAM, ports, lamps, keys, names from the program.
 
 import { readBoard, readItems } from "../bench/answers.js";
 import { hex, indices } from "../bench/numbers.js";
@@ -111,7 +111,7 @@ const placeReference = (place) => formatReference(referenceNumberForPlace(place)
 
 /**
  * Returns the nibbles and status characters of a RAM register; an empty list if the board does not have the register. The name of a nibble
- * includes the program constants that equal its SRC byte.
+ * includes the names of the program constants that equal its SRC byte.
  * @param {ShownState} state
  * @param {number} bank
  * @param {number} register
@@ -231,7 +231,7 @@ export class Scopes {
   }
 
   /**
-   * Returns the variables with a variables reference in the default number format; null if the reference is unknown.
+   * Returns the variables of a scope, bank or RAM register, in the default number format; null if the reference is unknown.
    * @param {number} reference
    */
   rawVariables(reference) {

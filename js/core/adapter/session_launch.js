@@ -1,4 +1,4 @@
-// Creates the session for `launch` and `attach`. `launch` creates a session in memory from the texts of a board and a program, or opens or
+// Creates the session for `launch` and `attach`. `launch` creates a session in memory from a board file and a program file, or opens or
 // creates a session file. `attach` opens an existing session file. Unless `write` is true, the session is a copy, and the file does not
 // change.
 
@@ -51,7 +51,8 @@ import { leadsOut } from "../../words/server.js";
  * @property {(name: string, folder: string) => boolean} isInside Returns whether a file is in a folder, after symbolic links are resolved.
  * @property {(name: string) => Promise<OpenFile>} open Starts a program that opens a session file. Resolves to the open file.
  * @property {(name: string) => Promise<OpenFile>} create Starts a program that creates a session file. Resolves to the open file.
- * @property {(name: string) => Promise<Uint8Array>} readSession Resolves to the bytes of a session file that no other program has open.
+ * @property {(name: string) => Promise<Uint8Array>} readSession Resolves to the bytes of a session file. Rejects if another program has the
+ * file open.
  * @property {() => Promise<void>} pause Yields to other tasks.
  */
 
@@ -150,8 +151,8 @@ function refusalError(name, { number, line }, messages) {
 }
 
 /**
- * Creates a session in memory from the texts of a board and a program. Throws AdapterError if there is no board file, or if a text cannot
- * be read or is rejected.
+ * Creates a session in memory from a board file and a program file. Throws AdapterError if there is no board file, or if a file cannot be
+ * read or its text is rejected.
  * @param {Engine} engine
  * @param {RequestedFiles} requestedFiles
  * @param {Host} host
@@ -183,8 +184,8 @@ async function sessionFromTest(engine, test, host) {
 }
 
 /**
- * Opens or creates a session file. Resolves to the session and its writer. Rejects if a text is missing or has errors, or if ROM differs
- * from a program that is not loaded.
+ * Opens or creates a session file. Resolves to the session and its writer. Rejects if a text for a new file is missing, if a text has
+ * errors, or if ROM differs from a program that is not loaded.
  * @param {Engine} engine
  * @param {RequestedFiles} requestedFiles
  * @param {Host} host
@@ -197,7 +198,7 @@ async function sessionFromFile(engine, requestedFiles, host, messages) {
   if (isNew && (board === "" || program === "")) {
     throw new AdapterError(say.sessionMissing(requestedFiles.session), true);
   }
-  // A session in memory reports the errors in the texts before the file is created.
+  // A session in memory reports errors in the board and program texts before the file is created.
   if (isNew) sessionFromTexts(engine, requestedFiles, host, messages);
   const file = await (isNew ? host.create(requestedFiles.session) : host.open(requestedFiles.session));
   try {
@@ -215,8 +216,8 @@ async function sessionFromFile(engine, requestedFiles, host, messages) {
 }
 
 /**
- * Loads a copy of a session file into memory. Resolves to the session. Rejects if a text has errors, or if ROM differs from a program that
- * is not loaded.
+ * Loads a copy of a session file into memory. Resolves to the session. Rejects if the program has errors, or if ROM differs from a program
+ * that is not loaded.
  * @param {Engine} engine
  * @param {RequestedFiles} requestedFiles
  * @param {Host} host
@@ -279,7 +280,7 @@ function checkRom(session, engine, { program, session: file }, messages) {
 }
 
 /**
- * Creates the session for a `launch`: from a test, from texts, or from a session file.
+ * Creates the session for a `launch`: from a test, from board and program texts, or from a session file.
  * @param {Engine} engine
  * @param {any} args
  * @param {Host} host

@@ -1,12 +1,12 @@
-// Defines the answer format of each input line, and whether a text follows the line. Both come from the table tools/lib/answers.txt; its
+// Defines the answer format of each input line, and whether text follows the line. Both come from the table tools/lib/answers.txt; its
 // header explains the columns.
 
 import table from "#answer-table";
 
 /**
- * The format of the answer to an input line. `opensText`: true if a text follows the input line. `isQuery`: true if the line does not
- * change the session. `first`: the pattern of the first answer line. `continuation`: the pattern of the other answer lines, null if there
- * are none. `count`: the number of these other lines, in the notation of the table.
+ * The format of the answer to an input line. `opensText`: true if text follows the input line. `isQuery`: true if the line does not change
+ * the session. `first`: the pattern of the first answer line. `continuation`: the pattern of the other answer lines, null if there are
+ * none. `count`: the number of these other lines, in the notation of the table.
  * @typedef {{ opensText: boolean, isQuery: boolean, first: RegExp, continuation: RegExp | null, count: string }} AnswerFormat
  */
 

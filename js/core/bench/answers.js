@@ -4,9 +4,10 @@ import { isListingLine } from "./answer_table.js";
 
 /**
  * @typedef {{ cycles: number, end: string }} Run the number of cycles that ran, and the bench's word for the reason why the run ended
- * @typedef {{ number: number, line: number }} Refusal an error number of the bench, and the text line with the error (0 for none)
+ * @typedef {{ number: number, line: number }} Refusal an error number of the bench, and the number of the text line with the error (0 for
+ *   none)
  *
- * The registers, as texts in the form in which the bench prints them. `owed` is "1" while the second cycle of an instruction is pending.
+ * The registers, as strings in the form in which the bench prints them. `owed` is "1" while the second cycle of an instruction is pending.
  * `bank` is the RAM bank that DCL selected. `returns` are the return addresses, newest first.
  * @typedef {{ accumulator: string, carry: string, counter: string, owed: string, bank: string, test: string, registers: string[],
  *   returns: string[] }} Registers
@@ -36,7 +37,7 @@ import { isListingLine } from "./answer_table.js";
 
 /**
  * Parses a refusal, such as `no 42` or `no 31 line 5`. Returns its error number and line number (0 for none); null for any other answer.
- * Ignores the board part that the refusal of a board text also names.
+ * Ignores the name of the board part in the refusal of a board text.
  * @param {string} answer
  * @returns {Refusal | null}
  */
@@ -46,8 +47,8 @@ export function parseRefusal(answer) {
 }
 
 /**
- * Parses the answer to a run, such as `ok 7 ran 100 end`. Returns the number of cycles, and the bench's word for the reason of the end.
- * Returns null for any other answer.
+ * Parses the answer to a run, such as `ok 7 ran 100 end`. Returns the number of cycles, and the bench's word for the reason why the run
+ * ended. Returns null for any other answer.
  * @param {string} answer
  * @returns {Run | null}
  */
@@ -123,7 +124,7 @@ export function watchedPlaces(answer) {
 }
 
 /**
- * Reads the answer to `map`. For a refusal, returns a map without lines and names.
+ * Reads the answer to `map`. If the answer is a refusal, returns a map without lines and names.
  * @param {string[]} answers
  * @returns {ProgramMap}
  */

@@ -34,7 +34,7 @@ import { WorkerDiedError, unpackError } from "./bench_errors.js";
  *   Promise<Awaited<ReturnType<Requests[Name]>>> }} Caller
  */
 
-/** The interval between pings of a worker with unanswered requests, in milliseconds. */
+/** The interval between pings of a busy worker, in milliseconds. */
 const PING_INTERVAL_MS = 1000;
 /** The maximum number of unanswered pings. If the worker does not answer the last of them within an interval, the page terminates it. */
 const MAX_UNANSWERED_PINGS = 10;
@@ -161,7 +161,10 @@ export class Bench {
     }, 2 * PING_INTERVAL_MS);
   }
 
-  /** Pings the worker if it has unanswered requests. The limit is a number of pings, not a time, because the computer can sleep. */
+  /**
+   * Pings the worker if it has unanswered requests or runs the machine at full speed. The limit is a number of pings, not a time, because
+   * the computer can sleep.
+   */
   pingWorker() {
     if (this.allowsSilence || (this.pendingRequests.size === 0 && !this.isRunning)) {
       this.unansweredPings = 0;

@@ -1,5 +1,5 @@
 // Defines the format of a board text for the page: the TOML keys and signal lines of each part, the ranges of values, and the maximum
-// number of parts. Only the bench decides whether a board is valid. A unit test compares each limit with the bench.
+// number of parts. Only the bench decides whether a board is valid. A unit test compares each limit with that of the bench.
 
 import { indices } from "./numbers.js";
 

@@ -20,7 +20,7 @@ export class ErrorMessages {
   }
 
   /**
-   * Returns the message for an error. If the bench reported the error, the message includes its number.
+   * Returns the message for an error. If the bench reported the error, the message includes the error number.
    * @param {unknown} error
    */
   errorMessage(error) {

@@ -9,7 +9,7 @@ export const MAX_LINE_LENGTH = 255;
 /** The error numbers of the bench for a line that is too long, and for a line with a character that INVALID_CHARACTER matches. */
 export const LINE_TOO_LONG = 12;
 export const NOT_ASCII = 14;
-/** Matches a character that the bench never accepts: any character other than a tab and printable ASCII characters. */
+/** Matches a character that the bench never accepts: any character other than a tab or a printable ASCII character. */
 export const INVALID_CHARACTER = /[^\t -~]/u;
 /** The maximum number of places in a `trace` line. */
 export const MAX_PLACES = 16;
@@ -31,7 +31,7 @@ export function stripCarriageReturn(rawLine) {
 }
 
 /**
- * Returns whether a text follows a line, such as a program after `asm`. The text ends at a line that consists of a dot.
+ * Returns whether text follows a line, such as a program after `asm`. The text ends at a line that consists of a dot.
  * @param {string} line
  */
 export function opensText(line) {
@@ -169,7 +169,7 @@ export function matchAnswers(inputs, answers) {
 }
 
 /**
- * Joins lines into a text in which each line ends with a line feed.
+ * Joins lines into a string in which each line ends with a line feed.
  * @param {string[]} lines
  */
 export function joinLines(lines) {

@@ -154,7 +154,7 @@ function findWordError([first, ...words]) {
 }
 
 /**
- * Returns the first character in a line that the bench never accepts; "" if there is none.
+ * Returns a line's first character that the bench never accepts; "" if there is none.
  * @param {string} line
  */
 export function invalidCharacterIn(line) {
@@ -162,7 +162,8 @@ export function invalidCharacterIn(line) {
 }
 
 /**
- * Returns the syntax error in a line; null if the syntax is correct. The bench can still reject the line, for example because of its board.
+ * Returns the syntax error in a line; null if the syntax is correct. The bench can still reject the line, for example because the board
+ * lacks a place.
  * @param {string} line without a line feed
  * @returns {BenchLineError | null}
  */

@@ -1,5 +1,5 @@
 // Replaces names in bench lines: `@NAME` becomes the value of a name in the program, and `set PLACE = VALUE` becomes the lines that set the
-// place. Texts after a line, such as a program after `asm`, do not change.
+// place. Text after a line, such as a program after `asm`, does not change.
 
 import { readSetting } from "../conditions/set_command.js";
 import { opensText, stripCarriageReturn } from "./inputs.js";
@@ -10,8 +10,8 @@ import { errorInColumn } from "../../words/conditions.js";
 /**
  * @typedef {import("../machine/source_map.js").SourceMap} SourceMap
  *
- * The lines after the replacement. If a line has an error, `message` is the first error message and `line` the line number; otherwise they
- * are "" and 0.
+ * The lines after the replacement. If a line has an error, `message` is the first error message and `line` is its line number; otherwise
+ * they are "" and 0.
  * @typedef {{ lines: string, message: string, line: number }} ReplacedLines
  */
 
@@ -19,7 +19,7 @@ const NAME_REFERENCE = /(^|[ \t])@([^ \t]*)/g;
 const SET_LINE = /^\s*set(?!\S)(.*)$/;
 
 /**
- * Replaces the names and the `set` lines in bench lines, but not in the texts after lines such as `asm`.
+ * Replaces the names and the `set` lines in bench lines, but not in the text after lines such as `asm`.
  * @param {string} lines
  * @param {SourceMap | null} map the source map of the program in ROM; null if unknown
  * @returns {ReplacedLines}

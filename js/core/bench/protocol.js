@@ -6,11 +6,11 @@
  * @typedef {import("./bench_errors.js").PackedError} PackedError
  * @typedef {import("./run_log.js").RunEntry} RunEntry
  *
- * A session state for the page. `snapshot`: the answers to the snapshot queries. `file`: the bytes of the session file (transferred).
- * `board`: the answer to `board`, null if unchanged. `total`: the number of all cycles. `reset`: the number of cycles up to the last reset.
- * `futureCount`: the number of possible moves forward in time. `past`: the additions to the timeline since the last report. `waves`: the
- * recording since the last report, null if recording is off. `printed`: the printer data, null if unchanged. `waitingChanges`: the key
- * changes that are queued for later.
+ * The session state that the worker sends to the page. `snapshot`: the answers to the snapshot queries. `file`: the bytes of the session
+ * file (transferred). `board`: the answer to `board`, null if unchanged. `total`: the number of all cycles. `reset`: the number of cycles
+ * up to the last reset. `futureCount`: the number of possible moves forward in time. `past`: the additions to the timeline since the last
+ * report. `waves`: the recording since the last report, null if recording is off. `printed`: the printer data, null if unchanged.
+ * `waitingChanges`: the key changes that are queued for later.
  * @typedef {{ snapshot: string[], file: ArrayBuffer, board: string[] | null, total: number, reset: number, futureCount: number,
  *   past: import("../engine/timeline.js").PastChanges, waves: import("../engine/live_recorder.js").LivePart | null,
  *   printed: import("../engine/printer_codes.js").PrintoutData | null,

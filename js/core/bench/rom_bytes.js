@@ -15,7 +15,7 @@ export const MAX_LISTING_LINES = 256;
 export const NO_BYTE = -1;
 
 /**
- * Returns the `list` queries for some ROM pages.
+ * Returns the `list` queries for the given ROM pages.
  * @param {number[]} pages
  */
 export function listQueries(pages) {

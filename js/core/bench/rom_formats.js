@@ -16,7 +16,7 @@ const END_TYPES = ["7", "8", "9"];
 
 /**
  * Stores the bytes of a data record in the image. Ignores other records. Returns whether the record ends the file. Throws `RecordError` or
- * `ImageError` for an error.
+ * `ImageError` if the record is invalid.
  * @param {string} record
  * @param {ImageBytes} image
  */
@@ -35,7 +35,7 @@ function storeSRecord(record, image) {
 }
 
 /**
- * Parses S-records; returns the image bytes. Throws `ImageError` for an error.
+ * Parses S-records; returns the image bytes. Throws `ImageError` if the text is invalid.
  * @param {string} text
  * @param {number} [offset] added to each address
  */
@@ -55,7 +55,7 @@ export function readSRecords(text, offset = 0) {
 
 // --- BNPF ---
 
-/** The number of letters in a BNPF word, without the final `F`. */
+/** The number of letters in a BNPF word, not counting the final `F`. */
 const WORD_LENGTH = 9;
 /** Matches the text after the `B` of a BNPF word: the next three letters of the word, or fewer if the line ends. */
 const TEXT_AFTER_B = /[ \t]*(?:[NP][ \t]*[NP][ \t]*[NP]|(?:[NP][ \t]*)?(?:[NP][ \t]*)?$)/iy;
@@ -72,8 +72,8 @@ function beginsWord(line, index) {
 }
 
 /**
- * Parses BNPF; returns the image bytes. Throws `ImageError` for an error. A word is `B`, eight letters `P` (1) or `N` (0) with the highest
- * bit first, and `F`. A word can continue on the next line. Ignores text between words.
+ * Parses BNPF; returns the image bytes. Throws `ImageError` if the text is invalid. A word is `B`, eight letters `P` (1) or `N` (0) with
+ * the highest bit first, and `F`. A word can continue on the next line. Ignores text between words.
  * @param {string} text
  * @param {number} [from] the address of the first word
  */

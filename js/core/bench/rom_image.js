@@ -64,7 +64,7 @@ export function readBytes(file, from = 0) {
 }
 
 /**
- * Calls `read` for each line of a text. Adds the line number to the message of an `ImageError`.
+ * Calls `read` for each line of the text. Adds the line number to the message of an `ImageError`.
  * @param {string} text
  * @param {(line: string) => void} read
  */
@@ -80,7 +80,7 @@ export function readLines(text, read) {
 }
 
 /**
- * Parses an Intel HEX record. Throws `RecordError`, or `ImageError` for a wrong checksum.
+ * Parses an Intel HEX record. Throws `RecordError` if the text is not a record, and `ImageError` if the checksum is wrong.
  * @param {string} text
  * @returns {{ address: number, type: number, data: number[] }}
  */
@@ -102,7 +102,7 @@ const DATA_SIZES = new Map([[END_TYPE, 0], ...BASE_TYPES.map((type) => /** @type
   ...START_TYPES.map((type) => /** @type {[number, number]} */ ([type, 4]))]);
 
 /**
- * Stores a data record, and checks records of the other known types. Throws `ImageError` for an error.
+ * Stores a data record, and checks records of the other known types. Throws `ImageError` if the record is invalid.
  * @param {{ address: number, type: number, data: number[] }} record
  * @param {ImageBytes} image
  */
@@ -115,7 +115,7 @@ function storeRecord({ address, type, data }, image) {
 }
 
 /**
- * Parses Intel HEX; returns the image bytes. Throws `ImageError` for an error.
+ * Parses Intel HEX; returns the image bytes. Throws `ImageError` if the text is invalid.
  * @param {string} text
  * @param {number} [offset] added to each address
  */

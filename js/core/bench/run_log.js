@@ -1,4 +1,4 @@
-// Logs the lines that the bench executes while the machine runs, for the console. The log has one entry per key change, and one entry for
+// Logs, for the console, the lines that the bench executes while the machine runs. The log has one entry per key change, and one entry for
 // consecutive runs.
 
 import * as say from "../../words/bench.js";

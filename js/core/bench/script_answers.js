@@ -44,11 +44,12 @@ function completeLength(input, answers, from) {
 }
 
 /**
- * Returns the index of the first line with a wrong format, among the lines of an answer after its first; -1 if all have the correct format.
+ * Checks the lines of an answer after its first line. Returns the index of the first of these lines that has a wrong format; -1 if there is
+ * none.
  * @param {Input} input
  * @param {string[]} answers
  * @param {number} from the index of the answer's first line
- * @param {number} end the index after its last line
+ * @param {number} end the index after the answer's last line
  */
 function findInvalidLine(input, answers, from, end) {
   const format = ANSWER_FORMATS.get(input.kind);

@@ -24,7 +24,7 @@ export function snapshotQueries(board) {
 }
 
 /**
- * Returns a snapshot: for each query, its answer lines joined into one text.
+ * Returns a snapshot: for each query, its answer lines joined into one string.
  * @param {Input[]} inputs the queries
  * @param {string[]} answers
  */

@@ -39,7 +39,7 @@ export function stateValue(answer, key) {
 
 /**
  * Returns the answer without the command count, so that callers can compare the states of two sessions.
- * @param {string} answer the answer to `state`; other answers can follow in the same text
+ * @param {string} answer the answer to `state`; other answers can follow in the same string
  */
 export function stripSeq(answer) {
   return answer.replace(/^state seq \d+ /, "");
@@ -54,7 +54,7 @@ export function parseItems(value) {
 }
 
 /**
- * Parses the part of the answer with the registers.
+ * Parses the part of the answer that contains the registers.
  * @param {string} part
  * @returns {Registers}
  */
@@ -63,7 +63,7 @@ export function parseRegisters(part) {
 }
 
 /**
- * Parses the part of the answer with the ports, chains and keys.
+ * Parses the part of the answer that contains the ports, chains and keys.
  * @param {string} part the text after `src`
  * @returns {Ports}
  */

@@ -7,8 +7,8 @@ import { WorkerDiedError } from "./bench_errors.js";
  * @typedef {import("./bench_client.js").Bench} Bench
  * @typedef {import("../testing/test_preparation.js").ProjectTextError} ProjectTextError
  *
- * The result of the work: the errors in the texts that prevented the work, and whether the worker stopped before the end, for example
- * because the user stopped the work.
+ * The result of the work. `errors` are the errors that prevented the work, found in the project's texts. `isStopped` is true if the worker
+ * stopped before the end, for example because the user stopped the work.
  * @typedef {{ errors: ProjectTextError[], isStopped: boolean }} TaskResult
  */
 

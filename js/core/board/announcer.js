@@ -1,12 +1,12 @@
-// Announces a changing text to screen readers. A text is announced after it has been unchanged for at least ANNOUNCEMENT_DELAY_MS. A text
+// Announces changing text to screen readers. The text is announced after it has been unchanged for at least ANNOUNCEMENT_DELAY_MS. Text
 // that changes earlier is not announced.
 
 /** The time for which a text must be unchanged before its announcement, in milliseconds. Also the minimum time between announcements. */
 export const ANNOUNCEMENT_DELAY_MS = 1000;
 
-/** Announces one changing text, such as a display text. */
+/** Announces the changing text of one source, such as a display. */
 export class Announcer {
-  /** @param {(text: string) => void} say announces a text */
+  /** @param {(text: string) => void} say announces text */
   constructor(say) {
     this.say = say;
     this.text = "";
@@ -18,13 +18,14 @@ export class Announcer {
     this.timer = 0;
   }
 
-  /** Prepares for the texts of a new board. The first text of a board is not announced. */
+  /** Prepares for the text of a new board. The first text of a board is not announced. */
   begin() {
     this.isFirst = true;
   }
 
   /**
-   * Sets the text. The text is announced after it has been unchanged for at least ANNOUNCEMENT_DELAY_MS, unless it was announced last.
+   * Sets the text. The text is announced after it has been unchanged for at least ANNOUNCEMENT_DELAY_MS, unless the last announcement had
+   * the same text.
    * @param {string} text
    */
   announce(text) {

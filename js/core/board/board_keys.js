@@ -10,8 +10,8 @@ import * as say from "../../words/board.js";
  * @typedef {import("./key_place.js").Key} Key
  *
  * A key of the board, or the button or switch at the TEST pin. `legend` is the text on the key, "" for a position without a key.
- * `description` is a longer text with the key's position. `isNamed` is true if the front panel defines the legend. `letter` is the keyboard
- * character that presses the key, "" for none.
+ * `description` is a longer text that includes the key's position. `isNamed` is true if the front panel defines the legend. `letter` is the
+ * keyboard character that presses the key, "" for none.
  * @typedef {{ key: Key, legend: string, description: string, isNamed: boolean, isSwitch: boolean, letter: string }} BoardKey
  */
 
@@ -74,8 +74,8 @@ function testKey({ kind, name, level }, takeLetter) {
 const SPECIAL_KEYS = { Enter: "=", Escape: "C", Backspace: "CE", Delete: "CE", ",": "." };
 
 /**
- * Returns the board key that a keyboard key presses; undefined if there is none. The first match counts, in this order: a key with exactly
- * this letter, a key with the legend in SPECIAL_KEYS, a key whose letter differs only in case.
+ * Returns the board key that a keyboard key presses; undefined if there is none. Returns the first match in this order: a key whose letter
+ * equals `keyboardKey`, a key with the legend in SPECIAL_KEYS, a key whose letter differs only in case.
  * @template {BoardKey} ShownKey
  * @param {ShownKey[]} keys
  * @param {string} keyboardKey the `key` of the keyboard event

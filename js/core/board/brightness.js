@@ -168,9 +168,9 @@ export class Brightness {
       .map(({ rows, columns }) => new Array(rows * columns).fill(0));
     /** @type {PerceivedDigit[][]} */
     this.digits = [];
-    /** @type {SteadinessDetector[]} the detector of each lamp */
+    /** @type {SteadinessDetector[]} the steadiness detector of each lamp */
     this.lampSteadiness = [];
-    /** @type {SteadinessDetector[]} the detector of each display */
+    /** @type {SteadinessDetector[]} the steadiness detector of each display */
     this.displaySteadiness = [];
     this.begin("");
   }
@@ -202,7 +202,7 @@ export class Brightness {
       detector.add(litShares.changeSummaries[lamp], cycles, time);
       const { isSteady } = detector;
       const isLitNow = isLit(litShares.marks, lamp);
-      // A lamp that goes off fades, so that a short flash stays visible.
+      // A steady lamp that is on has full brightness at once. A lamp that goes off fades, so that a short flash stays visible.
       if (isSteady && isLitNow) this.lamps[lamp] = 1;
       this.isOn[lamp] = isSteady ? isLitNow : this.lamps[lamp] >= MIN_ON_DUTY;
     });

@@ -51,7 +51,7 @@ function segmentsAt(marks, firstLamp) {
 }
 
 /**
- * Returns whether a digit with this number of lamps has a decimal point.
+ * Returns whether a digit with the given number of lamps has a decimal point.
  * @param {number} columns the number of lamps
  */
 export function hasPoints(columns) {

@@ -1,4 +1,4 @@
-// Formats the displays and named lamps of a board as text, as `mcs4 display` prints it.
+// Formats the displays and named lamps of a board as text, in the format of `mcs4 display`.
 
 import { isLit, digitPatterns, displayedNumber } from "./digit_patterns.js";
 
@@ -42,7 +42,7 @@ export class DisplayText {
 }
 
 /**
- * Joins the number on the displays and the lamp names into one text.
+ * Joins the number on the displays and the lamp names into one string.
  * @param {{ number: string, names: string }} displayText
  */
 export function joinDisplayText({ number, names }) {

@@ -36,7 +36,7 @@ import * as say from "../../words/board.js";
 /** The maximum total number of words in all lists of names, colours and positions. A board needs far fewer. */
 const MAX_WORDS = findLimit("words");
 
-/** The front panel in a board's text. */
+/** The front panel that a board text defines. */
 export class Face {
   /** @param {string} text the board text */
   constructor(text) {
@@ -63,10 +63,11 @@ export class Face {
     this.ports = new Map();
     /** @type {FaceError[]} */
     this.errors = [];
-    /** All front-panel lines as one text. Callers compare this text to find changes of the front panel. */
+    /** All front-panel lines as one string. Callers compare this string to find changes of the front panel. */
     this.comments = "";
     /**
-     * @type {Map<string, number>} the line numbers of definitions that a text can contain only once, by the identifier of the definition
+     * @type {Map<string, number>} the line numbers of definitions that a board text can contain only once, by the identifier of the
+     *   definition
      */
     this.definitionLines = new Map();
     /** @type {{ row: number, column: number, word: string, line: number }[]} the words of grid lines, before lamp names are resolved */
@@ -89,8 +90,8 @@ export class Face {
   }
 
   /**
-   * Records a definition that a text can contain only once. Returns true for the first definition; reports an error and returns false for
-   * any other.
+   * Records a definition that a board text can contain only once. Returns true for the first definition; reports an error and returns false
+   * for any other.
    * @param {string} name the identifier of the definition
    * @param {number} line
    * @param {string} messageName the name of the error message

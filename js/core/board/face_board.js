@@ -39,7 +39,7 @@ export function hasOutput(board, line) {
 }
 
 /**
- * Returns the buzzer of a front panel; null if it has none, or if its output line is missing on the board.
+ * Returns the buzzer of a front panel; null if there is no buzzer, or if its output line is missing on the board.
  * @param {Board} board
  * @param {Face} face
  */
@@ -48,7 +48,7 @@ export function findBuzzer(board, { buzzer }) {
 }
 
 /**
- * Returns the printer of a front panel; null if it has none, or if one of its output lines is missing on the board.
+ * Returns the printer of a front panel; null if there is no printer, or if one of its output lines is missing on the board.
  * @param {Board} board
  * @param {Face} face
  */
@@ -147,7 +147,7 @@ export function missingParts(face, board) {
 }
 
 /**
- * Returns whether names or displays depend on lines of this kind.
+ * Returns whether names or displays depend on lines of the given kind.
  * @param {string} kind the first word of the line
  */
 function isFatal(kind) {

@@ -17,7 +17,7 @@ import table from "#face-table";
 const rows = table.split("\n").filter((line) => line !== "" && !line.startsWith("#")).map((line) => line.split("\t"));
 
 /**
- * Returns the rows of the table that start with a word, without this word.
+ * Returns the table rows that start with the given word, without that word.
  * @param {string} word
  */
 const tableRows = (word) => rows.filter((row) => row[0] === word).map((row) => row.slice(1));
@@ -45,7 +45,7 @@ export const SEGMENT_CHARACTERS = new Map(tableRows("digit").map(([marks, word])
 const LIMITS = new Map(tableRows("limit").map(([name, number]) => [name, Number(number)]));
 /** The patterns of the text between the first word and the colon, by name. */
 const HEADS = new Map(tableRows("head").map(([name, expression]) => [name, new RegExp(expression)]));
-/** For each synonym, the first word of a line that it can replace. */
+/** For each synonym, the first word of a line that the synonym can replace. */
 const SYNONYMS = new Map(tableRows("other").map(([synonym, word]) => [synonym, word]));
 /** The error messages, by name. */
 const MESSAGES = new Map(tableRows("say").map(([name, words]) => [name, words]));
@@ -56,7 +56,7 @@ const FACE_LINE = /^[ \t]*#[ \t]*([A-Za-z]+)(?:[ \t]+([^ \t:]+)(?:[ \t]+to[ \t]+
 export const findLimit = (name) => LIMITS.get(name) || 0;
 
 /**
- * Returns an error message with its values.
+ * Returns an error message with the values inserted.
  * @param {string} name the name of the message
  * @param {...(string | number)} values values for `{1}`, `{2}` ..
  */
@@ -65,7 +65,7 @@ export function formatMessage(name, ...values) {
   return values.reduce((/** @type {string} */ words, value, index) => words.replace(`{${index + 1}}`, () => String(value)), message);
 }
 
-/** @type {(text: string) => string[]} splits a text at blanks and tabs */
+/** @type {(text: string) => string[]} splits text at blanks and tabs */
 export const splitWords = (text) => text.split(/[ \t]+/).filter(Boolean);
 
 /** @type {(word: string | undefined) => boolean} returns whether a word is a decimal number of at most four digits */

@@ -10,7 +10,7 @@ import * as say from "../../words/board.js";
  * @typedef {import("../bench/answers.js").Board} Board
  * @typedef {import("./face.js").Face} Face
  *
- * The display texts, one for each answer about lamps. `error` is an error message, or ""; with an error, there are no texts.
+ * The display text for each answer about lamps. `error` is an error message, or "". If there is an error, the list of texts is empty.
  * @typedef {{ lines: string[], error: string }} DisplayTexts
  */
 

@@ -6,7 +6,7 @@ import { isLit } from "./digit_patterns.js";
 /**
  * @typedef {import("./brightness.js").Brightness} Brightness
  *
- * The functions that read the state of a lamp. `isLit` returns whether the lamp is on at one instant, from a text with one mark per lamp.
+ * The functions that read the state of a lamp. `isLit` returns whether the lamp is on at one instant, from a string with one mark per lamp.
  * `duty` returns the perceived duty cycle, from 0 to 1. `isOn` returns whether the lamp is perceived as on.
  * @typedef {{ isLit: (marks: string) => boolean, duty: (brightness: Brightness) => number,
  *   isOn: (brightness: Brightness) => boolean }} LampReader

@@ -13,7 +13,7 @@ import { isSameKey } from "./key_place.js";
 /** The key changes that the worker has not made yet. */
 export class PendingKeys {
   constructor() {
-    /** @type {Change[]} the worker's queue in its last report */
+    /** @type {Change[]} the worker's queue as of its last report */
     this.waitingChanges = [];
     /** @type {RequestedChange[]} the changes in transit to the worker */
     this.changesInTransit = [];

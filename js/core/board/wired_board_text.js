@@ -6,7 +6,7 @@ import { sentText } from "../text/sendable_text.js";
 
 /** @typedef {{ text: string, board: string }} WiredText a board text, and the bench's answer to `board` after `wire` with this text */
 
-/** The maximum number of stored texts. Earlier texts are stored because a move back in time can return to an earlier board. */
+/** The maximum number of stored board texts. Earlier texts are stored because a move back in time can return to an earlier board. */
 const MAX_TEXTS = 4;
 
 /**

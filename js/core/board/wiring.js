@@ -15,8 +15,8 @@ import * as say from "../../words/board.js";
  * @typedef {{ id: string, line: string, label: string, colour?: string, number?: number, x: number, y: number }} Pin
  * @typedef {Omit<Pin, "x" | "y">} UnplacedPin
  *
- * A part. `id` is its name (`rom 1`, `ram 0.2`, `chain 0`, `keys`, `lamps`, `test`, `buzzer` or `processor`). `descriptions` are the texts
- * that describe the part.
+ * A part. `id` is its name (`rom 1`, `ram 0.2`, `chain 0`, `keys`, `lamps`, `test`, `buzzer` or `processor`). `descriptions` contains the
+ * phrases that describe the part.
  * @typedef {{ id: string, kind: string, title: string, x: number, y: number, width: number, height: number, pins: Pin[],
  *   descriptions: string[] }} Part
  *

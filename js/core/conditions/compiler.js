@@ -1,5 +1,5 @@
-// Compiles the syntax tree of a condition, for a board and a program, into functions. These functions evaluate the condition on answers of
-// the bench. The compiler also collects the places that the condition depends on.
+// Compiles the syntax tree of a condition, for a board and a program, into functions. These functions evaluate the condition from the
+// bench's answers. The compiler also collects the places that the condition depends on.
 
 import { compileChain, compileCounter, compileCycles, compileDisplay, compileLamps, compilePrinted } from "./keyword_conditions.js";
 import { fail } from "./scanner.js";

@@ -1,13 +1,13 @@
-// Compiles conditions (docs/MANUAL.md, "Conditions"). Conditions can contain front-panel names and program names. A compiled condition
-// lists the places (registers, RAM nibbles, ports ..) that it depends on. Its method `holds` returns whether the condition is true for
-// given values of these places.
+// Compiles conditions (docs/MANUAL.md, "Conditions"). Conditions can contain names from the front panel and from the program. A compiled
+// condition lists the places (registers, RAM nibbles, ports ..) that it depends on. Its method `holds` returns whether the condition is
+// true for given values of these places.
 //
 //     const { condition, error } = compileCondition("lamp open on and (r9 >= 8 or cy = 1)", { face, board, map });
 //     if (condition) .. `trace 1000 ${condition.places.join(" ")}` ..; condition.holds(rowValues(row))
 //
-// `places` has at most 16 different entries: places that `trace` reports, and STATE_PLACES, which `state` reports (probes.js queries both).
-// The argument of `holds` contains the values of these places, in the same order. `error` is an error message, and `column` is the error's
-// column, from 0.
+// `places` has at most 16 different entries: places that `trace` reports, and members of STATE_PLACES, which `state` reports (probes.js
+// queries both). The argument of `holds` contains the values of these places, in the same order. `error` is an error message, and `column`
+// is the error's column, from 0.
 //
 // There are three functions that compile conditions:
 // - compileCondition: the condition of a breakpoint;
@@ -31,7 +31,7 @@ import * as say from "../../words/conditions.js";
  * source map of the program. `watched` are the watch names with their expressions.
  * @typedef {{ face: Face, board: Board, map: Pick<SourceMap, "names" | "nameOf"> | null, watched?: Map<string, string> }} Names
  *
- * Values that `trace` does not report. `test`, `owed` (1 if a second cycle is pending) and `keys` are texts from the answer to `state`.
+ * Values that `trace` does not report. `test`, `owed` (1 if a second cycle is pending) and `keys` are strings from the answer to `state`.
  * `cycles` is the number of cycles since the last mark in a test. `lampForecast` is the answer to LAMPS_FORECAST_QUERY, for the perceived
  * lamps. `printed` are the words on the printout.
  * @typedef {{ test: string, owed: string, keys: string, cycles: number, lampForecast: string[], printed: string[] }} ExtraValues
@@ -43,8 +43,8 @@ import * as say from "../../words/conditions.js";
  *   explain: (values: string[], extraValues?: ExtraValues) => string, needs: string[], address: number }} Condition
  * @typedef {{ condition: Condition, error: "", column: -1 } | { condition: null, error: string, column: number }} ConditionResult
  *
- * A compiled value or condition. `textOf` returns its value as text: a place as `trace` spells it, any other value in decimal, and a
- * condition as `true` or `false`. `number` returns the value as a number; it is null for a condition.
+ * A compiled value or condition. `textOf` returns its value as text: the value of a place as `trace` spells it, any other value in decimal,
+ * and a condition as `true` or `false`. `number` returns the value as a number; it is null for a condition.
  * @typedef {{ places: string[], textOf: (values: string[]) => string, number: ((values: string[]) => number) | null }} Expression
  * @typedef {{ expression: Expression, error: "", column: -1 } | { expression: null, error: string, column: number }} ExpressionResult
  */
@@ -67,7 +67,7 @@ function checkPlaceCount({ length }) {
 }
 
 /**
- * Calls a function that parses and compiles a text. Returns the function's result in `result`, or the message and column of the
+ * Calls a function that parses and compiles text. Returns the function's result in `result`, or the message and column of the
  * `ConditionError` that the function throws.
  * @template Result
  * @param {() => Result} compile

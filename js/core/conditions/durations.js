@@ -34,7 +34,7 @@ export function parseDuration(words, from) {
 }
 
 /**
- * Parses words that must form exactly one duration. Returns its cycles, or 0 if the words are invalid.
+ * Parses words that must form exactly one duration. Returns its length in cycles, or 0 if the words are invalid.
  * @param {string[]} words
  */
 export function parseExactDuration(words) {

@@ -1,6 +1,6 @@
 // Compiles conditions that start with a keyword: `lamps`, `display`, `printed`, `cycles`, or the name of a chain (`chain0`). Also compiles
 // conditions on the program counter. The parser has already split the conditions into words. All functions that compile a condition throw
-// `ConditionError` for an error.
+// `ConditionError` if the condition has an error.
 
 import { hex, indices } from "../bench/numbers.js";
 import { DisplayText } from "../board/display_text.js";
@@ -43,7 +43,7 @@ function createCondition({ subject, required, isPlural = false, measure, matches
 }
 
 /**
- * Returns whether a text matches a pattern. `?` in the pattern matches any character.
+ * Returns whether the text matches a pattern. `?` in the pattern matches any character.
  * @param {string} text
  * @param {string} pattern
  */
@@ -66,7 +66,7 @@ function isDisplayLamp(lamp, { face }) {
 
 /**
  * Compiles `lamps` with a pattern of `*` (on), `.` (off) and `?` (on or off), or with the names of all lamps that must be on. The word
- * `none` means that all must be off. If names or `none` are used, unnamed display lamps are ignored.
+ * `none` means that all lamps must be off. If names or `none` are used, unnamed display lamps are ignored.
  * @param {string[]} words
  * @param {Names} names
  * @param {Dependencies} dependencies
@@ -182,7 +182,7 @@ export function compileChain(name, words, { board }, dependencies) {
 }
 
 /**
- * Returns an address with its program name: `012 (next + 2)`.
+ * Returns an address with its name in the program, such as `012 (next + 2)`.
  * @param {number} address
  * @param {Names} names
  */

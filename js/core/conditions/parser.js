@@ -286,7 +286,7 @@ class Parser {
     return this.parseNamed(token);
   }
 
-  /** The last column of the text, used for errors at the end. */
+  /** The last column of the text, used for errors at the end of the text. */
   get lastColumn() {
     return Math.max(0, this.text.length - 1);
   }
@@ -366,7 +366,7 @@ class Parser {
 
   /**
    * Parses `lamp NAME on` or `key NAME down`. Without `on` or `down`, the result is a value. Returns null if an operator follows the word
-   * `lamp` or `key`, which is then a program name.
+   * `lamp` or `key`, which is then a name from the program.
    * @param {Token} token
    * @param {"lamp" | "key"} kind
    * @returns {Node | null}
@@ -470,7 +470,7 @@ class Parser {
     return this.text.slice(column).trim().split(/\s+/).every((word) => this.isLampName(word));
   }
 
-  /** Returns the words of a quoted text. */
+  /** Returns the words of text in quotes. */
   parseQuoted() {
     const token = this.scanner.next();
     return token.text.split(/\s+/).filter(Boolean).map((text) => ({ ...token, text }));
@@ -512,7 +512,7 @@ class Parser {
 }
 
 /**
- * Parses a value or a condition; throws `ConditionError` for an error.
+ * Parses a value or a condition; throws `ConditionError` if the text is neither.
  * @param {string} text
  * @param {(name: string) => boolean} [isLampName] returns whether the name is a lamp name
  * @returns {Node}
@@ -523,7 +523,7 @@ export function parseExpression(text, isLampName = () => false) {
 }
 
 /**
- * Parses a condition; throws `ConditionError` for an error.
+ * Parses a condition; throws `ConditionError` if the text is not a condition.
  * @param {string} text
  * @param {(name: string) => boolean} [isLampName] returns whether the name is a lamp name
  * @returns {ConditionNode}

@@ -49,7 +49,7 @@ const firstAnswer = ([answer]) => answer;
 const parseHexDigits = (answers) => parseInt(answers.join(""), 16);
 
 /**
- * Returns the place that `trace` reports under this name.
+ * Returns the place that `trace` reports under the given name.
  * @param {string} name
  * @param {(board: Board) => boolean} [existsOn] returns whether a board has the place
  * @returns {Place}

@@ -21,7 +21,7 @@ export class ConditionError extends Error {
 }
 
 /**
- * Throws `ConditionError`.
+ * Throws a `ConditionError` with the given message and column.
  * @param {string} message
  * @param {number} [column]
  * @returns {never}
@@ -46,7 +46,7 @@ export function parseNumeral(text) {
   return /^(\d{1,15}|0x[0-9a-f]{1,12}|0b[01]{1,48})$/i.test(text) ? Number(text) : NaN;
 }
 
-/** Splits a text into tokens, one after the other. */
+/** Splits text into tokens, one after the other. */
 export class Scanner {
   /** @param {string} text */
   constructor(text) {

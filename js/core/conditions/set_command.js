@@ -12,7 +12,8 @@ import * as say from "../../words/conditions.js";
  * @typedef {import("./parser.js").ValueNode} ValueNode
  * @typedef {{ place: string, value: ValueNode }} Setting `place` has the spelling that `settablePlace` returns
  *
- * The place and the bench lines that set it. For an error, `error` is the message and `column` the column in the text after `set`.
+ * The place and the bench lines that set it. If the text has an error, `error` is the message and `column` is the column in the text after
+ * `set`.
  * @typedef {{ place: string, lines: string, error: string, column: number }} SettingResult
  */
 
@@ -46,7 +47,7 @@ export function settingLines(place, value) {
 }
 
 /**
- * Parses the text after `set`; throws `ConditionError` for an error.
+ * Parses the text after `set`; throws `ConditionError` if the text has an error.
  * @param {string} text
  * @returns {Setting}
  */
@@ -70,7 +71,7 @@ function makeSetting({ text, column }, value) {
 }
 
 /**
- * Translates the text after `set` to bench lines. VALUE can contain numbers and program names.
+ * Translates the text after `set` to bench lines. VALUE can contain numbers and names from the program.
  * @param {string} text
  * @param {Names["map"]} map the source map of the program
  * @param {import("./condition_language.js").Board | null} [board] if given, a place that the board does not have is an error

@@ -147,7 +147,7 @@ export function keyValue(name, { face }, dependencies) {
 
 /**
  * Looks up a program name. Prefers an exact match. Otherwise returns the only name that is equal apart from case; undefined if there is no
- * such name or several.
+ * such name, or more than one.
  * @param {string} name
  * @param {Names["map"]} map
  */
@@ -190,7 +190,7 @@ function placeValue(place, { board }, dependencies) {
 /**
  * Returns the value of a port with a direction. `rom1 in` is the value that RDR reads; an output line reads as its bit in the port mask of
  * the board. `rom1 out` and `ram0.1 out` are the value in the port latch, with 0 for input lines. Throws `ConditionError` if the board
- * lacks the port, and for `in` after a RAM port.
+ * lacks the port, or if `in` follows a RAM port.
  * @param {NameNode} node
  * @param {Names} names
  * @param {Dependencies} dependencies
@@ -263,7 +263,7 @@ function watchNameValue(name, text, names, dependencies) {
   try {
     return { ...compileValue(node, names, dependencies), name };
   } catch (error) {
-    // The column of the error is relative to the expression, not to the condition.
+    // The new error has no column, because the column of `error` is relative to the expression, not to the condition.
     throw error instanceof ConditionError ? new ConditionError(say.errorInName(name, error.message)) : error;
   } finally {
     dependencies.depth -= 1;
@@ -346,7 +346,7 @@ export function evaluateConstant(node, map) {
 }
 
 /**
- * Compiles a value; throws `ConditionError` for an error.
+ * Compiles a value; throws `ConditionError` if the value has an error.
  * @param {ValueNode} node
  * @param {Names} names
  * @param {Dependencies} dependencies

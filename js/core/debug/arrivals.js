@@ -32,7 +32,7 @@ const MAX_RUNS = 400;
 export const MAX_NOTES = 200;
 
 /**
- * Returns events without a stop, a hit or a note.
+ * Returns breakpoint events without a stop, a hit or a note.
  * @returns {BreakpointEvents}
  */
 export function createEmptyEvents() {
@@ -185,7 +185,8 @@ export class Arrivals {
   }
 
   /**
-   * Restores the hit counts that a caller saved before typed lines. Called if the lines fail, because their counted hits did not happen.
+   * Restores the hit counts that a caller saved before it executed typed lines. Called if the lines fail, because the counted hits did not
+   * happen.
    * @param {number[]} counts
    */
   restoreCounts(counts) {

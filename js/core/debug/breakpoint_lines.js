@@ -6,7 +6,7 @@ import { MAX_BREAKPOINTS } from "./breakpoints.js";
 
 /** @typedef {import("./breakpoints.js").SavedBreakpoint} SavedBreakpoint */
 
-/** The pattern of a text in quotes, in which a backslash escapes a character. */
+/** The pattern of text in quotes, in which a backslash escapes a character. */
 const QUOTED_TEXT = '"((?:[^"\\\\]|\\\\.)*)"';
 /** Matches a breakpoint line, and captures its parts. */
 const BREAKPOINT_LINE = new RegExp("^break(?: line (\\d{1,5}))?(?: at 0x([0-9A-F]{3}))?( off)?(?: from (\\d{1,9}))?"
@@ -15,7 +15,7 @@ const BREAKPOINT_LINE = new RegExp("^break(?: line (\\d{1,5}))?(?: at 0x([0-9A-F
 export const MAX_TEXT_LENGTH = 250;
 
 /**
- * Returns a text in quotes, with escapes. The text is truncated to MAX_TEXT_LENGTH characters, and one blank replaces each sequence of
+ * Returns the text in quotes, with escapes. The text is truncated to MAX_TEXT_LENGTH characters, and one blank replaces each sequence of
  * blanks, tabs and line ends.
  * @param {string} text
  */
@@ -24,7 +24,7 @@ function quote(text) {
 }
 
 /**
- * Returns a text without its escapes, truncated to MAX_TEXT_LENGTH characters.
+ * Returns the text without its escapes, truncated to MAX_TEXT_LENGTH characters.
  * @param {string} [text]
  */
 function unquote(text = "") {

@@ -43,7 +43,7 @@ export class BreakpointManager {
     this.map = null;
     /** The reason why ROM does not contain the assembled source; "" if it does. */
     this.mapError = "";
-    /** @type {string[]} the watch expressions, whose names conditions can use */
+    /** @type {string[]} the watch expressions; conditions can use their names */
     this.watchTexts = [];
     /** @type {Map<number, string>} the error messages of breakpoints that cannot be compiled, by id */
     this.errors = new Map();
@@ -101,7 +101,7 @@ export class BreakpointManager {
     if (this.benchAddresses) this.apply();
   }
 
-  /** Sends the list again after a restart of the bench, which deletes the bench's breakpoints. */
+  /** Sends the list again after the bench has restarted, because a restart deletes the bench's breakpoints. */
   resend() {
     this.lastRequest = "";
     this.apply();
@@ -145,7 +145,7 @@ export class BreakpointManager {
     }
     this.benchAddresses = new Set(addresses);
     if (!previousAddresses) {
-      // This is the first report after opening. If the session was saved without a list, its breakpoints come from the file.
+      // This is the first report since the session was opened. If the session was saved without a list, its breakpoints come from the file.
       if (!this.hasSavedList) for (const address of addresses) this.addFromBench(address);
       this.callbacks.handleChange();
       return;
@@ -356,7 +356,8 @@ export class BreakpointManager {
   apply() {
     this.callbacks.handleChange();
     const { locatedBreakpoints } = this.list;
-    // A name in a condition can have another meaning in another source text, so the comparison includes the texts.
+    // A name in a condition can have another meaning in another source text, or with other watch expressions, so the comparison includes
+    // both.
     const names = locatedBreakpoints.some(isSoft) ? [this.map ? this.map.text : "", this.watchTexts] : [];
     const request = JSON.stringify([names, locatedBreakpoints.map((breakpoint) => ({ ...breakpoint, line: 0, hits: 0 }))]);
     const isNothingSet = locatedBreakpoints.length === 0 && this.benchAddresses !== null && this.benchAddresses.size === 0;

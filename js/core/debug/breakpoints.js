@@ -26,7 +26,7 @@ export const MAX_ENABLED_BREAKPOINTS = 32;
 export const MAX_BREAKPOINTS = 256;
 /** The maximum number of deleted breakpoints that the list stores. Undo restores a stored breakpoint together with its line. */
 const MAX_DELETED_BREAKPOINTS = 256;
-/** The maximum number of earlier texts whose breakpoints the list stores. */
+/** The maximum number of earlier source texts whose breakpoints the list stores. */
 const MAX_TEXTS = 30;
 
 /** @type {Omit<Breakpoint, "id" | "line" | "address">} the default fields of a breakpoint */
@@ -40,11 +40,11 @@ export class BreakpointList {
     /** @type {Breakpoint[]} sorted by line; breakpoints without a line are last */
     this.all = savedBreakpoints.map((savedBreakpoint) => this.createBreakpoint(savedBreakpoint));
     /**
-     * @type {{ text: string, breakpoint: Breakpoint }[]} the breakpoints that were deleted with their lines, and the texts of the lines,
+     * @type {{ text: string, breakpoint: Breakpoint }[]} the breakpoints that were deleted with their lines, and the text of these lines,
      *   newest last
      */
     this.deletedBreakpoints = [];
-    /** @type {Map<string, Breakpoint[]>} the breakpoints of replaced texts, by text, newest last */
+    /** @type {Map<string, Breakpoint[]>} the breakpoints of replaced source texts, by source text, newest last */
     this.breakpointsByText = new Map();
     this.sort();
   }
@@ -151,7 +151,7 @@ export class BreakpointList {
   }
 
   /**
-   * Stores the current breakpoints as the breakpoints of a text.
+   * Stores the current breakpoints as the breakpoints of a source text.
    * @param {string} text
    */
   storeForText(text) {
@@ -285,7 +285,7 @@ export class BreakpointList {
 }
 
 /**
- * Returns the number of lines that two texts have in common, at the start or at the end.
+ * Returns the number of equal lines at the start, or at the end, of two lists of lines.
  * @param {string[]} oldLines
  * @param {string[]} newLines
  * @param {number} max the maximum result

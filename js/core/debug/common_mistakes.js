@@ -105,7 +105,7 @@ export class CommonMistakes {
    * Returns the mistakes in the next lines, up to the first mistake that stops the machine. Checks only the cycles that `cyclesToCheck`
    * chooses.
    * @param {PlannedLine[]} plannedLines the next lines
-   * @param {Uint8Array} [file] the session before the lines, if the lines have already run
+   * @param {Uint8Array} [file] the session file from before the lines, if the lines have already run
    * @returns {FoundMistakes}
    */
   searchLines(plannedLines, file = this.session.file) {
@@ -123,7 +123,7 @@ export class CommonMistakes {
    * Returns whether a mistake stops the machine.
    * @param {CommonMistake} mistake
    * @param {PlannedLine[]} plannedLines the lines with the mistake
-   * @param {Uint8Array} file the session before these lines
+   * @param {Uint8Array} file the session file from before these lines
    */
   stopsMachine({ kind, cycles }, plannedLines, file) {
     if (!this.stoppingKinds.has(kind)) return false;
@@ -138,8 +138,9 @@ export class CommonMistakes {
   }
 
   /**
-   * Returns the number of cycles to check in the next lines. All cycles are checked soon after the machine starts or a key changes, and
-   * whenever mistakes stop the machine. Otherwise only a sample is checked, because a check runs each cycle three more times.
+   * Returns the number of cycles to check in the next lines, at most MAX_CYCLES_PER_CALL. All cycles up to this limit are checked for some
+   * time after the machine starts or a key changes. If mistakes stop the machine, all cycles are checked unless they exceed the limit.
+   * Otherwise only a sample is checked, because a check runs each cycle three more times.
    * @param {PlannedLine[]} plannedLines
    */
   cyclesToCheck(plannedLines) {
@@ -164,7 +165,7 @@ export class CommonMistakes {
   /**
    * Returns all mistakes in the planned lines.
    * @param {PlannedLine[]} plannedLines
-   * @param {Uint8Array} file the session before the lines
+   * @param {Uint8Array} file the session file from before the lines
    */
   findMistakes(plannedLines, file) {
     const { engine } = this.session;

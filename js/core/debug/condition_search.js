@@ -22,7 +22,7 @@ import * as say from "../../words/debug.js";
 export function compileSearchCondition(text, names) {
   const { condition, ...conditionError } = compileTracedCondition(text, names);
   if (!condition) {
-    // If the text is not a valid expression either, for example an unknown name, the expression's error is more specific.
+    // If the text is not a valid expression either, for example because a name is unknown, the expression's error is more specific.
     const value = compileExpression(text, names);
     const { error, column } = value.expression ? conditionError : value;
     return { searchCondition: null, error: errorInColumn(error, column) };

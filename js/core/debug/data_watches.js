@@ -24,7 +24,7 @@ import { changedFrom, CHANGES_ALWAYS } from "../../words/debug.js";
  * `from`: the number of the first change that stops the machine, among those that count.
  * @typedef {{ id: number, name: string, condition: string, from: number }} RequestedWatch
  *
- * A compiled watch. `probes`: the `trace` places that report the value. `changeCount`: the number of changes that counted so far.
+ * A compiled watch. `probes`: the `trace` places that report the value. `changeCount`: the number of changes that have counted so far.
  * @typedef {{ id: number, place: Place, probes: string[], condition: Condition | null, from: number,
  *   changeCount: number }} DataWatch
  *
@@ -74,7 +74,7 @@ export class DataWatches {
   constructor(watches) {
     this.watches = watches;
     this.places = [...new Set(watches.flatMap(({ probes, condition }) => [...probes, ...(condition ? condition.places : [])]))];
-    /** For each watch id, the columns of a trace row for its place, and the columns for its condition. */
+    /** For each watch id, the columns of a trace row with the values for the watched place, and those for the condition. */
     this.columns = new Map(watches.map(({ id, probes, condition }) => (
       [id, [probes, condition ? condition.places : []].map((places) => places.map((place) => this.places.indexOf(place)))])));
   }
@@ -282,7 +282,8 @@ export class SoftStopFinder {
   }
 
   /**
-   * Restores the counts that a caller saved before typed lines. Called if the lines fail, because the counted events did not happen.
+   * Restores the counts that a caller saved before it executed typed lines. Called if the lines fail, because the counted events did not
+   * happen.
    * @param {number[]} counts
    */
   restoreCounts(counts) {
@@ -295,8 +296,8 @@ export class SoftStopFinder {
 }
 
 /**
- * Returns the place that has a name, if this place can be watched on a board; otherwise null. All `trace` places except the program counter
- * can be watched.
+ * Returns the place with the given name, if this place can be watched on the board; otherwise null. All `trace` places except the program
+ * counter can be watched.
  * @param {string} name
  * @param {string[]} board the answer to `board`
  */

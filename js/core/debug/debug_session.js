@@ -34,8 +34,8 @@ import * as say from "../../words/debug.js";
  * @typedef {import("./debugger.js").Tally} Tally
  * @typedef {import("./goals.js").Goal} Goal
  *
- * The contents of a new session. `file`: the bytes of a session file. Without `file`, the constructor sends the texts of the board and the
- * program to the bench. With `file`, these texts only supply names and source lines.
+ * The contents of a new session. `file`: the bytes of a session file. Without `file`, the constructor sends the board text and the program
+ * text to the bench. With `file`, these texts only supply names and source lines.
  * @typedef {{ file?: Uint8Array, board?: string, program?: string }} SessionContents
  *
  * The end of a run. `message` describes the stop. Additional values of `reason`: "pause" if `shouldContinue` ended the run, "passed"
@@ -77,7 +77,7 @@ export class DebugSession {
   }
 
   /**
-   * Sends a text to the bench, unless the text is empty. Adds an error of the bench to `rejectedTexts`.
+   * Sends a board or program text to the bench, unless the text is empty. If the bench rejects the text, adds the error to `rejectedTexts`.
    * @param {Engine} engine
    * @param {Uint8Array} file the session file; modified in place
    * @param {"wire" | "asm"} word the bench command for the text
@@ -107,7 +107,7 @@ export class DebugSession {
   }
 
   /**
-   * Assembles another text into ROM, and changes nothing else in the machine. Resolves to the error if the bench rejects the text,
+   * Assembles another program text into ROM, and changes nothing else in the machine. Resolves to the error if the bench rejects the text,
    * otherwise to null.
    * @param {string} program
    * @returns {Promise<Refusal | null>}
@@ -124,7 +124,8 @@ export class DebugSession {
 
   /**
    * Sends the breakpoint list to the debugger and the bench. In the result, `messages` are the messages about breakpoints that moved to
-   * another instruction. `errors` contains the ids and error messages of breakpoints that cannot be compiled.
+   * another instruction, or that no instruction follows. `errors` contains the ids and error messages of breakpoints that cannot be
+   * compiled.
    */
   async applyBreakpoints() {
     const { session } = this.debugger;

@@ -271,7 +271,7 @@ export class Debugger {
   }
 
   /**
-   * Returns a stop without a breakpoint.
+   * Returns a stop that no breakpoint has caused.
    * @param {string} reason
    * @returns {Stop}
    */
@@ -300,7 +300,7 @@ export class Debugger {
 
   /**
    * Returns the id of the breakpoint that ended a run at the current address, 0 for none.
-   * @param {string} reason the word that ended the run
+   * @param {string} reason the bench's word for the reason why the run ended
    */
   breakpointIdAtStop(reason) {
     if (reason !== "break" || !this.hardBreakpoints) return 0;
@@ -320,7 +320,7 @@ export class Debugger {
   }
 
   /**
-   * Returns the tally of lines that have run, without common mistakes.
+   * Returns the tally of lines that have run. It contains no common mistakes.
    * @param {BreakpointEvents} events the breakpoint events that were found in advance
    * @param {{ reason: string, id: number } | null} stop
    * @param {number} before the cycle count before the lines
@@ -394,7 +394,7 @@ export class Debugger {
   }
 
   /**
-   * Executes typed bench lines, either all or none. A `run` line ends at its first breakpoint.
+   * Executes typed bench lines. If the call fails or is cancelled, no line takes effect. A `run` line ends at its first breakpoint.
    * @param {string} lines
    * @param {(done: number) => Promise<boolean>} shouldContinue called with the number of processed characters; resolves to true to continue
    * @returns {Promise<{ result: LinesResult & { snapshot: string[] }, typedResult: TypedResult }>}

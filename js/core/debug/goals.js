@@ -169,7 +169,7 @@ function addressWatcher(engine, file, address) {
 }
 
 /**
- * Returns a watcher that compares the address of each instruction with an address. It skips the instruction at which the move starts.
+ * Returns a watcher that compares the address of each instruction with the goal address. It skips the instruction at which the move starts.
  * @param {number} address
  */
 function instructionWatcher(address) {

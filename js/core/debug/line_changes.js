@@ -1,4 +1,4 @@
-// Collects the changes of the machine state that the last executed source lines made. At each pause, adds the changes that the last step
+// Collects the changes that the last executed source lines made to the machine state. At each pause, adds the changes that the last step
 // made. A step is one instruction, or a call that the user stepped over.
 //
 //     const changes = new LineChanges();
@@ -52,7 +52,7 @@ function findSteppedLine({ registers: before }, { registers: after }, cycles, ma
   return name === "JMS" && hasReturned ? line : 0;
 }
 
-/** The changes of the machine state that the last executed source lines made. */
+/** The changes that the last executed source lines made to the machine state. */
 export class LineChanges {
   constructor() {
     /** @type {MachineState | null} the state at the last pause; `cycles` is the cycle count at that pause */

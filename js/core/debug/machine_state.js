@@ -22,7 +22,7 @@ export function describeCharacter(byte) {
 
 /** The machine state in a snapshot. */
 export class MachineState {
-  /** @param {string[]} snapshot the answers to `state`, and to `ram B` for each bank B with chips; each answer is one text */
+  /** @param {string[]} snapshot the answers to `state`, and to `ram B` for each bank B with chips; each answer is one string */
   constructor([state, ...banks]) {
     const parts = parseState(state);
     /** @type {Registers} */

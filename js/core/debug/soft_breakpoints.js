@@ -10,7 +10,7 @@ import * as say from "../../words/debug.js";
  * @typedef {import("../conditions/condition_language.js").Names} Names
  *
  * A breakpoint at an address. `condition`: the text of the condition, "" for none. `from`: the number of the first hit that stops the
- * machine; 1 means every hit. `note`: the text to log instead of a stop, with expressions in braces, "" for none. `hits`: the hit count.
+ * machine; 1 means every hit. `note`: the text to log instead of stopping, with expressions in braces, or "". `hits`: the hit count.
  * @typedef {{ id: number, address: number, condition: string, from: number, note: string, hits: number }} LocatedBreakpoint
  * @typedef {{ places: string[], textOf: (values: string[]) => string }} Note a compiled note: `textOf` returns the text for the values of
  *   `places`
@@ -45,7 +45,7 @@ function compileBracedText(text, names) {
 
 /**
  * Compiles a note such as `digit {r4}, lamps {lamps}, next {r4 + 1}`. In the logged text, values replace the braces. `error` is an error
- * message with a column of the note, "" for none.
+ * message with the column in the note, "" for none.
  * @param {string} text
  * @param {Names} names
  * @returns {{ note: Note, error: string }}

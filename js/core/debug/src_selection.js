@@ -12,7 +12,9 @@ import * as say from "../../words/debug.js";
  * @typedef {{ kind: Kind, message: string }} SelectionMistake a mistake: its kind, and a message
  */
 
-/** The instructions that write to a RAM bank: mnemonics by opcode. The opcodes of the instructions that read from a RAM bank. */
+/**
+ * The mnemonics of the instructions that write to a RAM bank, by opcode. Also the opcodes of the instructions that read from a RAM bank.
+ */
 const RAM_WRITES = new Map([[0xE0, "WRM"], [0xE1, "WMP"], [0xE4, "WR0"], [0xE5, "WR1"], [0xE6, "WR2"], [0xE7, "WR3"]]);
 const RAM_READS = new Set([0xE8, 0xE9, 0xEB, 0xEC, 0xED, 0xEE, 0xEF]);
 
@@ -119,7 +121,7 @@ export class SrcSelection {
   }
 
   /**
-   * Returns the mistake of an instruction that writes to RAM; null if there is none.
+   * Returns the mistake in an instruction that writes to RAM; null if there is none.
    * @param {string} name the mnemonic of the instruction
    * @param {number} bank the selected bank
    * @returns {SelectionMistake | null}

@@ -1,5 +1,5 @@
 // Describes the current value of a word in the source. The word is a register, a register pair, an instruction that uses a RAM character, a
-// number or a label. A description is a list of pieces: texts, and values that the user can edit.
+// number or a label. A description is a list of pieces: strings, and values that the user can edit.
 //
 //     joinPieces(valuesAt("        SRC P2", 13, machineState, names))     "P2 = 60: R4 6, R5 0; selects ROM 6; bank 0, chip 1, .."
 
@@ -16,7 +16,7 @@ import * as say from "../../words/debug.js";
  * @typedef {{ place: string, name: string, value: string }} Value
  * @typedef {string | Value} Piece
  *
- * A program name: its value, and its description. A name is a label or a constant.
+ * A name in the program, which is a label or a constant: its value, and its description.
  * @typedef {{ value: number, isLabel: boolean, description: string }} NamedValue
  *
  * Two functions that explain the words of a program. `nameOf` returns the named value; undefined for any other word. `describeInstruction`
@@ -32,7 +32,7 @@ const ACCUMULATOR_WORD = /\b(ACC|CY|carry|borrow)\b/;
 const CHARACTER_INSTRUCTIONS = new Set(["WRM", "RDM", "ADM", "SBM"]);
 
 /**
- * Joins pieces into one text.
+ * Joins pieces into one string.
  * @param {Piece[]} pieces
  */
 export function joinPieces(pieces) {

@@ -61,7 +61,7 @@ export class BoardDraft {
   }
 
   /**
-   * Returns the TOML key with a name in a part. Throws if the part lacks the key.
+   * Returns the TOML key with the given name in a part. Throws if the part lacks the key.
    * @param {Entry} entry
    * @param {string} name
    */
@@ -72,7 +72,7 @@ export class BoardDraft {
   }
 
   /**
-   * Returns the ROM with this chip number, or the RAM bank with this bank number. Throws if there is no such part.
+   * Returns the ROM with the given chip number, or the RAM bank with the given bank number. Throws if there is no such part.
    * @param {"rom" | "ram"} kind
    * @param {number} number
    */

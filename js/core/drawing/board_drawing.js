@@ -48,7 +48,8 @@ export class Drawing {
     this.callbacks = callbacks;
     this.show = show;
     /**
-     * The bench's answers to `board`: `wiredAnswers` for the session's board, as one text; `answers` for the text in the editor, as lines.
+     * The bench's answers to `board`: `wiredAnswers` for the session's board, as one string; `answers` for the text in the editor, as
+     * lines.
      */
     this.wiredAnswers = "";
     this.answers = ["board"];

@@ -28,7 +28,7 @@ import * as say from "../../words/drawing.js";
  * - `delete`, `copy`: deletes a part, or adds a copy of the part.
  * - `name`: names a part, a key (`key ROW COLUMN`), the board (`title`), or the button or switch at the TEST pin (`test`). "" removes the
  *   name.
- * - `colour`: sets the lamp colour; "" for the default colour.
+ * - `colour`: sets the lamp colour; "" selects the default colour.
  *
  * @typedef {{ kind: "add", part: ShelfPart, line?: string, digits?: number } | { kind: "wire", line: string, target: string }
  *   | { kind: "port", line: string, mode: string } | { kind: "chips", chain: number, chips: number } | { kind: "rows", rows: number }
@@ -143,8 +143,8 @@ function setLineMode(editedBoard, line, mode) {
 }
 
 /**
- * Adds a copy of a part; returns the name of the copy. For the first lamp of a display, copies the display. Throws `ImpossibleAction` if
- * the part cannot be copied.
+ * Adds a copy of a part; returns the name of the copy. If the part is the first lamp of a display, copies the display. Throws
+ * `ImpossibleAction` if the part cannot be copied.
  * @param {EditedBoard} editedBoard
  * @param {string} part
  */
@@ -203,7 +203,7 @@ function renamePart(editedBoard, part, name) {
  * Sets the colour of a lamp; throws `ImpossibleAction` for an unknown colour.
  * @param {EditedBoard} editedBoard
  * @param {number} lamp
- * @param {string} colour "" for the default
+ * @param {string} colour the new colour; "" selects the default colour
  */
 function setColour(editedBoard, lamp, colour) {
   if (colour !== "" && !COLOURS.has(colour)) throw new ImpossibleAction(say.noColourMessage(colour, [...COLOURS].join(", ")));
@@ -220,7 +220,7 @@ function completionMessage(part, participle) {
 }
 
 /**
- * Returns a text with an upper-case first letter.
+ * Returns the text with an upper-case first letter.
  * @param {string} text
  */
 function capitalize(text) {
@@ -318,7 +318,7 @@ export function reasonNotToAdd(text, part) {
 }
 
 /**
- * Returns whether the page and the bench read the same board from a text. If not, the board editor cannot edit the text.
+ * Returns whether the page and the bench read the same board from a board text. If not, the board editor cannot edit the text.
  * @param {string} text
  * @param {string[]} answers the bench's answer to `board` after `wire` with the text
  */

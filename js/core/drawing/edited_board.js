@@ -26,7 +26,7 @@ export class EditedBoard {
   }
 
   /**
-   * Applies edits. Their offsets refer to the current text.
+   * Applies edits whose offsets refer to the current text.
    * @param {TextEdit[]} edits
    */
   edit(edits) {

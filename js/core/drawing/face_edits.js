@@ -74,7 +74,7 @@ export function setLampName(draft, lamp, name) {
  * are then equal.
  * @param {BoardDraft} draft
  * @param {number} lamp
- * @param {string} colour "" for the default colour
+ * @param {string} colour the new colour; "" selects the default colour
  * @returns {TextEdit[]}
  */
 export function setLampColour(draft, lamp, colour) {

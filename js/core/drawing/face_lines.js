@@ -18,7 +18,7 @@ import { removeLines } from "./part_edits.js";
 const LINE_HEAD = /^[ \t]*#[ \t]*[A-Za-z]+[ \t]*/;
 
 /**
- * Returns the words of a text with their offsets.
+ * Returns the words of the text with their offsets.
  * @param {string} text
  * @param {number} from the offset at which the text starts
  * @returns {FaceWord[]}
@@ -104,7 +104,7 @@ export function removeWords({ words, first, last }, isDeleted) {
   return words.flatMap(({ from, to }, index) => {
     if (!isDeleted(index)) return [];
     const previousEnd = words[index - 1] ? words[index - 1].to : from;
-    // If no earlier word remains, delete the blanks after this word instead, so that the blank after the colon stays.
+    // If no earlier word remains, delete the blanks after this word instead, so that the blank after the colon is preserved.
     const next = words[index + 1];
     const isFirstWord = words.slice(0, index).every((_, earlierIndex) => isDeleted(earlierIndex));
     if (isFirstWord) return [{ from, to: next ? next.from : to, insert: "" }];

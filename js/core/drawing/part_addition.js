@@ -237,8 +237,8 @@ function addLamps(editedBoard, lines) {
 /**
  * Adds a lamp; returns its name.
  * @param {EditedBoard} editedBoard
- * @param {string} [line] "" for the next free line
- * @param {string} [colour] "" for the default colour
+ * @param {string} [line] the signal line; "" selects the next free line
+ * @param {string} [colour] the colour; "" selects the default colour
  */
 export function addLamp(editedBoard, line = "", colour = "") {
   checkLampCount(editedBoard, 1);
@@ -255,7 +255,7 @@ export function addLamp(editedBoard, line = "", colour = "") {
 /**
  * Adds a buzzer; returns its name. Throws `ImpossibleAction` if the board already has one.
  * @param {EditedBoard} editedBoard
- * @param {string} [line] "" for the next free port line
+ * @param {string} [line] the signal line; "" selects the next free port line
  */
 export function addBuzzer(editedBoard, line = "") {
   if (new Face(editedBoard.text).buzzer) throw new ImpossibleAction(say.ONE_BUZZER);

@@ -226,8 +226,8 @@ function markRamDeleted({ banks }, deletedParts, ram) {
 
 /**
  * Deletes a part: `rom 1`, `ram 0.1`, `chain 0`, `keys`, `row 1` (the last row), `column 2`, `lamp 3`, `lamps`, `test` or `buzzer`. Also
- * deletes the parts that depend on this part, and returns a text that lists them; "" if there are none. Throws `ImpossibleAction` if the
- * part cannot be deleted.
+ * deletes the parts that depend on this part. Returns the list of these other parts as text, "" if there are none. Throws
+ * `ImpossibleAction` if the part cannot be deleted.
  * @param {EditedBoard} editedBoard
  * @param {string} part
  */

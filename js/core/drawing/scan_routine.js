@@ -188,7 +188,7 @@ export function keyScanSource({ matrix, chains }, text) {
 }
 
 /**
- * Returns the edit that inserts a routine into a text, after the line with the caret or, if there is no caret, at the end. A blank line
+ * Returns the edit that inserts a routine into the source, after the line with the caret or, if there is no caret, at the end. A blank line
  * separates the routine from the text before and after it.
  * @param {string} text
  * @param {number} line the number of the line with the caret, from 1; 0 for no caret

@@ -26,7 +26,7 @@ import * as say from "../../words/drawing.js";
  */
 
 /**
- * Creates a field for free text. It shows blanks instead of the underscores in the value.
+ * Creates a field for free text. The field shows blanks instead of the underscores in the value.
  * @param {string} label
  * @param {string} value
  * @param {(value: string) => DrawingAction} createAction
@@ -50,7 +50,7 @@ function choiceField(label, value, options, createAction) {
 }
 
 /**
- * Returns the numbers of a range as texts.
+ * Returns the numbers of a range as strings.
  * @param {{ from: number, to: number }} range
  */
 function rangeNumbers({ from, to }) {

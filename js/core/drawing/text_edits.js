@@ -7,7 +7,7 @@
  */
 
 /**
- * Returns a text after edits, which are applied in their order.
+ * Returns the text after the edits, which are applied in their order.
  * @param {string} text
  * @param {TextEdit[]} edits
  */

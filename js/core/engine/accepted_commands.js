@@ -51,7 +51,7 @@ export class CycleCount {
   }
 
   /**
-   * Adds the cycles of some commands.
+   * Adds the cycles of the given commands.
    * @param {AcceptedCommand[]} commands
    */
   add(commands) {

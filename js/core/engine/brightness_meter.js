@@ -80,7 +80,7 @@ class PatternTimes {
     /** @type {number[]} the current pattern of each digit; `patternStart` is the time in cycles at which these patterns started */
     this.patterns = [];
     this.patternStart = 0;
-    /** @type {Map<number, number>[]} one map per digit, with the number of cycles for which it showed each pattern */
+    /** @type {Map<number, number>[]} one map per digit, with the number of cycles for which the digit showed each pattern */
     this.patternCycles = Array.from({ length: group.rows }, () => new Map());
   }
 

@@ -15,7 +15,7 @@ import { lineReference } from "../../words/stops.js";
  */
 
 /**
- * Loads texts into a new session.
+ * Loads a board text and a program text into a new session.
  * @param {Engine} engine
  * @param {Texts} texts
  * @returns {DryRunResult}

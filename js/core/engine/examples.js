@@ -1,4 +1,4 @@
-// Defines the examples: texts that a new session can load.
+// Defines the example projects that a new session can load.
 
 import { sentText } from "../text/sendable_text.js";
 

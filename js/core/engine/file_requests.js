@@ -1,4 +1,4 @@
-// Requests about the module, and about files and texts outside the open session.
+// Requests about the module, and about files and source texts that do not belong to the open session.
 
 import { readErrors, readWiring } from "../bench/text_check_answers.js";
 import { Engine } from "./engine.js";

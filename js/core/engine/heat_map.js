@@ -69,7 +69,7 @@ export class ChangeCounter {
   /** @param {string[][]} groups the names of the RAM nibbles, in groups; one `trace` query reports a group */
   constructor(groups) {
     this.groups = groups;
-    /** The number of cycles in which changes were counted so far. */
+    /** The number of cycles in which changes have been counted so far. */
     this.cycles = 0;
     /** @type {Map<string, HeatCell & { changeTime: number }>} the changed nibbles by name; `changeTime` is the cycle of the last change */
     this.cells = new Map();

@@ -60,7 +60,7 @@ export class LiveRecorder {
     this.wasTrue = true;
     /** True if the machine must stop because the recording is complete. */
     this.mustStopMachine = false;
-    /** 1 for each address whose listing line was already sent to the page. */
+    /** 1 for each address whose listing line has already been sent to the page. */
     this.listedAddresses = new Uint8Array(ADDRESS_COUNT);
     /** The places in the trigger condition, for `trace`; "" if there are none, and after the trigger. */
     this.tracedPlaces = "";

@@ -92,7 +92,8 @@ export class OpenBench {
   }
 
   /**
-   * Executes lines in the session, either all or none. Resolves to their result, with the new state for the page.
+   * Executes lines in the session. If the call fails or is cancelled, no line takes effect. Resolves to their result, with the new state
+   * for the page.
    * @param {string} lines
    * @returns {Promise<LinesReply>}
    */
@@ -109,7 +110,7 @@ export class OpenBench {
     const { reset } = this.session.count;
     const { snapshot, ...result } = await serve();
     this.debugger.commonMistakes.forgetRom();
-    // A reset clears the return addresses.
+    // A reset clears the return addresses, so the goal of the current move no longer applies.
     if (this.session.count.reset !== reset) this.debugger.beginMove();
     return { ...result, ...this.snapshotReport(snapshot, result.hasChangedBoard) };
   }

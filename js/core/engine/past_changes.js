@@ -17,7 +17,7 @@ import { ForecastAnswers, parseTraceLine } from "./forecast_answers.js";
 /**
  * Returns one list of traces for each unit, and one for the state after the last unit. A list has one trace per group of places.
  * @param {Engine} engine
- * @param {Uint8Array} file the session file; changed to the state after the units
+ * @param {Uint8Array} file the session file; modified in place, to the state after the units
  * @param {Unit[]} units
  * @param {string[][]} groups
  * @returns {Trace[][]}
@@ -37,7 +37,7 @@ function traceUnits(engine, file, units, groups) {
 /**
  * Replays units of the past on a session file, and reports each change of the watched values.
  * @param {Engine} engine
- * @param {Uint8Array} file the session file; changed to the state after the units
+ * @param {Uint8Array} file the session file; modified in place, to the state after the units
  * @param {Unit[]} units
  * @param {string[][]} groups the places to watch, in groups that fit into one `trace`
  * @param {(change: PastChange) => void} report called for each change: for the changes of the first group in order, then for those of the

@@ -52,7 +52,7 @@ const MAX_BLOCK_CYCLES = 4000000;
 export const EMPTY_SEARCH_RESULT = { reason: "", place: "", from: "", to: "", line: "", end: "", id: 0 };
 
 /**
- * Returns a search result with these fields; the other fields are null or empty.
+ * Returns a search result with the given fields; the other fields are null or empty.
  * @param {Partial<BackSearchResult>} fields
  * @returns {BackSearchResult}
  */

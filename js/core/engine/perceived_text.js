@@ -55,7 +55,7 @@ export class PerceivedText {
   }
 
   /**
-   * Returns the text that a person reads from displays and lamps with this brightness.
+   * Returns the text that a person reads from displays and lamps with the given brightness.
    * @param {Brightness} brightness
    */
   readBrightness(brightness) {

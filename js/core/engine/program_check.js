@@ -24,8 +24,8 @@ import { MAX_SENT_LENGTH, TEXT_TOO_LONG } from "../text/sendable_text.js";
 export const ALL_ROMS = `wire\n${PAGE_NUMBERS.map((chip) => `[[rom]]\nchip = ${chip}\nport = "0000"\n`).join("")}.\n`;
 
 /**
- * Returns the reason why a text cannot be sent to the bench, or null if it can be sent. Either the text is too long, or one of its lines is
- * only a dot, which would end the text. A line with only a dot has no error number, so `number` is 0.
+ * Returns the reason why a program text cannot be sent to the bench, or null if it can be sent. Either the text is too long, or one of its
+ * lines is only a dot, which would end the text. A line with only a dot has no error number, so `number` is 0.
  * @param {string} text
  * @returns {Refusal | null}
  */

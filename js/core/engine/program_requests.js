@@ -30,7 +30,7 @@ export class ProgramRequests {
     return findLeftovers(this.bench.engine, this.bench.session.file, this.bench.program);
   }
 
-  /** Returns a source text that assembles to the bytes in ROM. */
+  /** Returns source text that assembles to the bytes in ROM. */
   disassembleRom() {
     return disassembleRom(this.bench.engine, this.bench.session.file);
   }

@@ -15,8 +15,8 @@ export class ProofRequests {
   }
 
   /**
-   * Starts to prove the properties in a text and the common mistakes. Returns the errors in the texts, and the number of properties to
-   * decide.
+   * Starts to prove the properties in the properties text, and the absence of common mistakes. Returns the errors in the texts, and the
+   * number of properties to decide.
    * @param {import("../explore/sliced_search.js").ExploredTexts} texts
    * @param {number} maxStates the maximum number of states per prover question
    */

@@ -51,7 +51,7 @@ export class SessionRequests {
   }
 
   /**
-   * Executes lines in the session, either all or none. Resolves to their result.
+   * Executes lines in the session. If the call fails or is cancelled, no line takes effect. Resolves to their result.
    * @param {string} lines
    * @returns {Promise<LinesReply>}
    */
@@ -60,7 +60,8 @@ export class SessionRequests {
   }
 
   /**
-   * Executes lines that the user typed, either all or none. A `run` command in these lines ends at the first breakpoint.
+   * Executes lines that the user typed. If the call fails or is cancelled, no line takes effect. A `run` command in these lines ends at the
+   * first breakpoint.
    * @param {string} lines
    * @returns {Promise<TypedReply>}
    */

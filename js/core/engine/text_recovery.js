@@ -76,7 +76,7 @@ function listAll(engine, file) {
 const MIN_EMPTY_NOPS = 4;
 
 /**
- * Returns a source text that assembles to the bytes in ROM. Leaves out empty parts of ROM, and the NOPs at the end.
+ * Returns source text that assembles to the bytes in ROM. Leaves out empty parts of ROM, and the NOPs at the end.
  * @param {Engine} engine
  * @param {Uint8Array} file
  */

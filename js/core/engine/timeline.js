@@ -1,7 +1,8 @@
 // Stores the past of a session, so that the session can move back in time. The past consists of segments. A segment has the session file at
-// its start and the accepted commands since then. To compute a past state, the timeline runs the commands again on a copy of such a file.
-// When the past becomes too long, segments without a stop (a moment at which the machine was paused) are removed first. The past is stored
-// in the memory of this worker. The page receives the additions (session/stored_history.js), and restores the past after a reload.
+// its start and the accepted commands since then. To compute a past state, the timeline runs the commands of a segment again on a copy of
+// its file. When the past becomes too long, segments without a stop (a moment at which the machine was paused) are removed first. The past
+// is stored in the memory of this worker. The page receives the additions (session/stored_history.js), and restores the past after a
+// reload.
 
 import { CancelledError } from "../bench/bench_errors.js";
 import { stripSeq } from "../bench/state_line.js";

@@ -90,7 +90,7 @@ class WaveRecorder {
 }
 
 /**
- * Returns the listing lines at some addresses.
+ * Returns the listing lines at the given addresses.
  * @param {Engine} engine
  * @param {Uint8Array} file
  * @param {Iterable<number>} addresses
@@ -160,8 +160,8 @@ function unitsFrom(timeline, from) {
 
 /**
  * Records the last cycles before the present; resolves to the recording. Records fewer cycles if the stored past is shorter, or if the
- * board has changed. Replays these cycles, with all commands between them, on a copy of the session. Throws CancelledError if
- * `shouldContinue` resolves to false.
+ * board has changed. Replays these cycles, and all commands that were entered during them, on a copy of the session. Throws CancelledError
+ * if `shouldContinue` resolves to false.
  * @param {Engine} engine
  * @param {Timeline} timeline
  * @param {number} cycles

@@ -41,7 +41,7 @@ export function linesWithMembers(lines, chosenLines) {
  * Records the next cycles of a state, which must have no breakpoints and no watches. Yields the recording at its start and after each
  * piece.
  * @param {EngineHost} engine
- * @param {State} state the state at the start; changed to the state at the end of the recording
+ * @param {State} state the state at the start; modified in place, to the state at the end of the recording
  * @param {{ lines: WaveLine[], program: RecordedProgram | null, cycles: number }} recording
  * @param {() => Promise<any>} yieldToMessages called between pieces
  */

@@ -292,8 +292,8 @@ export class WorkerSession {
   }
 
   /**
-   * Executes lines piece by piece, either all or none: nothing changes if a piece throws or the work is cancelled. A piece with an exit
-   * status other than 0 is the last one.
+   * Executes lines piece by piece. Nothing changes if a piece throws or the work is cancelled. A piece with an exit status other than 0 is
+   * the last one.
    * @param {string} lines
    * @param {(done: number) => Promise<boolean>} shouldContinue called after each piece with the number of processed characters; resolves to
    *   true to continue
@@ -396,7 +396,7 @@ class LinesReport {
     if (this.firstAnswer === "" && answers.length > 0) this.firstAnswer = answers[0];
     this.status = status;
     this.hasChangedRom = this.hasChangedRom || inputs.some((input) => ROM_COMMANDS[input.kind]);
-    // If the bench rejects a board, the current board stays.
+    // If the bench rejects a board text, the board does not change.
     this.hasChangedBoard = this.hasChangedBoard || inputs.some((input, index) => input.kind === "wire" && !answerLists[index].some(isStop));
     const from = Math.max(0, inputs.length - MAX_ENTRIES);
     const entries = inputs.slice(from).map(({ line, text }, index) => (

@@ -34,7 +34,7 @@ import { noKeyMessage } from "../../words/testing.js";
  * - `command`: the external command of the model ("" for none); `downTime`, `upTime`: the times for which each key in a sequence for the
  *   model is pressed and then released;
  * - `notedPlaces`: the `trace` places whose values distinguish states;
- * - `from`: the start state, null for power-on; `leadingLines`: the test lines that lead to the start state;
+ * - `from`: the start state, null to start at power-on; `leadingLines`: the test lines that lead to the start state;
  * - `calls`: the minimum and the maximum number of calls that have not returned in the start state.
  * @typedef {{ inputs: Input[], inputWords: string[], maxKeysDown: number, canReset: boolean, minWait: number, maxWait: number,
  *   maxHoldTime: number, minReleaseTime: number, checkStart: number, downTime: number, upTime: number, notedPlaces: string[],
@@ -143,7 +143,7 @@ class PropertiesReader {
   }
 
   /**
-   * Returns the front-panel input with a name; throws `ConditionError` if there is none.
+   * Returns the front-panel input with the given name; throws `ConditionError` if there is none.
    * @param {string} name
    */
   findInput(name) {
@@ -333,8 +333,8 @@ const PROPERTY_PARSERS = {
 const GUARD_START = /^(while|once|after press)\b/;
 
 /**
- * Splits a line into its first guard and the text after the comma; a comma in a quoted text does not count. Returns null if the line has no
- * guard. Throws `ConditionError` if the comma is missing.
+ * Splits a line into its first guard and the text after the comma; a comma in quotes does not count. Returns null if the line has no guard.
+ * Throws `ConditionError` if the comma is missing.
  * @param {string} text
  */
 function splitGuard(text) {

@@ -21,7 +21,7 @@ export class DeltaFiles {
   }
 
   /**
-   * Returns the words of a file that differ from the first file.
+   * Returns the words of a file that differ from those of the first file.
    * @param {Uint8Array} file
    * @returns {FileDelta}
    */

@@ -35,9 +35,9 @@ export class InitialProof {
     this.timeLeft = subject.engine.prove ? milliseconds : 0;
     /** The number of states in the proof of each property; 0 for unproved properties. */
     this.states = campaign.properties.map(() => 0);
-    /** @type {string[][]} for each property, the lines of the text with the limits on the inputs that its proof needs */
+    /** @type {string[][]} for each property, the lines of the properties text with the input limits that the proof of the property needs */
     this.limits = campaign.properties.map(() => []);
-    /** The limits that the text sets on the inputs; null if a proof cannot use its limits. */
+    /** The limits that the properties text sets on the inputs; null if a proof cannot use them. */
     this.inputLimits = findInputLimits(campaign, subject.names.board);
     const separateQuestions = this.timeLeft > 0 ? createQuestions(subject, campaign) : [];
     const combinableQuestions = separateQuestions.filter(({ properties: [at], question }) => (

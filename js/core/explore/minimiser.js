@@ -29,7 +29,7 @@ export class Minimiser {
    */
   constructor(subject, campaign, start, violation, cycleLimit, yieldToMessages) {
     this.campaign = campaign;
-    // The watcher checks only this property.
+    // The watcher checks only the violated property.
     this.watcher = new Watcher(subject, { ...campaign, properties: [campaign.properties[violation.property]] }, null);
     this.start = { ...start, memories: [start.memories[violation.property]] };
     this.property = violation.property;

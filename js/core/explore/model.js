@@ -82,7 +82,7 @@ export class Model {
 
   /**
    * Returns the state of the display and lamps after a key sequence. `number` is the number on the display. `fullText` is the number
-   * followed by lamp names, as `mcs4 display` prints them. `lampsOn` are the names of all lamps that are on, except the minus lamp.
+   * followed by lamp names, as `mcs4 display` prints them. `lampsOn` are the names of all named lamps that are on, except the minus lamp.
    * @param {number[]} keys the indices of the inputs to press
    */
   readDisplayAfter(keys) {

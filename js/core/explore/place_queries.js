@@ -24,7 +24,7 @@ export class PlaceQueries {
   }
 
   /**
-   * Returns the indices of some places in the list of all places.
+   * Returns the indices of the given places in the list of all places.
    * @param {string[]} places
    */
   findIndexes(places) {

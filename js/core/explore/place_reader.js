@@ -59,7 +59,7 @@ function findMemory(name, board) {
   const register = word === "ram" ? address >> 4 : address;
   if ((register >> 2) >= countChips(board, bank)) return null;
   const line = 1 + (register >> 2) * LINES_PER_CHIP + (register % REGISTERS_PER_CHIP);
-  // `0.0.1 HHHHHHHHHHHHHHHH HHHH`
+  // The answer line has the form `0.0.1 HHHHHHHHHHHHHHHH HHHH`.
   const start = word === "ram" ? 6 + (address % 16) : 23 + statusIndex;
   return { query: `ram ${bank}`, line, precedingWord: "", start, length: 1 };
 }
@@ -74,7 +74,7 @@ function findMemory(name, board) {
 function findPort(name, board) {
   const match = /^ram(\d)\.(\d)$/.exec(name);
   if (!match || Number(match[2]) >= countChips(board, Number(match[1]))) return null;
-  // `rams 0.0.H,0.1.H,1.0.H`
+  // The answer line contains the outputs in the form `rams 0.0.H,0.1.H,1.0.H`.
   const earlierChips = board.banks.filter(({ bank }) => bank < Number(match[1])).reduce((sum, { chips }) => sum + chips, 0);
   return { query: "state", line: 0, precedingWord: " rams ", start: 6 * (earlierChips + Number(match[2])) + 4, length: 1 };
 }
@@ -114,7 +114,7 @@ export class PlaceReader {
   }
 
   /**
-   * Returns the indices of some places in the list of all places.
+   * Returns the indices of the given places in the list of all places.
    * @param {string[]} places
    */
   findIndexes(places) {

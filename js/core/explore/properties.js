@@ -57,8 +57,8 @@ const DEFAULT_PROPERTY = {
 };
 
 /**
- * Returns a condition for a property. If the condition is only a label, returns its address instead: the condition is true whenever the
- * program counter reaches the address.
+ * Returns a condition for a property. If the condition is only a label or `pc = ADDRESS`, returns the address instead: the condition is
+ * true whenever the program counter reaches the address.
  * @param {Condition} condition
  * @returns {Pick<Property, "condition" | "address">}
  */
@@ -139,8 +139,8 @@ export function atProperty(text, condition, address) {
 }
 
 /**
- * Creates the property that a condition becomes true only after certain keys were pressed in order. After the condition was true, the keys
- * must be pressed again. Memory: the number of these presses so far; 1 if the condition is true; and 1 if it was ever true.
+ * Creates the property that a condition becomes true only after the given keys were pressed in order. After the condition was true, the
+ * keys must be pressed again. Memory: the number of these presses so far; 1 if the condition is true; and 1 if it was ever true.
  * @param {string} text
  * @param {Condition} condition
  * @param {string[]} keys
@@ -298,9 +298,9 @@ export function reachAddressProperty(text, address) {
 export const GUARDABLE_FORMS = new Set(["never", "never for", "always", "at", "after press", "reach", "reach at"]);
 
 /**
- * Returns the memory of a guard after an event. For a `press` or `once` guard, this is the time at which the guard opened. For a `while`
- * guard, it is the time of the last event at which the guard was open. The memory is UNSET before a `press` or `once` guard first opens,
- * and while a `while` guard is closed.
+ * Returns the memory of a guard after an event. For a `press` guard, this is the time of the last press; for a `once` guard, the time at
+ * which the guard opened. For a `while` guard, it is the time of the last event at which the guard was open. The memory is UNSET before a
+ * `press` or `once` guard first opens, and while a `while` guard is closed.
  * @param {Guard} guard
  * @param {number} openSince the memory of the guard before the event
  * @param {Event} event

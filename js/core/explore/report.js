@@ -17,8 +17,8 @@ import { neverReachedVerdict, provedVerdict } from "../../words/prove.js";
  *
  * The result for a property. `isSkipped`: true if the property is a model whose command was not run. `applied`: true if an event in the
  * search was relevant to the property; always true for a goal. `states`: the number of states in the proof, 0 without a proof. `limits`:
- * the lines of the text with the limits on the inputs that the proof needs, [] for a proof for all inputs. `leftOut`: the guards that the
- * proof does not consider. `chains`: for a model, the number of key sequences that were compared. `found`: the counterexample, null for
+ * the lines of the properties text with the input limits that the proof needs, [] for a proof for all inputs. `leftOut`: the guards that
+ * the proof does not consider. `chains`: for a model, the number of key sequences that were compared. `found`: the counterexample, null for
  * none.
  * @typedef {{ text: string, line: number, isGoal: boolean, isSkipped: boolean, applied: boolean, states: number, limits: string[],
  *   leftOut: string, chains: number, found: Counterexample | null }} PropertyResult
@@ -143,7 +143,7 @@ function formatTapLines(property, index, report) {
 const MAX_LISTED_LINES = 40;
 
 /**
- * Returns a text with the number of lines, and with at most MAX_LISTED_LINES line numbers.
+ * Returns the number of lines as text, with at most MAX_LISTED_LINES line numbers.
  * @param {number[]} lines the line numbers
  */
 function formatLineNumbers(lines) {

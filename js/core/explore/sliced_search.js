@@ -54,7 +54,7 @@ export function parseSearchTexts(engine, { boardText, programText, testText, pro
 }
 
 /**
- * Adds the name of the text to errors in the properties text.
+ * Adds the text name `properties` to errors in the properties text.
  * @param {{ line: number, words: string }[]} errors
  * @returns {ProjectTextError[]}
  */
