@@ -58,5 +58,5 @@ def unknown_names_in_comments():
     names_in_code = {word for path in crate_files() for line in path.read_text().splitlines() if not is_comment(line) for word in re.findall(r"\w+", line)}
     for path in crate_files():
         for number, line in enumerate(path.read_text().splitlines(), 1):
-            quoted_codes = re.findall(r"`([^`]+)`", line) if is_comment(line) else []
-            yield from ((path, number, name) for code in quoted_codes for name in re.findall(NAME_PATTERN, code) if name not in names_in_code)
+            quoted_code = re.findall(r"`([^`]+)`", line) if is_comment(line) else []
+            yield from ((path, number, name) for code in quoted_code for name in re.findall(NAME_PATTERN, code) if name not in names_in_code)

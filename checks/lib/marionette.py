@@ -28,7 +28,7 @@ def preferences(download_folder):
 class Firefox(BrowserDriver):
     """Firefox, controlled through its own protocol."""
     name = "Firefox"
-    # Firefox 153 often calls no listeners of `pagehide`, but it always calls those of `beforeunload`.
+    # Firefox 153 often does not call `pagehide` listeners, but it always calls `beforeunload` listeners.
     always_calls_pagehide = False
     # With these settings, Firefox stores no site data.
     data_blocking_settings = {"network.cookie.cookieBehavior": 2}

@@ -141,20 +141,20 @@ export function findRoomError() {
  * cannot be read or is in use, or if the engine rejects it.
  * @param {EngineHost} engine
  * @param {import("./input_texts.mjs").InputTexts} texts
- * @param {string} session the session's file name
+ * @param {string} sessionFile the session's file name
  */
-export async function openSession(engine, texts, session) {
+export async function openSession(engine, texts, sessionFile) {
   // A pipe without a writer would block the process forever, and signals could not end it. Also, the file is read twice, which a pipe does not allow.
-  if (statInput(session)?.isFIFO()) throw new CommandError(`cannot read ${session}: it is not a regular file`);
-  const bytes = texts.read(session, MAX_TEXT_BYTES);
-  if (!bytes.equals(texts.read(session, MAX_TEXT_BYTES))) throw new CommandError(sessionInUseMessage(session));
+  if (statInput(sessionFile)?.isFIFO()) throw new CommandError(`cannot read ${sessionFile}: it is not a regular file`);
+  const bytes = texts.read(sessionFile, MAX_TEXT_BYTES);
+  if (!bytes.equals(texts.read(sessionFile, MAX_TEXT_BYTES))) throw new CommandError(sessionInUseMessage(sessionFile));
   const state = engine.stateOf(bytes);
   try {
     engine.ask(state, "seq\n");
   } catch (error) {
     if (!(error instanceof BenchRefusal)) throw error;
     const { describeRefusal } = await import("./rejected_texts.mjs");
-    throw new CommandError(sessionRejectedMessage(session, error.number, describeRefusal(error.number)));
+    throw new CommandError(sessionRejectedMessage(sessionFile, error.number, describeRefusal(error.number)));
   }
   return state;
 }

@@ -119,9 +119,9 @@ class AnsweringEngine extends Engine {
 async function prove(propertiesText, answer, { programText = PROGRAM, answerMistakes = () => "holds 9\n" } = {}) {
   const engine = new AnsweringEngine((question) => (question.kind === "mistake" ? answerMistakes : answer)(question));
   const texts = { boardText: BOARD, programText, testText: "", propertiesText };
-  const { proving, errors } = beginProving(engine, texts, 10000, { reportStates: async () => {}, yieldToMessages: async () => {} });
+  const { judge, errors } = beginProving(engine, texts, 10000, { reportStates: async () => {}, yieldToMessages: async () => {} });
   assert.deepEqual(errors, []);
-  const judgedProperties = await proving.judgeAll();
+  const judgedProperties = await judge.judgeAll();
   const propertyVerdicts = judgedProperties.map((judged) => createPropertyVerdict(judged));
   const verdictsWhere = (isIncluded) => propertyVerdicts.filter(isIncluded).map(({ verdict }) => verdict);
   const isAboutMistakes = (text) => text.startsWith("mistake");
@@ -319,8 +319,8 @@ test("a search is not needed for a property that is proved for its inputs", asyn
 test("the prover of the page applies the limits", async () => {
   const judge = async (propertiesText, programText = PROGRAM) => {
     const texts = { boardText: BOARD, programText, testText: "", propertiesText };
-    const { proving } = beginProving(moduleEngine, texts, 10000, { reportStates: async () => {}, yieldToMessages: async () => {} });
-    const { verdict } = await proving.judgeNext();
+    const { judge } = beginProving(moduleEngine, texts, 10000, { reportStates: async () => {}, yieldToMessages: async () => {} });
+    const { verdict } = await judge.judgeNext();
     return verdict.kind === "proved" ? verdict.limits : verdict.kind;
   };
   assert.deepEqual(await judge(`press B C\n${NEVER_ON}`), ["press"]);

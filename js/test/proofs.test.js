@@ -76,13 +76,13 @@ class RecordingEngine extends Engine {
 async function runProofs(answer, { most: maximum = 50000, answerMistakes, answerSets, answerTimes, ...others } = {}) {
   const engine = new RecordingEngine(answer, answerMistakes, answerSets, answerTimes);
   const stateCounts = [];
-  const { proving, errors } = beginProving(engine, { ...texts, ...others }, maximum, {
+  const { judge, errors } = beginProving(engine, { ...texts, ...others }, maximum, {
     reportStates: async (states) => {
       stateCounts.push(states);
     },
     yieldToMessages: async () => {},
   });
-  const verdicts = proving ? (await proving.judgeAll()).map(createPropertyVerdict) : [];
+  const verdicts = judge ? (await judge.judgeAll()).map(createPropertyVerdict) : [];
   const propertyVerdicts = verdicts.filter(({ line }) => line > 0);
   return { errors, engine, stateCounts, propertyVerdicts, mistakeVerdicts: verdicts.filter(({ line }) => line === 0) };
 }

@@ -68,9 +68,9 @@ class FixedAnswerEngine extends Engine {
 /** Resolves to the verdicts on the properties in `propertiesText`. */
 async function findVerdicts(propertiesText, usedEngine = engine, programText = PROGRAM) {
   const texts = { boardText: BOARD, programText, testText: "", propertiesText };
-  const { proving, errors } = beginProving(usedEngine, texts, 100000, { reportStates: async () => {}, yieldToMessages: async () => {} });
+  const { judge, errors } = beginProving(usedEngine, texts, 100000, { reportStates: async () => {}, yieldToMessages: async () => {} });
   assert.deepEqual(errors, []);
-  return (await proving.judgeAll()).filter(({ property: { line } }) => line > 0).map(({ verdict }) => verdict);
+  return (await judge.judgeAll()).filter(({ property: { line } }) => line > 0).map(({ verdict }) => verdict);
 }
 
 const WITHOUT_ONCE = 'without "once", which a proof leaves out';

@@ -162,8 +162,8 @@ class History:
 
 
 class Builder:
-    """The disk of a history, to which its images are written one after another, in chronological order. The disk must be as it was before the
-    history."""
+    """Writes the images of a history to its disk one after another, in chronological order. At the start, the disk must have its content from before
+    the history."""
 
     def __init__(self, disk: Disk, history: History) -> None:
         self.disk, self.history = disk, history

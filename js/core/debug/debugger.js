@@ -320,7 +320,7 @@ export class Debugger {
   }
 
   /**
-   * Returns the tally of lines that have run. It contains no common mistakes.
+   * Returns the tally of lines that have run, without the common mistakes that they made.
    * @param {BreakpointEvents} events the breakpoint events that were found in advance
    * @param {{ reason: string, id: number } | null} stop
    * @param {number} before the cycle count before the lines

@@ -22,7 +22,7 @@ export class ProofRequests {
    */
   prove(texts, maxStates) {
     const { bench } = this;
-    const { proving: judge, errors } = beginProving(bench.engine, texts, maxStates, {
+    const { judge, errors } = beginProving(bench.engine, texts, maxStates, {
       reportStates: async (states) => {
         await bench.shouldContinue(states, maxStates);
       },

@@ -44,7 +44,7 @@ function findBytesError(bytes) {
  * @param {ProjectNames} names
  * @returns {ProjectFolder}
  */
-function listPaths({ board, program, tests, properties, speed }) {
+function listSettings({ board, program, tests, properties, speed }) {
   const paths = (/** @type {{ path: string }[]} */ files) => files.map(({ path }) => path);
   return { board: board.path, program: program.path, tests: paths(tests), properties: paths(properties), speed };
 }
@@ -65,5 +65,5 @@ export function readProject(bytes, checkFile, file = PROJECT_FILE) {
     const error = checkFile(path);
     if (error) throw new ProjectError(file, `${key}: ${error}`, line);
   }
-  return listPaths(names);
+  return listSettings(names);
 }

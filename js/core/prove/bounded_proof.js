@@ -2,8 +2,8 @@
 // that the page can show progress. Confirms a counterexample by running its test. The page's worker uses this module.
 //
 //     const calls = { reportStates: async (states) => {}, yieldToMessages: async () => {} };
-//     const { proving, errors } = beginProving(engine, texts, 1000000, calls);
-//     for (let judged = await proving.judgeNext(); judged; judged = await proving.judgeNext()) ..
+//     const { judge, errors } = beginProving(engine, texts, 1000000, calls);
+//     for (let judged = await judge.judgeNext(); judged; judged = await judge.judgeNext()) ..
 
 import { parseSearchTexts } from "../explore/sliced_search.js";
 import { formatNumber } from "../explore/report.js";
@@ -107,20 +107,20 @@ class ProverQueries {
  * @param {ExploredTexts} texts
  * @param {number} maxStates the maximum number of states per question
  * @param {ProvingCalls} calls
- * @returns {{ proving: PropertyJudge | null, errors: ProjectTextError[] }}
+ * @returns {{ judge: PropertyJudge | null, errors: ProjectTextError[] }}
  */
 export function beginProving(engine, texts, maxStates, calls) {
   const { parsedTexts, errors } = parseSearchTexts(engine, texts, false);
-  if (!parsedTexts) return { proving: null, errors };
+  if (!parsedTexts) return { judge: null, errors };
   const queries = new ProverQueries(engine, texts, maxStates, calls);
-  const proving = new PropertyJudge(parsedTexts.subject, parsedTexts.campaign, {
+  const judge = new PropertyJudge(parsedTexts.subject, parsedTexts.campaign, {
     ask: (question) => queries.ask(question),
     askBySets: (question) => queries.askBySets(question),
     confirm: async ({ isTest, text }, isGoal) => !isTest || isConfirmed(engine, texts, text, isGoal, calls.yieldToMessages),
     explainNoAnswer: (answer) => queries.explainNoAnswer(answer),
     yieldToMessages: calls.yieldToMessages,
   });
-  return { proving, errors: [] };
+  return { judge, errors: [] };
 }
 
 /**

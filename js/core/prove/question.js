@@ -236,7 +236,7 @@ export const nameOmittedGuards = ({ guards }) => say.guardsNamed(new Set(guards.
 const formatCondition = (word, lists) => lists.flatMap((conjunction) => [word, ...conjunction]);
 
 /**
- * Returns the lines that require the program to read a key up and then down.
+ * Returns the lines that require the program to read a key first as up and then as down.
  * @param {MatrixKey} key
  */
 const formatKeyPress = (key) => ["up", "down"].map((level) => [level, formatKey(key)].join(" "));

@@ -13,7 +13,7 @@ import { instructionWords } from "../engine/rom_codes.js";
  *
  * The names of a program. If the trace shows source lines, `source` contains them, and the number of lines before them in their file
  * (`linesBefore`).
- * @typedef {{ map: SourceMap, source: { lines: string[], linesBefore: number } | null }} TraceNames
+ * @typedef {{ map: SourceMap, source: { lines: string[], linesBefore: number } | null }} TraceSource
  */
 
 /** The width of the instruction text in characters, without and with source lines. */
@@ -68,7 +68,7 @@ function formatWrapped(firstByte, secondByte) {
 }
 
 export class InstructionTexts {
-  /** @param {TraceNames | null} names */
+  /** @param {TraceSource | null} names */
   constructor(names) {
     /** The first bytes of the instructions that have been read, by address. */
     this.codes = new Uint8Array(ADDRESS_COUNT);

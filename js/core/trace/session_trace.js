@@ -10,7 +10,7 @@ import * as say from "../../words/trace.js";
 /**
  * @typedef {import("../engine/engine_host.js").EngineHost} EngineHost
  * @typedef {import("../engine/engine_host.js").State} State
- * @typedef {import("./instruction_texts.js").TraceNames} TraceNames
+ * @typedef {import("./instruction_texts.js").TraceSource} TraceNames
  *
  * A function that yields to other tasks. It is called between the pieces of long work.
  * @typedef {() => Promise<any>} YieldToMessages
