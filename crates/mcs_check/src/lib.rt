@@ -24,6 +24,7 @@ mod reading;
 mod replica;
 mod scope;
 mod search_step;
+mod spacing;
 mod stopwatch;
 
 pub use cells::{Cell, CellList, KeyByte, layout_of};
