@@ -20,3 +20,4 @@ pub mod Limiting
 pub mod Opening
 pub mod Ranging
 pub mod Matrices
+pub mod LevelSets

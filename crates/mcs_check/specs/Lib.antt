@@ -11,3 +11,4 @@ pub mod SearchRules
 pub mod OutcomeMeaning
 pub mod HighestLevels
 pub mod Scopes
+pub mod LevelSets
