@@ -21,3 +21,4 @@ pub mod Opening
 pub mod Ranging
 pub mod Matrices
 pub mod Spaced
+pub mod LevelSets

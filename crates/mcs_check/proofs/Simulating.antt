@@ -23,8 +23,8 @@ module _ (limits : InputLimits) (w : Observer) where
       let r = machine_rules limits w p is_state is_key_of in
       let here = All-contains (IsFollowed r keys) keys at.key followed at.found in
       let to = All-contains (LeadsInto r keys at.key) here.0 (answer l a) here.2 (here.1 a at.is l allowed) in
-      let run = to.1 a at.is in
-      (run.0, record { key = to.0; found = to.2; is = run.1 }, run.2 l allowed.fits refl)
+      let run = to.1.1 a at.is in
+      (run.0, record { key = to.0; found = to.2; is = run.1 }, (run.2 l allowed.fits refl).0)
 
   -- if the keys that a search found are a closure, the property holds for every machine that the
   -- start key identifies

@@ -1,7 +1,7 @@
 -- The passes of an ISZ that jumps to itself.
-use Rattle.std.proofs.Common.{◌≡◌, ◌<◌, ℕ, ◌+◌, ◌-◌, ◌%◌, zero, suc, inl, inr, Bool, true, false, not, cond, ◌&&◌, List, [], Option, Some, None, unwrap_or, length, slice_get, slice_set, refl, sym, ap, ◌∙◌, subst, arith, eqb}
-use Rattle.std.proofs.lemmas.Bool.{and_right, cases_lt, cond-false, ne_eqb}
-use Rattle.std.proofs.lemmas.List.{get_or-set_same, set-get_or, set-set, set_past}
+use Rattle.std.proofs.Common.{◌≡◌, ◌<◌, ℕ, ◌+◌, ◌-◌, ◌*◌, ◌%◌, zero, suc, Bool, true, false, not, cond, ◌&&◌, List, [], Option, Some, None, unwrap_or, length, slice_get, slice_set, refl, sym, ap, ◌∙◌, subst, arith, eqb}
+use Rattle.std.proofs.lemmas.Bool.{and_right, cond-false, ne_eqb}
+use Rattle.std.proofs.lemmas.List.{get_or-set_same, set-get_or, set-set}
 use Rattle.mcs_model.specs.declared.regs.Regs.{Regs}
 use Rattle.mcs_model.specs.declared.op.Op.{Op}
 use Rattle.mcs_model.specs.declared.op.Op.TheVariants.{Isz}
@@ -133,34 +133,38 @@ module _ (w : Observer) where
   -- ---- all passes but the last
 
   passes : (c : Scope) (never_lists : List (List Condition)) (start s : TrackedMachine) (r : ℕ) → has_all_lists c never_lists ≡ true → SpinsOutsideScope c r s → r < length s.0.r → meets_none_without_mistakes never_lists s ≡ true →
-      (k v : ℕ) → v + k ≡ 15 → RunSoFar w (meets_none never_lists) start (before_pass r v s) → RunSoFar w (meets_none never_lists) start (before_pass r 15 s)
-  passes c never_lists start s r has left within apart zero v e walked = subst (λ (n : ℕ). RunSoFar w (meets_none never_lists) start (before_pass r n s)) (omega arith) walked
-  passes c never_lists start s r has left within apart (suc k) v e walked =
+      (k v n : ℕ) → v + k ≡ 15 → RunSoFar w (meets_none never_lists) n start (before_pass r v s) → RunSoFar w (meets_none never_lists) (n + 2 * k) start (before_pass r 15 s)
+  passes c never_lists start s r has left within apart zero v n e walked =
+      let same : v ≡ 15 = omega arith in
+      let more : n ≡ n + 2 * 0 = omega arith in
+      subst (λ (m : ℕ). RunSoFar w (meets_none never_lists) m start (before_pass r 15 s)) more
+      (subst (λ (u : ℕ). RunSoFar w (meets_none never_lists) n start (before_pass r u s)) same walked)
+  passes c never_lists start s r has left within apart (suc k) v n e walked =
       let property_holds-at : meets_none never_lists (before_pass r v s) ≡ true =
       meets_none-if_no_mistake c never_lists (before_pass r v s) has (sym (keeps-same c s (before_pass r v s) (pass-same c s r v left.unseen) never_lists has) ∙ apart) (pass-makes_mistake_in_scope c s r v left) in
       let property_holds-in : meets_none never_lists (within_pass r (v + 1) s) ≡ true =
       meets_none-if_no_mistake c never_lists (within_pass r (v + 1) s) has (sym (keeps-same c s (within_pass r (v + 1) s) (middle-same c s r (v + 1) left.unseen) never_lists has) ∙ apart) (middle-makes_mistake_in_scope c s r (v + 1)) in
-      let half = walked-more w (meets_none never_lists) start (before_pass r v s) (within_pass r (v + 1) s) walked property_holds-at (pass-quiet s r v left.spins) (sym (pass-begins s r v left.spins within (omega arith))) in
-      let whole = walked-more w (meets_none never_lists) start (within_pass r (v + 1) s) (before_pass r (v + 1) s) half property_holds-in refl (sym (second-cycle s r (v + 1) left.spins.still left.spins.free)) in
-      passes c never_lists start s r has left within apart k (v + 1) (omega arith) whole
+      let half = walked-more w (meets_none never_lists) n start (before_pass r v s) (within_pass r (v + 1) s) walked property_holds-at (pass-quiet s r v left.spins) (sym (pass-begins s r v left.spins within (omega arith))) in
+      let whole = walked-more w (meets_none never_lists) (suc n) start (within_pass r (v + 1) s) (before_pass r (v + 1) s) half property_holds-in refl (sym (second-cycle s r (v + 1) left.spins.still left.spins.free)) in
+      let more : suc (suc n) + 2 * k ≡ n + 2 * suc k = omega arith in
+      subst (λ (m : ℕ). RunSoFar w (meets_none never_lists) m start (before_pass r 15 s)) more
+      (passes c never_lists start s r has left within apart k (v + 1) (suc (suc n)) (omega arith) whole)
 
-  pub spun-walked : (c : Scope) (never_lists : List (List Condition)) (start s t : TrackedMachine) → has_all_lists c never_lists ≡ true → cycle_may_change_scope c (next_op s.0 s.1) ≡ false → makes_mistake_in_scope c s ≡ false → meets_none never_lists s ≡ true →
-      HasSpun w s t → RunSoFar w (meets_none never_lists) start s → RunSoFar w (meets_none never_lists) start t
-  spun-walked c never_lists start s t has rest sound property_holds spun walked =
+  pub spun-walked : (c : Scope) (never_lists : List (List Condition)) (n cycles : ℕ) (start s t : TrackedMachine) → has_all_lists c never_lists ≡ true → cycle_may_change_scope c (next_op s.0 s.1) ≡ false → makes_mistake_in_scope c s ≡ false → meets_none never_lists s ≡ true →
+      HasSpun w cycles s t → RunSoFar w (meets_none never_lists) n start s → RunSoFar w (meets_none never_lists) (n + cycles) start t
+  spun-walked c never_lists n cycles start s t has rest sound property_holds spun walked =
       let r = spun.register in
       let v = register_of s.0 r in
       let left = left-alone c r s spun.spins rest sound in
       let at_start : before_pass r v s ≡ s = ap (λ (xs : List ℕ). (record s.0 { r = xs }, s.1, s.2)) (set-get_or s.0.r r 0) in
-      let goes : (x y : TrackedMachine) → x ≡ y → RunSoFar w (meets_none never_lists) start x → RunSoFar w (meets_none never_lists) start y = λ x y e. subst (λ (z : TrackedMachine). RunSoFar w (meets_none never_lists) start z) e in
-      elim (cases_lt r (length s.0.r)) [
-        | inl within ↦
-            goes (before_pass r 15 s) t (sym spun.at)
-            (passes c never_lists start s r has left within (meets_none_without_mistakes-if_meets_none never_lists s property_holds) (15 - v) v (let few = spun.spins.few in omega arith) (goes s (before_pass r v s) (sym at_start) walked))
-        | inr past ↦ goes s t (sym (spun.at ∙ ap (λ (xs : List ℕ). (record s.0 { r = xs }, s.1, s.2)) (set_past s.0.r r 15 past))) walked
-      ]
+      let goes : (m : ℕ) (x y : TrackedMachine) → x ≡ y → RunSoFar w (meets_none never_lists) m start x → RunSoFar w (meets_none never_lists) m start y = λ m x y e. subst (λ (z : TrackedMachine). RunSoFar w (meets_none never_lists) m start z) e in
+      let whole =
+      passes c never_lists start s r has left spun.within (meets_none_without_mistakes-if_meets_none never_lists s property_holds) (15 - v) v n (let few = spun.spins.few in omega arith) (goes n s (before_pass r v s) (sym at_start) walked) in
+      goes (n + cycles) (before_pass r 15 s) t (sym spun.at)
+      (subst (λ (m : ℕ). RunSoFar w (meets_none never_lists) (n + m) start (before_pass r 15 s)) (sym spun.count) whole)
 
-  pub spun-apart : (c : Scope) (never_lists : List (List Condition)) (s t : TrackedMachine) → has_all_lists c never_lists ≡ true → cycle_may_change_scope c (next_op s.0 s.1) ≡ false → makes_mistake_in_scope c s ≡ false → meets_none never_lists s ≡ true →
-      HasSpun w s t → meets_none_without_mistakes never_lists t ≡ true
-  spun-apart c never_lists s t has rest sound property_holds spun =
+  pub spun-apart : (c : Scope) (never_lists : List (List Condition)) (cycles : ℕ) (s t : TrackedMachine) → has_all_lists c never_lists ≡ true → cycle_may_change_scope c (next_op s.0 s.1) ≡ false → makes_mistake_in_scope c s ≡ false → meets_none never_lists s ≡ true →
+      HasSpun w cycles s t → meets_none_without_mistakes never_lists t ≡ true
+  spun-apart c never_lists cycles s t has rest sound property_holds spun =
       let left = left-alone c spun.register s spun.spins rest sound in
       ap (meets_none_without_mistakes never_lists) spun.at ∙ sym (keeps-same c s (before_pass spun.register 15 s) (pass-same c s spun.register 15 left.unseen) never_lists has) ∙ meets_none_without_mistakes-if_meets_none never_lists s property_holds

@@ -16,12 +16,13 @@ use Rattle.mcs_drive.specs.DrivenRuns.{FitsBoard, InputLimits, Levels, with_leve
 use Rattle.mcs_drive.specs.InputReads.{reads_input, value_read_by, without_levels as plain_machine}
 use Rattle.mcs_drive.specs.Marks.{port_shows, shows}
 use Rattle.mcs_drive.specs.TrackedMachine.{Observer, TrackedMachine, counts_after, machine_in, with_levels, without_levels, cycled, after_cycles, next_reads_input, answer, seen_count_after, next_op, condition_holds_at, seen_mark_count, seen_after_reading, shows_next_mark}
-use Rattle.mcs_drive.specs.RunsBetweenReads.{IgnoresLevels, LeadsTo}
+use Rattle.mcs_drive.specs.RunsBetweenReads.{IgnoresLevels}
 use Rattle.mcs_drive.proofs.LevelLemmas.{at_levels}
 use Rattle.mcs_drive.proofs.SeenMarkLemmas.{mark_satisfies-false-if-all-false, seen_after_reading-with_levels, mark_satisfies}
 use Rattle.mcs_drive.proofs.Tracking.{with_counts, cycled-with_levels-if-no-read, cycled-decided-by-value-read}
 use Rattle.mcs_drive.proofs.ReadPoints.{cycle-board}
 use Rattle.mcs_check.specs.ReadPoints.{Begins, CannotRead, ReadsTestPin, HasRead, Reaches, is_bit_subset, set_bits, unpressed_port_value, with_seen}
+use Rattle.mcs_check.specs.MachineRules.{LeadsToIn}
 use Rattle.mcs_check.proofs.PulledLines.{port_bits-at_most_keys_down}
 use Rattle.mcs_check.proofs.Pulling.{port-lt, port_bits-superset_of_unpressed, port_bits-subset_at_highest_levels}
 use Rattle.mcs_drive.proofs.EqualExceptLevels.{after_cycles-first, run-alike}
@@ -158,16 +159,18 @@ next_reads_input-without_levels : (s : TrackedMachine) → next_reads_input (wit
 unfolding fetch_of
 next_reads_input-without_levels s = refl
 
-pub leads_to-if_read_and_reached : (w : Observer) (p : TrackedMachine → Bool) (a x b : TrackedMachine) (l : Levels) → IgnoresLevels p → board_fault_of a.1.board ≡ None → without_levels (cycled w (with_levels l a)) ≡ without_levels x → Reaches w p x b → LeadsTo w p a b l
-leads_to-if_read_and_reached w p a x b l ignores v first reaches =
+pub leads_to-if_read_and_reached : (w : Observer) (p : TrackedMachine → Bool) (n : ℕ) (a x b : TrackedMachine) (l : Levels) → IgnoresLevels p → board_fault_of a.1.board ≡ None → without_levels (cycled w (with_levels l a)) ≡ without_levels x → Reaches w p n x b → LeadsToIn w p (suc n) a b l
+leads_to-if_read_and_reached w p n a x b l ignores v first reaches =
     let s = cycled w (with_levels l a) in
     let board : x.1.board ≡ a.1.board = sym (ap (λ (m : TrackedMachine). m.1.board) first) ∙ cycle-board w (with_levels l a) in
     let sound : board_fault_of x.1.board ≡ None = ap board_fault_of board ∙ v in
-    let alike : (i : ℕ) → i ≤ reaches.cycles → without_levels (after_cycles w (suc i) (with_levels l a)) ≡ without_levels (after_cycles w i x) = λ i h.
-    ap without_levels (after_cycles-first w i (with_levels l a)) ∙ sym (run-alike w i x s sound (sym first) (λ j k. reaches.quiet j (omega arith))) in
-    record {
-      more = reaches.cycles;
-      quiet = λ i h. sym (next_reads_input-without_levels (after_cycles w (suc i) (with_levels l a))) ∙ ap next_reads_input (alike i (omega arith)) ∙ next_reads_input-without_levels (after_cycles w i x) ∙ reaches.quiet i h;
-      property_holds = λ i h. ignores (after_cycles w (suc i) (with_levels l a)) ∙ ap p (alike i h) ∙ sym (ignores (after_cycles w i x)) ∙ reaches.property_holds i h;
-      same = alike reaches.cycles (omega arith) ∙ ap without_levels (sym reaches.at);
-    }
+    let alike : (i : ℕ) → i ≤ n → without_levels (after_cycles w (suc i) (with_levels l a)) ≡ without_levels (after_cycles w i x) = λ i h.
+    ap without_levels (after_cycles-first w i (with_levels l a)) ∙ sym (run-alike w i x s sound (sym first) (λ j k. reaches.quiet j (omega arith))) in (
+      record {
+        more = n;
+        quiet = λ i h. sym (next_reads_input-without_levels (after_cycles w (suc i) (with_levels l a))) ∙ ap next_reads_input (alike i (omega arith)) ∙ next_reads_input-without_levels (after_cycles w i x) ∙ reaches.quiet i h;
+        property_holds = λ i h. ignores (after_cycles w (suc i) (with_levels l a)) ∙ ap p (alike i h) ∙ sym (ignores (after_cycles w i x)) ∙ reaches.property_holds i h;
+        same = alike n (omega arith) ∙ ap without_levels (sym reaches.at);
+      },
+      refl,
+    )

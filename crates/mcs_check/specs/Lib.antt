@@ -12,3 +12,4 @@ pub mod OutcomeMeaning
 pub mod HighestLevels
 pub mod Scopes
 pub mod SpacedInputs
+pub mod LevelSets

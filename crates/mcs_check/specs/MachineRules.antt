@@ -1,5 +1,5 @@
 -- A transition system whose keys identify machines.
-use Rattle.std.specs.Prelude.{◌≡◌, ℕ, List, Bool, true, false, None}
+use Rattle.std.specs.Prelude.{◌≡◌, ℕ, suc, List, Bool, true, false, None}
 use Rattle.std.specs.List.{Contains}
 use Rattle.mcs_model.specs.Boards.{board_fault_of}
 use Rattle.mcs_drive.specs.DrivenRuns.{AreAllowed, FitsBoard, InputLimits, Levels}
@@ -12,20 +12,25 @@ pub record MayHaveKey (p : TrackedMachine → Bool) (a : TrackedMachine) : Type 
   pub sound : board_fault_of a.1.board ≡ None
   pub property_holds : p a ≡ true
 
+-- holds if `a`, at the input levels `l`, reaches `b` in exactly `cycles` cycles (`LeadsTo`)
+abbrev pub LeadsToIn : Observer → (TrackedMachine → Bool) → ℕ → TrackedMachine → TrackedMachine → Levels → Type 0
+LeadsToIn w p cycles a b l = (run : LeadsTo w p a b l) × (cycles ≡ suc run.more)
+
 -- the rules of a search whose keys identify machines. A choice is the value that a machine reads in
 -- its next cycle.
 -- `covers`: the choices include every value that a machine identified by `key` can read at input
 -- levels within the limits
 -- `leads`: each machine identified by `key` runs to one identified by `next`, at all input levels at
--- which the first machine reads the choice, and p holds at every step
+-- which the first machine reads the choice, and p holds at every step; all these runs take the same
+-- number of cycles
 -- `fails`: for each machine identified by `key`, there are input levels l such that p fails after
 -- some number of cycles at l
 abbrev pub machine_rules : InputLimits → Observer → (TrackedMachine → Bool) → (List ℕ → Type 0) → (List ℕ → TrackedMachine → Type 0) → Rules
 machine_rules limits w p is_state is_key_of = record {
   is_state = is_state;
   covers = λ key choices. (a : TrackedMachine) → is_key_of key a → (l : Levels) → AreAllowed limits a.1.board l → Contains choices (answer l a);
-  leads = λ key c next. (a : TrackedMachine) → is_key_of key a →
-      (b : TrackedMachine) × is_key_of next b × ((l : Levels) → FitsBoard a.1.board l → answer l a ≡ c → LeadsTo w p a b l);
+  leads = λ key c next. (cycles : ℕ) × ((a : TrackedMachine) → is_key_of key a →
+      (b : TrackedMachine) × is_key_of next b × ((l : Levels) → FitsBoard a.1.board l → answer l a ≡ c → LeadsToIn w p cycles a b l));
   fails = λ key c. (a : TrackedMachine) → is_key_of key a →
       (l : Levels) × FitsBoard a.1.board l × ((k : ℕ) × (p (after_cycles w k (with_levels l a)) ≡ false));
 }

@@ -1,5 +1,5 @@
 -- The inputs that a machine reads, and its run from one read to the next.
-use Rattle.std.specs.Prelude.{◌≡◌, ◌<◌, ◌≤◌, ◌+◌, ◌/◌, ◌%◌, ◌==◌, ◌&&◌, ℕ, [], Bool, true, false, Some, None, nat_le}
+use Rattle.std.specs.Prelude.{◌≡◌, ◌<◌, ◌≤◌, ◌+◌, ◌-◌, ◌*◌, ◌/◌, ◌%◌, ◌==◌, ◌&&◌, ℕ, [], Bool, true, false, Some, None, length, nat_le}
 use Rattle.mcs_nibble.specs.Bits.{bit_of}
 use Rattle.mcs_nibble.specs.Ports.{read_lines}
 use Rattle.mcs_model.specs.declared.op.Op.{Op}
@@ -65,10 +65,9 @@ abbrev pub HasRead : Observer → ℕ → TrackedMachine → TrackedMachine → 
 HasRead w value s t =
     (l : Levels) → FitsBoard s.1.board l → answer l s ≡ value → without_levels (cycled w (with_levels l s)) ≡ without_levels t
 
--- holds if a run leads from s to t, no cycle of the run reads an input, and property p holds before
--- and after each cycle
-pub record Reaches (w : Observer) (p : TrackedMachine → Bool) (s t : TrackedMachine) : Type 0 where
-  pub cycles : ℕ
+-- holds if a run of `cycles` cycles leads from s to t, no cycle of the run reads an input, and
+-- property p holds before and after each cycle
+pub record Reaches (w : Observer) (p : TrackedMachine → Bool) (cycles : ℕ) (s t : TrackedMachine) : Type 0 where
   pub quiet : (i : ℕ) → i < cycles → next_reads_input (after_cycles w i s) ≡ false
   pub property_holds : (i : ℕ) → i ≤ cycles → p (after_cycles w i s) ≡ true
   pub at : t ≡ after_cycles w cycles s
@@ -96,8 +95,11 @@ pub record Spins (w : Observer) (r : ℕ) (s : TrackedMachine) : Type 0 where
   pub back : address_on_page_of ((s.0.pc + 2) % 4096) word ≡ s.0.pc
   pub few : register_of s.0 r < 15
 
--- holds if t is the machine s after all passes but the last of an ISZ that jumps to itself
-pub record HasSpun (w : Observer) (s t : TrackedMachine) : Type 0 where
+-- holds if t is the machine s after all passes but the last of an ISZ that jumps to itself. A pass
+-- takes two cycles, and all these passes take `cycles` cycles.
+pub record HasSpun (w : Observer) (cycles : ℕ) (s t : TrackedMachine) : Type 0 where
   pub register : ℕ
+  pub within : register < length s.0.r
   pub spins : Spins w register s
+  pub count : cycles ≡ 2 * (15 - register_of s.0 register)
   pub at : t ≡ (with_register s.0 register 15, s.1, s.2)

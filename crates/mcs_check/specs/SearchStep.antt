@@ -1,18 +1,36 @@
 -- One step of the search. The keys of a search identify machines with one board and one program.
-use Rattle.std.specs.Prelude.{◌≡◌, ℕ, List}
+use Rattle.std.specs.Prelude.{◌≡◌, ℕ, List, Bool, true, false}
 use Rattle.mcs_drive.specs.DrivenRuns.{Levels, FitsBoard}
 use Rattle.mcs_drive.specs.TrackedMachine.{TrackedMachine, answer}
-use Rattle.mcs_drive.specs.RunsBetweenReads.{LeadsTo}
+use Rattle.mcs_check.specs.declared.search_step.StepEnd.{StepEnd}
+use Rattle.mcs_check.specs.declared.search_step.StepEnd.TheVariants.{Reached, Failed}
 use Rattle.mcs_check.specs.Conditions.{observer_of_property}
 use Rattle.mcs_check.specs.Keys.{Setting, IsKeyOf, property_of}
+use Rattle.mcs_check.specs.MachineRules.{LeadsToIn}
 
 -- holds if a key identifies some machine
 abbrev pub IsState : Setting → List ℕ → Type 0
 IsState g key = (a : TrackedMachine) × IsKeyOf g key a
 
 -- Holds if each machine that `key` identifies runs to a machine that `next` identifies, at all
--- input levels at which the first machine reads `value`. The property holds at every step.
-abbrev pub Leads : Setting → List ℕ → ℕ → List ℕ → Type 0
-Leads g key value next =
+-- input levels at which the first machine reads `value`. The run takes exactly `cycles` cycles,
+-- with the cycle that reads. The property holds at every step.
+abbrev pub LeadsIn : Setting → ℕ → List ℕ → ℕ → List ℕ → Type 0
+LeadsIn g cycles key value next =
     (a : TrackedMachine) → IsKeyOf g key a → (b : TrackedMachine) × IsKeyOf g next b
-    × ((l : Levels) → FitsBoard a.1.board l → answer l a ≡ value → LeadsTo (observer_of_property g.property) (property_of g) a b l)
+    × ((l : Levels) → FitsBoard a.1.board l → answer l a ≡ value → LeadsToIn (observer_of_property g.property) (property_of g) cycles a b l)
+
+-- holds if the machines that `key` identifies run to machines that `next` identifies, in some number
+-- of cycles (`LeadsIn`)
+abbrev pub Leads : Setting → List ℕ → ℕ → List ℕ → Type 0
+Leads g key value next = (cycles : ℕ) × LeadsIn g cycles key value next
+
+-- true if a search step reached a key
+abbrev pub is_reached : StepEnd → Bool
+is_reached (Reached cycles) = true
+is_reached Failed = false
+
+-- holds if a search step reached no key, or if `fact` holds for the number of its cycles
+abbrev pub IfReached : StepEnd → (ℕ → Type 0) → Type 0
+IfReached (Reached cycles) fact = fact cycles
+IfReached Failed fact = Unit {0}

@@ -62,7 +62,7 @@ impl System for MachineSearch {
     }
 
     fn apply_choice(&mut self, key: &[u8], choice: u8, into: &mut [u8]) -> Option<bool> {
-        run_to_next_key(
+        let end = run_to_next_key(
             &mut self.replica,
             &self.layout,
             &mut self.last,
@@ -71,6 +71,7 @@ impl System for MachineSearch {
             key,
             choice,
             into,
-        )
+        )?;
+        Some(end.is_reached())
     }
 }

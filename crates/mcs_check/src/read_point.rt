@@ -1,5 +1,5 @@
 //! Runs a machine from one read of an input to the next.
-ghost use Rattle.std.specs.Prelude.{◌≡◌, ◌<◌, ◌+◌, ◌%◌, ◌==◌, ℕ, ◌||◌, ◌&&◌, ◌⊎◌, true, false, length, nat_lt, IfSome, Some, IsTrue, nat_le, ◌-◌};
+ghost use Rattle.std.specs.Prelude.{◌≡◌, ◌<◌, ◌≤◌, ◌+◌, ◌%◌, ◌==◌, ℕ, ◌||◌, ◌&&◌, ◌⊎◌, true, false, length, nat_lt, IfSome, Some, IsTrue, nat_le, ◌-◌};
 ghost use Rattle.mcs_model.specs.Boards.{key_count};
 ghost use Rattle.mcs_model.specs.Validity.{AreBelow};
 ghost use Rattle.mcs_model.specs.Effect.{address_on_page_of, instruction_at};
@@ -78,6 +78,15 @@ fn calls_after_op(op: &Op, calls: u8) -> u8
 /// The maximum number of cycles before the last pass of an ISZ that jumps to itself: 15 passes of 2 cycles.
 const MAX_CYCLES_BEFORE_LAST_PASS: u32 = 30;
 
+/// A run from one read of an input to the next.
+#[derive(Clone, Copy, Debug)]
+pub struct Run {
+    /// True only if the run wrote no RAM nibble and no status character.
+    pub keeps_memory: bool,
+    /// The number of cycles.
+    pub cycles: u32,
+}
+
 /// Facts about the next cycle that are known before this cycle runs. Some facts depend on the scope of the conditions.
 #[derive(Clone, Copy)]
 struct NextCycleFacts {
@@ -143,7 +152,8 @@ fn may_spin(
     has_all_lists: bool,
     next_cycle_facts: &NextCycleFacts,
 ) -> bool
-    ensures { result ≡ true → (has_all_lists ≡ true) × ((next_cycle_facts.now.makes_mistake_in_scope ≡ false) × (next_cycle_facts.now.changes ≡ false)) }
+    ensures left { result ≡ true → 30 ≤ left }
+    ensures scope { result ≡ true → (has_all_lists ≡ true) × ((next_cycle_facts.now.makes_mistake_in_scope ≡ false) × (next_cycle_facts.now.changes ≡ false)) }
 {
     left >= MAX_CYCLES_BEFORE_LAST_PASS
         && !is_sought
@@ -277,8 +287,9 @@ impl SearchMachine {
     /// Runs all passes but the last of an ISZ that jumps to itself. Returns the number of cycles that they take.
     fn spin(&mut self, property: &Property, r: RegNo) -> u32
         requires { Spins (observer_of_property property.now) r self.old }
-        ensures { HasSpun (observer_of_property property.now) self.old self.new }
+        ensures { HasSpun (observer_of_property property.now) result self.old self.new }
     {
+        self.show_state_is_valid();
         let passes = 15 - self.cpu.regs().register(r).get();
         self.cpu.set_register(r, Nibble::low_of(15));
         2 * u32::from(passes)
@@ -298,7 +309,7 @@ impl SearchMachine {
         requires spins { IfSome next_cycle_facts.now.spins (λ r. Spins (observer_of_property property.now) r self.old) }
         requires quiet { next_reads_input self.old ≡ false }
         requires open { is_open ≡ condition_holds_at (observer_of_property property.now) self.old }
-        ensures { (self.new ≡ cycled (observer_of_property property.now) self.old) ⊎ ((may_spin ≡ true) × HasSpun (observer_of_property property.now) self.old self.new) }
+        ensures { ((result ≡ 1) × (self.new ≡ cycled (observer_of_property property.now) self.old)) ⊎ ((may_spin ≡ true) × HasSpun (observer_of_property property.now) result self.old self.new) }
     {
         if may_spin {
             if let Some(r) = next_cycle_facts.spins {
@@ -480,21 +491,19 @@ impl SearchMachine {
         changes || self.seen != seen
     }
 
-    /// Returns `keeps_memory` if the property holds, and `None` otherwise.
-    fn outcome(&self, property: &Property, keeps_memory: bool) -> Option<bool>
-        ensures holds { IfSome result (λ _. meets_none property.now.never_lists self.now ≡ true) }
-        ensures memory { IfSome result (λ keeps. keeps ≡ keeps_memory) }
+    /// Returns `run` if the property holds, and `None` otherwise.
+    fn outcome(&self, property: &Property, run: Run) -> Option<Run>
+        ensures { IfSome result (λ same. (same ≡ run) × (meets_none property.now.never_lists self.now ≡ true)) }
     {
         if property.keeps(self) {
-            Some(keeps_memory)
+            Some(run)
         } else {
             None
         }
     }
 
     /// Runs until the next cycle may read an input, the machine has the key `key` again, or `most` cycles have run.
-    /// `at` is the program counter of the key's machine. Returns `None` if the property fails at some step. Otherwise
-    /// returns whether the run wrote no RAM nibble and no status character.
+    /// `at` is the program counter of the key's machine. Returns `None` if the property fails at some step.
     pub fn run_to_read_point(
         &mut self,
         property: &Property,
@@ -502,11 +511,11 @@ impl SearchMachine {
         layout: &[KeyByte],
         key: &[u8],
         at: Addr,
-    ) -> Option<bool>
+    ) -> Option<Run>
         requires { length key.now ≡ length layout.now }
-        ensures reaches { IfSome result (λ _. Reaches (observer_of_property property.now) (meets_none property.now.never_lists) self.old self.new) }
+        ensures reaches { IfSome result (λ run. Reaches (observer_of_property property.now) (meets_none property.now.never_lists) run.cycles self.old self.new) }
         ensures keeps { KeepsBoardAndInputs self.old.1 self.new.1 }
-        ensures memory { IfSome result (λ keeps_memory. keeps_memory ≡ true → KeepsMemory self.old.1 self.new.1) }
+        ensures memory { IfSome result (λ run. run.keeps_memory ≡ true → KeepsMemory self.old.1 self.new.1) }
     {
         let scope = property.scope();
         let has_all_lists = property.is_covered_by(&scope);
@@ -516,8 +525,12 @@ impl SearchMachine {
         let mut keeps_memory = true;
         let mut left = most;
         for _ in 0..most {
+            let run = Run {
+                keeps_memory,
+                cycles: most - left,
+            };
             if left == 0 {
-                return self.outcome(property, keeps_memory);
+                return self.outcome(property, run);
             }
             let next_cycle_facts = self.next_cycle_facts(property, &scope);
             if !self.property_still_holds(
@@ -528,21 +541,26 @@ impl SearchMachine {
             ) {
                 return None;
             }
-            if next_cycle_facts.may_read {
-                return Some(keeps_memory);
-            }
-            // The run is in a loop that reads no input. Further passes reach no new state.
-            if self.is_back_at_key(layout, key, at) {
-                return Some(keeps_memory);
+            // If the machine has the key again, the run is in a loop that reads no input. Further passes reach no new
+            // state.
+            if next_cycle_facts.may_read || self.is_back_at_key(layout, key, at) {
+                return Some(run);
             }
             let is_sought = self.program_counter().get() == at.get();
             let may = may_spin(left, is_sought, has_all_lists, &next_cycle_facts);
             is_open = self.is_open(property, has_opening, changed, is_open);
             let seen = self.seen;
-            left = left.saturating_sub(self.run_step(property, &next_cycle_facts, may, is_open));
+            left -= self.run_step(property, &next_cycle_facts, may, is_open);
             changed = self.has_changed(next_cycle_facts.changes, seen);
             keeps_memory = both(keeps_memory, next_cycle_facts.keeps_memory);
         }
-        self.outcome(property, keeps_memory)
+        let cycles = most - left;
+        self.outcome(
+            property,
+            Run {
+                keeps_memory,
+                cycles,
+            },
+        )
     }
 }

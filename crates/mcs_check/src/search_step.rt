@@ -10,7 +10,7 @@ ghost use Rattle.mcs_check.specs.Keys.{KeepsBoardAndInputs, setting_of};
 ghost use Rattle.mcs_check.specs.Memory.{IsLastKeyOf};
 ghost use Rattle.mcs_check.specs.SearchRules.{Covers};
 ghost use Rattle.mcs_check.specs.ReadPoints.{CannotRead};
-ghost use Rattle.mcs_check.specs.SearchStep.{IsState, Leads};
+ghost use Rattle.mcs_check.specs.SearchStep.{IfReached, IsState, LeadsIn, is_reached};
 
 use crate::cells::KeyByte;
 use crate::last_key::{LastKey, both};
@@ -18,6 +18,28 @@ use crate::limits::InputLimits;
 use crate::property::Property;
 use crate::replica::SearchMachine;
 use std::alloc::AllocError;
+
+/// The end of a step of the search.
+#[derive(Clone, Copy, Debug)]
+pub(crate) enum StepEnd {
+    /// The step reached the next key, and the property held at every moment. The field is the number of cycles, with
+    /// the cycle that reads.
+    Reached(u64),
+    /// The property failed at some moment.
+    Failed,
+}
+
+impl StepEnd {
+    /// Returns whether the step reached the next key.
+    pub(crate) fn is_reached(self) -> bool
+        ensures { result ≡ is_reached self }
+    {
+        match self {
+            StepEnd::Reached(_) => true,
+            StepEnd::Failed => false,
+        }
+    }
+}
 
 /// The number of values that a nibble can have.
 const VALUES: u8 = 16;
@@ -84,9 +106,9 @@ pub(crate) fn list_readable_values(
 }
 
 /// Loads the machine that `key` identifies and runs it until its next read (see `run_to_read_point`). The first cycle
-/// reads `value`. Returns whether the property holds at every step, or `None` if `key` cannot be loaded or the first
-/// cycle cannot read `value`. Saves the machine's new key into `into` if the property holds. `last` is the key that
-/// `replica` last loaded or saved; the function updates `last`.
+/// reads `value`. Returns `None` if `key` cannot be loaded or the first cycle cannot read `value`. Saves the machine's
+/// new key into `into` if the property holds at every step. `last` is the key that `replica` last loaded or saved; the
+/// function updates `last`.
 pub(crate) fn run_to_next_key(
     replica: &mut SearchMachine,
     layout: &[KeyByte],
@@ -96,7 +118,7 @@ pub(crate) fn run_to_next_key(
     key: &[u8],
     value: u8,
     into: &mut [u8],
-) -> Option<bool>
+) -> Option<StepEnd>
     requires test { replica.old.1.test ≡ 0 }
     requires complete { IsComplete replica.old.1.board layout.now }
     requires into { length into.old ≡ length key.now }
@@ -104,11 +126,11 @@ pub(crate) fn run_to_next_key(
     ensures keeps { KeepsBoardAndInputs replica.old.1 replica.new.1 }
     ensures known { IsLastKeyOf layout.now last.new replica.new }
     ensures leads { (limits : driven.InputLimits) → replica.old.1.keys ≡ limits.keys →
-        IfSome result (λ property_holds. property_holds ≡ true →
-        Leads (setting_of replica.old limits layout.now property.now) key.now value into.new) }
+        IfSome result (λ end. IfReached end (λ cycles.
+        LeadsIn (setting_of replica.old limits layout.now property.now) cycles key.now value into.new)) }
     ensures state { (limits : driven.InputLimits) → replica.old.1.keys ≡ limits.keys →
-        IfSome result (λ property_holds. property_holds ≡ true →
-        IsState (setting_of replica.old limits layout.now property.now) into.new) }
+        IfSome result (λ end. IfReached end (λ _.
+        IsState (setting_of replica.old limits layout.now property.now) into.new)) }
 {
     if key.len() != layout.len() {
         return None;
@@ -123,12 +145,12 @@ pub(crate) fn run_to_next_key(
     if !replica.read(property, source, value) {
         return None;
     }
-    let Some(keeps_memory) = replica.run_to_read_point(property, most, layout, key, at) else {
-        return Some(false);
+    let Some(run) = replica.run_to_read_point(property, most, layout, key, at) else {
+        return Some(StepEnd::Failed);
     };
     replica.show_state_is_valid();
-    let is_kept = both(keeps_memory, source.is_input());
+    let is_kept = both(run.keeps_memory, source.is_input());
     replica.save_after(layout, last.front, key, is_kept, into);
     last.remember(into);
-    Some(true)
+    Some(StepEnd::Reached(u64::from(run.cycles) + 1))
 }

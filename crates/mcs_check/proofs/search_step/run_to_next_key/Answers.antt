@@ -1,7 +1,8 @@
-use Rattle.std.proofs.Common.{◌∙◌, sym, refl, subst}
+use Rattle.std.proofs.Common.{◌∙◌, ℕ, sym, refl, subst, arith}
 use Rattle.mcs_check.specs.Conditions.{meets_none, observer_of_property}
 use Rattle.mcs_check.specs.Keys.{IsOnBoard, IsKeyOf, setting_of}
 use Rattle.mcs_check.specs.Memory.{IsMemoryFrom}
+use Rattle.mcs_check.specs.SearchStep.{LeadsIn}
 use Rattle.mcs_check.proofs.Ignoring.{conditions-ignore}
 use Rattle.mcs_check.proofs.Keeping.{keeps-trans}
 use Rattle.mcs_check.proofs.Memory.{has_bytes_from-if_memory_kept, memory-trans}
@@ -27,7 +28,7 @@ returns-clause-known c = record {
 }
 
 pub returns-clause-leads : goal.returns-clause-leads
-returns-clause-leads c = λ limits highest _.
+returns-clause-leads c = λ limits highest.
     let start = c.args.replica.now in
     let m = c.reload.new.self in
     let x = c.read.new.self in
@@ -39,7 +40,8 @@ returns-clause-leads c = λ limits highest _.
     let reaches = c.in-Some.ensures.reaches in
     let next : IsKeyOf g c.save_after.new.into n = record {
       on = on-board-kept limits.keys start n c.show_state_is_valid-2.ensures.registers c.show_state_is_valid-2.ensures.bus highest c.requires.test kept;
-      property_holds = property_holds-at_reached_machine (observer_of_property c.args.property.now) p x n reaches;
+      property_holds = property_holds-at_reached_machine (observer_of_property c.args.property.now) p c.in-Some.run'.cycles x n reaches;
       cells = c.save_after.ensures;
     } in
-    leads-by_read_and_run g c.args.key.now c.save_after.new.into c.args.value m x n (conditions-ignore c.args.property.now.never_lists) c.requires.complete on (c.reload.ensures.loaded c.if-not-reload.false) (c.read.ensures.read c.if-not-read.false) reaches next
+    subst (λ (count : ℕ). LeadsIn g count c.args.key.now c.args.value c.save_after.new.into) (omega arith)
+    (leads-by_read_and_run g c.args.key.now c.save_after.new.into c.args.value c.in-Some.run'.cycles m x n (conditions-ignore c.args.property.now.never_lists) c.requires.complete on (c.reload.ensures.loaded c.if-not-reload.false) (c.read.ensures.read c.if-not-read.false) reaches next)
