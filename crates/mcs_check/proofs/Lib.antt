@@ -22,3 +22,4 @@ pub mod Ranging
 pub mod Matrices
 pub mod Spaced
 pub mod LevelSets
+pub mod SpacedSteps

@@ -25,6 +25,7 @@ mod reading;
 mod replica;
 mod scope;
 mod search_step;
+mod spaced_search;
 mod spacing;
 mod stopwatch;
 
