@@ -1,7 +1,7 @@
 -- If the keys that a search found are a closure, the property holds for the first machine. It also
 -- holds for all machines that differ from the first machine only in their input levels.
 use Rattle.std.proofs.Common.{◌≡◌, ℕ, zero, suc, List, Bool, sym, ap, ◌∙◌, subst}
-use Rattle.mcs_drive.specs.DrivenRuns.{AreAllowed, InputLimits, Levels}
+use Rattle.mcs_drive.specs.DrivenRuns.{AreInputsAllowed, InputLimits, Levels}
 use Rattle.mcs_drive.specs.TrackedMachine.{Observer, TrackedMachine, with_levels, without_levels, cycled, driven, Holds}
 use Rattle.mcs_drive.specs.RunsBetweenReads.{IgnoresLevels}
 use Rattle.mcs_search.specs.Rules.{Closure}
@@ -23,4 +23,4 @@ driven-differs_only_in_levels w f (suc k) s t e = ap (λ (m : TrackedMachine). w
 pub property_holds-if_only_levels_differ : (limits : InputLimits) (w : Observer) (p : TrackedMachine → Bool) (s t : TrackedMachine) → IgnoresLevels p → without_levels s ≡ without_levels t → Holds limits w p s → Holds limits w p t
 property_holds-if_only_levels_differ limits w p s t ignores e h = λ f allowed k.
     ignores (driven w f k t) ∙ ap p (sym (driven-differs_only_in_levels w f k s t e)) ∙ sym (ignores (driven w f k s))
-    ∙ h f (λ i. subst (λ (m : TrackedMachine). AreAllowed limits m.1.board (f i)) (sym e) (allowed i)) k
+    ∙ h f (subst (λ (m : TrackedMachine). AreInputsAllowed limits m.1.board f) (sym e) allowed) k

@@ -39,8 +39,9 @@ fn states_that_fit(memory: usize, key_len: usize) -> usize {
 }
 
 /// Searches all runs of a machine, for all levels of its keys and its TEST pin within the limits, and checks the
-/// property after each cycle. The search stores at most `most` states and uses about `memory` bytes. It splits each run of cycles without
-/// reads into steps of `pause` cycles. Fails if memory for the layout or for the first state cannot be allocated.
+/// property after each cycle. The search ignores the limit `wait`: it lets the levels change before each cycle. It
+/// stores at most `most` states and uses about `memory` bytes. It splits each run of cycles without reads into steps of
+/// `pause` cycles. Fails if memory for the layout or for the first state cannot be allocated.
 pub fn check_all(
     alloc: Global,
     mut replica: SearchMachine,

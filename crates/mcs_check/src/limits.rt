@@ -7,13 +7,14 @@ use mcs_nibble::Bit;
 use std::alloc::{AllocError, Global};
 use std::marker::Model;
 
-/// Limits of the inputs: the highest level of each key and of the TEST pin, and the largest number of keys that are
-/// down together.
+/// Limits of the inputs: the highest level of each key and of the TEST pin, the largest number of keys that are down
+/// together, and the smallest number of cycles between two changes of the levels.
 #[derive(Drop)]
 pub struct InputLimits {
     keys: Vec<Bit>,
     test: Bit,
     together: u32,
+    wait: u32,
 }
 
 impl Model for InputLimits {
@@ -21,28 +22,29 @@ impl Model for InputLimits {
 
     ghost Value = { driven.InputLimits };
 
-    ghost view = { λ a. record { keys = a.keys.items; test = a.test; together = a.together } };
+    ghost view = { λ a. record { keys = a.keys.items; test = a.test; together = a.together; wait = a.wait } };
 }
 
 impl InputLimits {
-    /// Creates limits. `keys` has the highest level of each key, row by row.
-    pub fn of(keys: Vec<Bit>, test: Bit, together: u32) -> InputLimits
-        ensures { result ≡ record { keys = keys.items; test = test; together = together } }
+    /// Creates limits. `keys` has the highest level of each key, row by row. A `wait` of 0 or 1 limits nothing.
+    pub fn of(keys: Vec<Bit>, test: Bit, together: u32, wait: u32) -> InputLimits
+        ensures { result ≡ record { keys = keys.items; test = test; together = together; wait = wait } }
     {
         InputLimits {
             keys,
             test,
             together,
+            wait,
         }
     }
 
-    /// Creates the limits that allow all input levels of a board. Fails if memory runs out.
+    /// Creates the limits that allow all inputs of a board. Fails if memory runs out.
     pub fn none(alloc: Global, board: &Board) -> Result<InputLimits, AllocError>
         ensures { IfOk result (λ limits. limits ≡ no_limits board.now) }
     {
         let count = board.key_count();
         let keys = vec![in alloc; Bit::ONE; count]?;
-        Ok(InputLimits::of(keys, Bit::ONE, count as u32))
+        Ok(InputLimits::of(keys, Bit::ONE, count as u32, 0))
     }
 
     /// Returns the highest level of each key, row by row.

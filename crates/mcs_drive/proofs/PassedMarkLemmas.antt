@@ -8,7 +8,7 @@ use Rattle.mcs_model.specs.declared.board.BoardParts.{BoardParts}
 use Rattle.mcs_model.specs.Boards.{board_fault_of}
 use Rattle.mcs_model.specs.Levels.{port_of}
 use Rattle.mcs_drive.specs.declared.marks.Mark.{Mark}
-use Rattle.mcs_drive.specs.DrivenRuns.{AreAllowed, FitsBoard, InputLimits, Levels}
+use Rattle.mcs_drive.specs.DrivenRuns.{AreInputsAllowed, FitsBoard, InputLimits, Levels}
 use Rattle.mcs_drive.specs.Marks.{IsAtMark, PassesMarks, shows}
 use Rattle.mcs_drive.specs.Opening.{BecomesTrue, holds_only_after_marks}
 use Rattle.mcs_drive.specs.TrackedMachine.{Observer, TrackedMachine, Holds, driven, seen_count_after, next_op, condition_holds_at, seen_mark_count, shows_next_mark, with_levels}
@@ -168,14 +168,14 @@ module _ (w : Observer) where
       ]
 
   pub opens-only-after : (limits : InputLimits) (s : TrackedMachine) → s.2.seen ≡ 0 → board_fault_of s.1.board ≡ None → Holds limits w (holds_only_after_marks w) s →
-      (f : ℕ → Levels) → ((k : ℕ) → AreAllowed limits s.1.board (f k)) → (a b : ℕ) → BecomesTrue (λ i. condition_holds_at w (driven w f i s)) a b → PassesMarks s.1.board f w.marks a b
+      (f : ℕ → Levels) → AreInputsAllowed limits s.1.board f → (a b : ℕ) → BecomesTrue (λ i. condition_holds_at w (driven w f i s)) a b → PassesMarks s.1.board f w.marks a b
   opens-only-after limits s none v holds f allowed a b is =
       let n = length w.marks in
       let order : a ≤ b = elim is.start [ inl start ↦ omega arith | inr after ↦ (let less = after.0 in omega arith) ] in
       let end : a + (b - a) ≡ b = omega arith in
       let first = seen-none s.1.board f a (driven w f a s).2.seen (start-none s f a b none is) in
       let last : SeenMarksPassed s.1.board f w.marks a b (driven w f b s).2.seen =
-      subst (λ (i : ℕ). SeenMarksPassed s.1.board f w.marks a i (driven w f i s).2.seen) end (seen-along s f v (λ k. (allowed k).fits) a b is.waits first (b - a) (omega arith)) in
+      subst (λ (i : ℕ). SeenMarksPassed s.1.board f w.marks a i (driven w f i s).2.seen) end (seen-along s f v (λ k. (allowed.levels k).fits) a b is.waits first (b - a) (omega arith)) in
       let most = count-le s f a b none is last.few in
       let least = count-ge (driven w f b s) (holds f allowed b) is.comes in
       let all : seen_mark_count n (driven w f b s).2.seen ≡ n = seen_mark_count-if-at-most n (driven w f b s).2.seen most ∙ (omega arith) in

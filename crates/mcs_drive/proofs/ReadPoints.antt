@@ -91,33 +91,74 @@ module _ (w : Observer) where
     pub property_holds : (a : TrackedMachine) → R a → p a ≡ true
     pub leads : (a : TrackedMachine) (l : Levels) → R a → AreAllowed limits a.1.board l → Leads p R a l
 
-  closed_set-holds : (limits : InputLimits) (p : TrackedMachine → Bool) (R : TrackedMachine → Type 0) → IsClosedSet limits p R → (fuel k : ℕ) → k < fuel → (f : ℕ → Levels) (a : TrackedMachine) → R a → ((i : ℕ) → AreAllowed limits a.1.board (f i)) → p (driven w f k a) ≡ true
-  closed_set-holds limits p R c zero k h f a is fit = absurd (omega arith)
-  closed_set-holds limits p R c (suc fuel) zero h f a is fit = c.property_holds a is
-  closed_set-holds limits p R c (suc fuel) (suc k) h f a is fit =
-      let to = (c.leads a (f 0) is (fit 0)).0 in
-      let to-is = (c.leads a (f 0) is (fit 0)).1 in
-      let leads = (c.leads a (f 0) is (fit 0)).2 in
-      let b = with_levels (f 0) a in
-      let v = c.sound a is in
+  -- ---- an invariant of one run, which may depend on the inputs and on the moment
+
+  -- Holds if `a`, at the input levels `l`, leads to a machine for which `R` holds at the moment at
+  -- which the run reaches it. The run is at `a` at moment `n`.
+  abbrev pub LeadsAlong : (TrackedMachine → Bool) → (ℕ → TrackedMachine → Type 0) → ℕ → TrackedMachine → Levels → Type 0
+  LeadsAlong p R n a l = (to : TrackedMachine) × (leads : LeadsTo w p a to l) × R (n + suc leads.more) to
+
+  -- Holds if `p` is true for each machine for which `R` holds at some moment, and each such machine
+  -- leads to one for which `R` holds, at the levels that the inputs `f` have at that moment. Each
+  -- such machine must have a valid board, and `p` must ignore the input levels.
+  pub record IsClosedAlong (f : ℕ → Levels) (p : TrackedMachine → Bool) (R : ℕ → TrackedMachine → Type 0) : Type 0 where
+    pub ignores : IgnoresLevels p
+    pub sound : (n : ℕ) (a : TrackedMachine) → R n a → board_fault_of a.1.board ≡ None
+    pub property_holds : (n : ℕ) (a : TrackedMachine) → R n a → p a ≡ true
+    pub leads : (n : ℕ) (a : TrackedMachine) → R n a → LeadsAlong p R n a (f n)
+
+  closed_along-holds : (f : ℕ → Levels) (p : TrackedMachine → Bool) (R : ℕ → TrackedMachine → Type 0) → IsClosedAlong f p R → (fuel k : ℕ) → k < fuel →
+      (n : ℕ) (g : ℕ → Levels) → ((i : ℕ) → g i ≡ f (n + i)) → (a : TrackedMachine) → R n a → p (driven w g k a) ≡ true
+  closed_along-holds f p R c zero k h n g same a is = absurd (omega arith)
+  closed_along-holds f p R c (suc fuel) zero h n g same a is = c.property_holds n a is
+  closed_along-holds f p R c (suc fuel) (suc k) h n g same a is =
+      let now : n + 0 ≡ n = omega arith in
+      let step = subst (LeadsAlong p R n a) (sym (same 0 ∙ ap f now)) (c.leads n a is) in
+      let to = step.0 in
+      let leads = step.1 in
+      let v = c.sound n a is in
       elim (cases_lt leads.more k) [
         | inl beyond ↦
-            let n = suc leads.more in
+            let m = suc leads.more in
             let rest = k - leads.more in
-            let g : ℕ → Levels = λ i. f (n + i) in
-            let split : suc k ≡ n + rest = omega arith in
-            let came : without_levels (driven w f n a) ≡ without_levels to = driven-quiet f leads.more a v leads.quiet ∙ leads.same in
-            let board : a.1.board ≡ to.1.board = sym (cycles-board n b) ∙ ap (λ (m : TrackedMachine). m.1.board) leads.same in
-            ap (λ j. p (driven w f j a)) split ∙ ap p (driven-add f n rest a)
-            ∙ c.ignores (driven w g rest (driven w f n a)) ∙ ap p (driven-alike g rest (driven w f n a) to came) ∙ sym (c.ignores (driven w g rest to))
-            ∙ closed_set-holds limits p R c fuel rest (omega arith) g to to-is (λ i. subst (λ (d : BoardParts). AreAllowed limits d (g i)) board (fit (n + i)))
+            let split : suc k ≡ m + rest = omega arith in
+            let came : without_levels (driven w g m a) ≡ without_levels to = driven-quiet g leads.more a v leads.quiet ∙ leads.same in
+            let later : ℕ → Levels = λ i. g (m + i) in
+            let first : p (driven w g (suc k) a) ≡ p (driven w later rest (driven w g m a)) = ap (λ j. p (driven w g j a)) split ∙ ap p (driven-add g m rest a) in
+            let alike : p (driven w later rest (driven w g m a)) ≡ p (driven w later rest to) =
+            c.ignores (driven w later rest (driven w g m a)) ∙ ap p (driven-alike later rest (driven w g m a) to came) ∙ sym (c.ignores (driven w later rest to)) in
+            first ∙ alike ∙ closed_along-holds f p R c fuel rest (omega arith) (n + m) later (λ i. same (m + i) ∙ (let e : n + (m + i) ≡ (n + m) + i = omega arith in ap f e)) to step.2
         | inr within ↦
-            c.ignores (driven w f (suc k) a)
-            ∙ ap p (driven-quiet f k a v (λ i l. leads.quiet i (omega arith)))
-            ∙ sym (c.ignores (after_cycles w (suc k) b)) ∙ leads.property_holds k within
+            c.ignores (driven w g (suc k) a)
+            ∙ ap p (driven-quiet g k a v (λ i l. leads.quiet i (omega arith)))
+            ∙ sym (c.ignores (after_cycles w (suc k) (with_levels (g 0) a))) ∙ leads.property_holds k within
       ]
+
+  -- if `R` is closed along the inputs `f` and holds for `a` at the start, then `p` holds at every
+  -- moment of the run from `a` at these inputs
+  pub holds-along : (f : ℕ → Levels) (p : TrackedMachine → Bool) (R : ℕ → TrackedMachine → Type 0) → IsClosedAlong f p R → (a : TrackedMachine) → R 0 a → (k : ℕ) → p (driven w f k a) ≡ true
+  holds-along f p R c a is k = closed_along-holds f p R c (suc k) k (omega arith) 0 f (λ i. (let e : i ≡ 0 + i = omega arith in ap f e)) a is
+
+  -- a run from one read to the next does not change the board
+  pub leads-board : (p : TrackedMachine → Bool) (a to : TrackedMachine) (l : Levels) → LeadsTo w p a to l → to.1.board ≡ a.1.board
+  leads-board p a to l leads = sym (ap (λ (m : TrackedMachine). m.1.board) leads.same) ∙ cycles-board (suc leads.more) (with_levels l a)
+
+  -- ---- an invariant that depends on the machine alone
+
+  -- a closed set is closed along all inputs within the limits
+  closed-along : (limits : InputLimits) (p : TrackedMachine → Bool) (R : TrackedMachine → Type 0) → IsClosedSet limits p R → (board : BoardParts) (f : ℕ → Levels) →
+      ((i : ℕ) → AreAllowed limits board (f i)) → IsClosedAlong f p (λ n a. R a × (a.1.board ≡ board))
+  closed-along limits p R c board f fit = record {
+    ignores = c.ignores;
+    sound = λ n a at. c.sound a at.0;
+    property_holds = λ n a at. c.property_holds a at.0;
+    leads = λ n a at.
+        let step = c.leads a (f n) at.0 (subst (λ (b : BoardParts). AreAllowed limits b (f n)) (sym at.1) (fit n)) in
+        (step.0, step.2, (step.1, leads-board p a step.0 (f n) step.2 ∙ at.1));
+  }
 
   -- if `R` is closed and contains `a`, then `p` holds at every moment of every run from `a` within
   -- the limits
   pub closed-holds : (limits : InputLimits) (p : TrackedMachine → Bool) (R : TrackedMachine → Type 0) → IsClosedSet limits p R → (a : TrackedMachine) → R a → Holds limits w p a
-  closed-holds limits p R c a is = λ f fit k. closed_set-holds limits p R c (suc k) k (omega arith) f a is fit
+  closed-holds limits p R c a is = λ f allowed k.
+      holds-along f p (λ n b. R b × (b.1.board ≡ a.1.board)) (closed-along limits p R c a.1.board f allowed.levels) a (is, refl) k

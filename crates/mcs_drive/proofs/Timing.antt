@@ -1,7 +1,7 @@
 -- The stopwatch of an observer during a run.
 use Rattle.std.proofs.Common.{◌≡◌, ◌<◌, ◌≤◌, ◌+◌, ◌⊎◌, ℕ, zero, suc, inl, inr, Bool, true, false, cond, ◌||◌, nat_lt, nat_le, refl, sym, ap, ◌∙◌, subst, arith, eqb}
 use Rattle.std.proofs.lemmas.Bool.{eqb-false, leb-true, lt-ltb, ne_eqb, or_parts}
-use Rattle.mcs_drive.specs.DrivenRuns.{AreAllowed, InputLimits, Levels}
+use Rattle.mcs_drive.specs.DrivenRuns.{AreInputsAllowed, InputLimits, Levels}
 use Rattle.mcs_drive.specs.TrackedMachine.{Observer, TrackedMachine, STOPWATCH_MAX, begins_at, ends_at, stopwatch_after, driven, Holds}
 
 -- ---- one cycle
@@ -63,7 +63,7 @@ module _ (w : Observer) where
       ]
 
   pub ends-within : (limits : InputLimits) (limit : ℕ) (s : TrackedMachine) → limit < STOPWATCH_MAX → Holds limits w (λ t. nat_le t.2.elapsed limit) s →
-      (f : ℕ → Levels) → ((k : ℕ) → AreAllowed limits s.1.board (f k)) → (k : ℕ) → begins_at w (driven w f k s) ≡ true →
+      (f : ℕ → Levels) → AreInputsAllowed limits s.1.board f → (k : ℕ) → begins_at w (driven w f k s) ≡ true →
       (d : ℕ) × (1 ≤ d) × (d ≤ limit) × (ends_at w (driven w f (k + d) s) ≡ true)
   ends-within limits limit s few holds f fit k begins =
       elim (runs-to limit s few f (holds f fit) k begins limit) [

@@ -2,7 +2,7 @@
 -- pin to any levels. The machine then executes one cycle, as the opcode table defines it. To
 -- believe that a property holds for all inputs, a reader must trust only this file, TrackedMachine,
 -- Marks, and the definitions that these three use. (Defined by Fethsaim, not by Intel.)
-use Rattle.std.specs.Prelude.{◌<◌, ◌≤◌, ℕ, zero, suc, List, replicate, slice_index, unwrap_or}
+use Rattle.std.specs.Prelude.{◌≢◌, ◌<◌, ◌≤◌, ◌+◌, ℕ, zero, suc, List, replicate, slice_index, unwrap_or}
 use Rattle.std.specs.List.{sum}
 use Rattle.mcs_model.specs.declared.board.BoardParts.{BoardParts}
 use Rattle.mcs_model.specs.Boards.{key_count}
@@ -22,27 +22,43 @@ pub record FitsBoard (b : BoardParts) (l : Levels) : Type 0 where
 
 -- Limits of the inputs. `keys` has the highest level, 0 or 1, of each key, row by row. `test` is
 -- the highest level of the TEST pin. `together` is the largest number of keys that are down at the
--- same time.
+-- same time. `wait` is the smallest number of cycles between two changes of the levels; 0 and 1
+-- limit nothing.
 pub record InputLimits : Type 0 where
   pub keys : List ℕ
   pub test : ℕ
   pub together : ℕ
+  pub wait : ℕ
 
 -- holds if `l` has a level for each key of the board and for TEST, and all levels are within the
--- limits
+-- limits; `wait` does not limit the levels at one moment
 pub record AreAllowed (limits : InputLimits) (b : BoardParts) (l : Levels) : Type 0 where
   pub fits : FitsBoard b l
   pub keys : (i : ℕ) → slice_index l.keys i ≤ slice_index limits.keys i
   pub test : l.test ≤ limits.test
   pub together : sum l.keys ≤ limits.together
 
--- the limits that allow all input levels of a board
-abbrev pub no_limits : BoardParts → InputLimits
-no_limits b = record { keys = replicate (key_count b) 1; test = 1; together = key_count b }
+-- holds if the levels change at moment `k`: the levels before cycle `k` are not those before the
+-- previous cycle; the levels before cycle 0 are no change
+abbrev pub Changes : (ℕ → Levels) → ℕ → Type 0
+Changes f zero = ⊥
+Changes f (suc k) = f (suc k) ≢ f k
 
--- `no_limits` allows all input levels
+-- Holds if the inputs `f` are within the limits: all levels before each cycle are within the
+-- limits, and two changes of the levels are at least `wait` cycles apart. `f i` has the levels
+-- before cycle `i`, counted from 0.
+pub record AreInputsAllowed (limits : InputLimits) (b : BoardParts) (f : ℕ → Levels) : Type 0 where
+  pub levels : (k : ℕ) → AreAllowed limits b (f k)
+  pub spaced : (i j : ℕ) → i < j → Changes f i → Changes f j → i + limits.wait ≤ j
+
+-- the limits that allow all inputs of a board
+abbrev pub no_limits : BoardParts → InputLimits
+no_limits b = record { keys = replicate (key_count b) 1; test = 1; together = key_count b; wait = 0 }
+
+-- `no_limits` allows all inputs that have a level for each key of the board and for TEST
 abbrev pub NoLimitsAllowAllLevels : Type 0
-NoLimitsAllowAllLevels = (b : BoardParts) (l : Levels) → FitsBoard b l → AreAllowed (no_limits b) b l
+NoLimitsAllowAllLevels =
+    (b : BoardParts) (f : ℕ → Levels) → ((k : ℕ) → FitsBoard b (f k)) → AreInputsAllowed (no_limits b) b f
 
 -- a machine with its keys and TEST set to the input levels `l`
 abbrev pub with_levels : Levels → Machine → Machine

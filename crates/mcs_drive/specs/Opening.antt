@@ -1,7 +1,7 @@
 -- Conditions that become true only after the keys were at given levels, in a given order.
 use Rattle.std.specs.Prelude.{◌≡◌, ◌<◌, ◌≤◌, ◌-◌, ◌⊎◌, ℕ, Bool, true, false, None, length, nat_lt, not, ◌&&◌}
 use Rattle.mcs_model.specs.Boards.{board_fault_of}
-use Rattle.mcs_drive.specs.DrivenRuns.{AreAllowed, InputLimits, Levels}
+use Rattle.mcs_drive.specs.DrivenRuns.{AreInputsAllowed, InputLimits, Levels}
 use Rattle.mcs_drive.specs.Marks.{PassesMarks}
 use Rattle.mcs_drive.specs.TrackedMachine.{Observer, TrackedMachine, Holds, driven, condition_holds_at}
 
@@ -25,5 +25,5 @@ abbrev pub MarksPrecedeCondition : Type 0
 MarksPrecedeCondition =
     (limits : InputLimits) (w : Observer) (s : TrackedMachine) → s.2.seen ≡ 0 → board_fault_of s.1.board ≡ None →
     Holds limits w (holds_only_after_marks w) s →
-    (f : ℕ → Levels) → ((k : ℕ) → AreAllowed limits s.1.board (f k)) →
+    (f : ℕ → Levels) → AreInputsAllowed limits s.1.board f →
     (a b : ℕ) → BecomesTrue (λ i. condition_holds_at w (driven w f i s)) a b → PassesMarks s.1.board f w.marks a b

@@ -11,7 +11,7 @@ use Rattle.mcs_model.specs.Effect.{cycle_of, instruction_at}
 use Rattle.mcs_model.specs.Levels.{port_of}
 use Rattle.mcs_model.specs.Running.{Machine}
 use Rattle.mcs_drive.specs.declared.marks.Mark.{Mark}
-use Rattle.mcs_drive.specs.DrivenRuns.{AreAllowed, InputLimits, Levels, driven as driven_machine}
+use Rattle.mcs_drive.specs.DrivenRuns.{AreInputsAllowed, InputLimits, Levels, driven as driven_machine}
 use Rattle.mcs_drive.specs.InputReads.{reads_input, value_read_by}
 use Rattle.mcs_drive.specs.Marks.{shows}
 
@@ -181,7 +181,7 @@ CountsKeepMachine =
 -- within the limits. In CTL, this is AG p.
 abbrev pub Holds : InputLimits → Observer → (TrackedMachine → Bool) → TrackedMachine → Type 0
 Holds limits w p s =
-    (f : ℕ → Levels) → ((k : ℕ) → AreAllowed limits s.1.board (f k)) → (k : ℕ) → p (driven w f k s) ≡ true
+    (f : ℕ → Levels) → AreInputsAllowed limits s.1.board f → (k : ℕ) → p (driven w f k s) ≡ true
 
 -- a stopwatch that never shows more than `limit` cycles, with `limit` below STOPWATCH_MAX, ends
 -- within `limit` cycles each time it begins
@@ -189,6 +189,6 @@ abbrev pub StopwatchEndsWithinLimit : Type 0
 StopwatchEndsWithinLimit =
     (limits : InputLimits) (w : Observer) (limit : ℕ) (s : TrackedMachine) → limit < STOPWATCH_MAX →
     Holds limits w (λ t. nat_le t.2.elapsed limit) s →
-    (f : ℕ → Levels) → ((k : ℕ) → AreAllowed limits s.1.board (f k)) →
+    (f : ℕ → Levels) → AreInputsAllowed limits s.1.board f →
     (k : ℕ) → begins_at w (driven w f k s) ≡ true →
     (d : ℕ) × (1 ≤ d) × (d ≤ limit) × (ends_at w (driven w f (k + d) s) ≡ true)

@@ -5,7 +5,7 @@ ghost use Rattle.mcs_drive.specs.RunsBetweenReads.{SameReadGivesSameRun};
 ghost use Rattle.mcs_drive.specs.Opening.{MarksPrecedeCondition};
 ghost use Rattle.mcs_drive.specs.TrackedMachine.{StopwatchEndsWithinLimit, CountsKeepMachine};
 
-/// Proves that `no_limits` allows all input levels of a board.
+/// Proves that `no_limits` allows all inputs of a board.
 pub fn no_limits_allow_all_levels()
     ensures { NoLimitsAllowAllLevels }
 {}

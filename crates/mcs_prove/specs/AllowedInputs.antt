@@ -51,4 +51,5 @@ limits_of a b = record {
   keys = highest_key_levels a b;
   test = highest_test_level a;
   together = most_keys_down a b;
+  wait = 0;
 }

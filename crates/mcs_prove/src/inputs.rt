@@ -131,6 +131,7 @@ impl AllowedInputs {
             self.highest_key_levels(alloc, board)?,
             self.highest_test_level(),
             self.most_keys_down(board),
+            0,
         ))
     }
 }

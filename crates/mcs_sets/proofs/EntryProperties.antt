@@ -20,6 +20,6 @@ bus-valid-at-every-moment entries s of stays f fit (suc k) =
 
 pub entries-suffice : EntriesSuffice
 entries-suffice p entries s each of stays = λ limits f allowed k.
-    let fit : (i : ℕ) → FitsBoard s.1.board (f i) = λ i. (allowed i).fits in
+    let fit : (i : ℕ) → FitsBoard s.1.board (f i) = λ i. (allowed.levels i).fits in
     let among = stays f fit k in
     each among.0 among.1 (driven no_observer f k s) (bus-valid-at-every-moment entries s of stays f fit k) among.2

@@ -38,7 +38,7 @@ fn check_with_limits(
 ) -> Outcome {
     let never_lists = begins_at(alloc, OPEN_ADDRESS).expect(rt, "memory");
     let property = Property::without_stopwatch(alloc, never_lists);
-    let limits = InputLimits::of(keys.to_vec(alloc).expect(rt, "memory"), test, together);
+    let limits = InputLimits::of(keys.to_vec(alloc).expect(rt, "memory"), test, together, 0);
     check_all(alloc, machine, property, limits, MAX_STATES, MEMORY, PAUSE).expect(rt, "memory")
 }
 
