@@ -361,15 +361,15 @@ def limited_question(seed: int, max_states: int) -> Question:
 
 def lines_in_random_order(question: Question, rng: random.Random) -> list[str]:
     """Returns the lines of a question, with the lines of its limits at random places outside the texts. One of these lines is repeated. If there is a
-    `together` line, another one with another number precedes it, because only the last one counts."""
+    `together` or `wait` line, another one with another number precedes it, because only the last one counts."""
     limits = question.limits.lines()
-    together = [line for line in limits if line.startswith("together")]
-    others = [line for line in limits if line not in together]
+    numbered = [line for line in limits if line.startswith(("together", "wait"))]
+    others = [line for line in limits if line not in numbered]
     parts = without_limits(question).parts()
     for line in [*others, *rng.sample(others, min(len(others), 1))]:
         parts.insert(rng.randrange(len(parts)), [line])
-    for line in together:
+    for line in numbered:
         place = rng.randrange(len(parts))
         parts.insert(place, [line])
-        parts.insert(rng.randrange(place + 1), [f"together {rng.randrange(256)}"])
+        parts.insert(rng.randrange(place + 1), [f"{line.split()[0]} {rng.randrange(2, 256)}"])
     return [line for part in parts for line in part]
