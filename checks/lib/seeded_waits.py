@@ -141,3 +141,18 @@ def spaced_question(seed: int) -> Question:
     if seed % 8 == 3:
         question.max_states = rng.randrange(4, 30)
     return question
+
+
+def long_wait_question() -> tuple[Question, int]:
+    """Returns a question about a program that reads TEST three times, thousands of cycles apart, and stores a number after it reads 1, 0 and 1. Also
+    returns the number of cycles from the first read to the last one. The program can store the number only if `wait` is less than this."""
+    board = ["[[rom]]", "chip = 0", 'port = "0000"']
+
+    def delay(name: str, passes: int) -> list[str]:
+        return [f" LDM {16 - passes}", " XCH R3", *(f"{name}{n}: ISZ R{n}, {name}0" for n in range(4))]
+
+    program = ["loop: JCN 1, other", *delay("a", 2), " JCN 9, other", *delay("b", 2), " JCN 1, other", " LDM 1", " XCH R4", "other: LDM 0",
+               *delay("c", 5), " JUN loop"]
+    # An instruction with two words takes two cycles.
+    cycles_of_delay = 1 + 1 + 2 * (16 * (16 * (16 * 2 + 2) + 2) + 2)
+    return Question(board, program, [[("in", "register", 4, "whole", 1, 1)]], MAX_STATES), 2 * (2 + cycles_of_delay)
