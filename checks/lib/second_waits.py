@@ -167,8 +167,8 @@ def run_step(board: Board, levels: Levels, is_bad: Condition, pause: int) -> tup
 
 @dataclass
 class StepsResult:
-    """The result of a search by steps. The verdict is `holds`, `may fail`, `too many` or `gave up`. `states` is the number of states found. `path` has
-    the levels at the beginning of each step on the way to the failure."""
+    """The result of a search by steps: its verdict (`holds`, `may fail`, `too many` or `gave up`), and the number of states found. `path` has the
+    levels at the beginning of each step on the way to the failure."""
 
     verdict: str
     states: int

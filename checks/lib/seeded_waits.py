@@ -75,7 +75,7 @@ def pattern_question(rng: random.Random, wiring: KeyWiring) -> Question:
         question.opens = [[("in", "register", register, "whole", number, number)]]
     else:
         question.nevers = [[("in", "register", register, "whole", number, number)]]
-    question.pause = rng.choice([20, 50, 100, 300])
+    question.pause = rng.choice([7, 20, 50, 100, 300])
     return question
 
 
@@ -131,7 +131,7 @@ def largest_failing_wait(question: Question) -> int:
 def spaced_question(seed: int) -> Question:
     """Returns a random question with `wait`. Seven of eight are the first one, among a few attempts, for which `wait` matters. Then `wait` is usually
     the largest one with which the property can fail, or one more. The search for one in eight may visit only a few states."""
-    rng = random.Random(f"wait {seed}")
+    rng = random.Random(f"waits {seed}")
     for _attempt in range(1 if seed % 8 == 7 else MAX_ATTEMPTS):
         question = random_spaced_question(rng)
         longest = largest_failing_wait(question)
