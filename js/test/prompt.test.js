@@ -85,8 +85,12 @@ test("steps forward and back", async () => {
   const state = () => session.debugger.session.ask("state\n")[0].replace(/^state seq \d+/, "");
   const stateBefore = state();
   assert.deepEqual(await ask("step 3"), ["3 instructions were done, after 4 cycles, 0.043 ms.", ">    7  004          XCH R4"]);
-  await ask("reverse-step 3");
+  assert.match((await ask("reverse-step 3"))[0], /^Back at 000 \(.*\), 4 cycles, 0\.043 ms earlier: this instruction has not run yet\.$/);
   assert.equal(state(), stateBefore);
+  await ask("step 2");
+  assert.match((await ask("reverse-step 3"))[0], /^Back at 000 .* earlier, after 2 of 3 instructions: the remembered past begins here\.$/);
+  assert.equal(state(), stateBefore);
+  assert.deepEqual(await ask("reverse-step 3"), ["refused: Nothing was done: the remembered past reaches no further back."]);
   await ask("until wait");
   assert.equal(session.address, 0x014);
   assert.match((await ask("backtrace"))[1], /^#1 {2}007 {2}next \+ 2, line \d+, the call$/);

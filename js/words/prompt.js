@@ -1,5 +1,7 @@
 // Texts of the `mcs4 debug` prompt.
 
+import { formatCycles } from "../core/time/cycles.js";
+
 // --- prompt/breakpoint_commands.js ---
 export const BREAKPOINT_NUMBER_MISSING = "which one? info breakpoints shows their numbers";
 /** @type {(id: number, address: string) => string} */
@@ -131,6 +133,9 @@ export const notPressedMessage = (message, keys) => `${message} Not pressed: ${k
 export const backInSubroutine = (location) => `Back in the subroutine, at ${location}: the remembered past begins in it.`;
 /** @type {(location: string) => string} */
 export const backAt = (location) => `Back at ${location}: this instruction has not run yet.`;
+/** @type {(location: string, cycles: number, done: number, count: number) => string} */
+export const fewerStepsBackMessage = (location, cycles, done, count) => (
+  `Back at ${location}, ${formatCycles(cycles)} earlier, after ${done} of ${count} instructions: the remembered past begins here.`);
 
 // --- prompt/debugger_prompt.js ---
 /** The start of the message for a command that had no effect. */

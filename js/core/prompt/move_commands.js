@@ -3,7 +3,7 @@
 
 import { parseGoal } from "../debug/condition_search.js";
 import { countOpenCalls } from "./state_text.js";
-import { runKeyPress, stepBackOver } from "./prompt_moves.js";
+import { runKeyPress, stepBackBy, stepBackOver } from "./prompt_moves.js";
 import { parseCountArgument, parseCycles, findInstruction, parseConditionText, rejectCommand } from "./argument_parsers.js";
 import * as say from "../../words/prompt.js";
 import { NO_CALL_WAITS, stoppedAt } from "../../words/stops.js";
@@ -12,7 +12,6 @@ import { NO_CALL_WAITS, stoppedAt } from "../../words/stops.js";
  * @typedef {import("./debugger_prompt.js").CommandHandler} CommandHandler
  * @typedef {import("./debugger_prompt.js").Prompt} Prompt
  * @typedef {import("../debug/goals.js").Goal} Goal
- * @typedef {import("../engine/past_search.js").BackGoal} BackGoal
  */
 
 /** The maximum count of `step` and `next`. */
@@ -30,8 +29,6 @@ export class MoveCommands {
    */
   get handlers() {
     const { machine } = this.prompt;
-    /** @type {(goal: BackGoal) => CommandHandler} */
-    const createBackCommand = (goal) => (argumentText) => this.repeatMove(argumentText, () => machine.goBack(goal));
     return {
       "next": (argumentText) => this.repeatMove(argumentText, () => machine.runToGoal({ kind: "over" })),
       "step": (argumentText) => {
@@ -52,7 +49,7 @@ export class MoveCommands {
         const runCycles = () => this.prompt.session.runCycles(cycles, (_, tally) => machine.finishPiece(tally));
         return this.moveAndShow(() => machine.beginMove(runCycles, () => true));
       },
-      "reverse-step": createBackCommand({ kind: "instruction" }),
+      "reverse-step": (argumentText) => this.stepBack(parseCountArgument(argumentText, MAX_STEPS)),
       "reverse-next": (argumentText) => this.repeatMove(argumentText, () => machine.beginMove(async () => (
         machine.toRunResult(await stepBackOver(this.prompt.session, () => machine.finishPiece()), "goal")), () => false)),
       "reverse-continue": (argumentText) => {
@@ -91,6 +88,16 @@ export class MoveCommands {
       if (prompt.lastStop.reason !== "step" || prompt.machine.mustPause) break;
     }
     prompt.showStop(stopText);
+  }
+
+  /**
+   * Steps back over several instructions.
+   * @param {number} count
+   */
+  stepBack(count) {
+    const { session, machine } = this.prompt;
+    const act = async () => machine.toRunResult(await stepBackBy(session, count, () => machine.finishPiece()), "goal");
+    return this.moveAndShow(() => machine.beginMove(act, () => false));
   }
 
   /**

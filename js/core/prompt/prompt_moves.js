@@ -1,13 +1,37 @@
-// Moves that only the prompt offers: a step back over a subroutine call, and a run during which a key is pressed and released.
+// Moves that only the prompt offers: several steps back, a step back over a subroutine call, and a run during which a key is pressed and
+// released.
 
 import { isCall, isReturn } from "../engine/rom_codes.js";
 import { KEY_DOWN_CYCLES, TOOL_KEY_UP_CYCLES } from "../time/mcs4_time.js";
 import * as say from "../../words/prompt.js";
+import { describeTimeTravel } from "../../words/stops.js";
 
 /**
  * @typedef {import("../debug/debug_session.js").DebugSession} DebugSession
  * @typedef {import("../debug/debugger.js").ShouldContinue} ShouldContinue
  */
+
+/**
+ * Steps back over several instructions, or over fewer if the stored past begins earlier. In the result, `message` has the cycles of all
+ * these steps.
+ * @param {DebugSession} session
+ * @param {number} count at least 1
+ * @param {ShouldContinue} shouldContinue
+ */
+export async function stepBackBy(session, count, shouldContinue) {
+  /** @type {import("../engine/past_search.js").BackGoal} */
+  const goal = { kind: "instruction" };
+  let result = await session.goBack(goal, shouldContinue);
+  if (!result.isDone) return result;
+  let { cycles } = result;
+  for (let done = 1; done < count; done++) {
+    const next = await shouldContinue(0) && await session.goBack(goal, shouldContinue);
+    if (!next || !next.isDone) return { ...result, message: say.fewerStepsBackMessage(session.counterText, cycles, done, count) };
+    result = next;
+    cycles += next.cycles;
+  }
+  return { ...result, message: describeTimeTravel(goal, { ...result, cycles }, session.counterText) };
+}
 
 /**
  * Returns the first byte of the next instruction.
