@@ -164,7 +164,7 @@ class PropertiesReader {
   }
 
   /**
-   * Returns the number of cycles of a time, such as `5 ms`; throws `ConditionError` for any other text.
+   * Converts a time such as `5 ms` to cycles; throws `ConditionError` for any other text.
    * @param {string} text
    * @param {string} syntax the error message if the text is not a time
    */
@@ -175,7 +175,7 @@ class PropertiesReader {
 }
 
 /**
- * Parses two times, with or without `to` between them. Returns their cycles. Throws `ConditionError` for other words.
+ * Parses two times, with or without `to` between them. Returns both in cycles. Throws `ConditionError` for any other words.
  * @param {string[]} words
  * @param {string} syntax the error message if the words are not two times
  */
@@ -213,7 +213,7 @@ const SETTING_PARSERS = {
   },
   wait: (reader, words) => {
     [reader.minWait, reader.maxWait] = parseTwoTimes(words, say.WAIT_SYNTAX);
-    // A wait must fit into one run.
+    // A wait cannot be longer than one `run` of the bench.
     if (reader.maxWait > MAX_RUN_CYCLES || reader.minWait > reader.maxWait) fail(say.WAIT_SYNTAX);
   },
   held: (reader, words) => {
@@ -462,8 +462,8 @@ function addDefaults(reader) {
 
 
 /**
- * Parses a properties text. Returns the campaign, which includes the standard properties, and the errors. The campaign lacks the lines with
- * errors.
+ * Parses a properties text. Returns the campaign, which includes the standard properties, and the errors. The campaign does not include the
+ * lines with errors.
  * @param {string} text
  * @param {Subject} subject
  * @param {boolean} [needsInputs] true if missing inputs are an error

@@ -20,13 +20,13 @@ import { createRandom } from "./walks.js";
  * @typedef {(test: string, isGoal: boolean) => boolean | Promise<boolean>} ConfirmTest
  *
  * A confirmed counterexample: the index of its property, its test (in `counterexample`), and its steps (in `violation`). `violation` is
- * null if the property is a model.
+ * null for a `model` property.
  * @typedef {{ property: number, counterexample: Counterexample, violation: Violation | null }} ConfirmedViolation
  */
 
 /** The initial proof gets at most 1 / PROOF_TIME_DIVISOR of the search time. */
 const PROOF_TIME_DIVISOR = 10;
-/** The number of counterexamples with failed confirmation after which the search no longer checks a property. */
+/** The search stops checking a property after this number of counterexamples whose confirmation failed. */
 const MAX_UNCONFIRMED = 3;
 /**
  * The maximum number of cycles to run while a counterexample is minimised: `perSecond` cycles for each second of search time, but at least
@@ -180,8 +180,8 @@ export class CampaignRun {
   }
 
   /**
-   * Stores the test of a counterexample whose confirmation failed. After MAX_UNCONFIRMED such tests, ends the search for this property.
-   * Returns null.
+   * Stores the test of a counterexample whose confirmation failed. After MAX_UNCONFIRMED such tests, the search no longer checks this
+   * property. Returns null.
    * @param {number} property
    * @param {string} test
    */

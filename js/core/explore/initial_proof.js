@@ -1,6 +1,6 @@
-// Asks the prover about the properties before the search starts, because a proved property needs no search. First asks about all inputs
-// and, if the answer is negative, about the inputs of the search only. The prover gets a part of the search time. Each round asks about all
-// properties that are not proved yet, with twice the previous bound on the number of states.
+// Asks the prover about the properties before the search starts, because a proved property needs no search. First asks for a proof for all
+// inputs. If there is none, asks for a proof for only the inputs that the properties text allows. The prover gets a part of the search
+// time. Each round asks about all properties that are not proved yet, with twice the previous bound on the number of states.
 
 import { findInputLimits } from "../prove/input_limits.js";
 import { listMistakes } from "../prove/mistakes.js";

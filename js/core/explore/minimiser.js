@@ -11,7 +11,7 @@ import { updateDownInputs, initialDownInputs, areStepsAllowed, findLongestWaitAf
  * @typedef {import("./walks.js").WalkStep} WalkStep
  */
 
-/** The number of cycles that a step counts against the limit, in addition to its wait. */
+/** Each step counts as this number of cycles towards the cycle limit, in addition to its wait. */
 const STEP_COST = 500;
 /** The number of lengths that `removeStart` tries for the first wait. Each is one cycle longer than the previous one. */
 const MAX_EXTRA_CYCLES = 256;
@@ -54,8 +54,8 @@ export class Minimiser {
   }
 
   /**
-   * Replaces the current steps if the new steps also violate the property. Returns whether the steps were replaced. Does not try steps that
-   * the campaign forbids, and tries no steps after the cycle limit.
+   * Replaces the current steps if the new steps also violate the property. Returns whether the steps were replaced. Tries no steps that the
+   * campaign forbids, and none after the cycle limit is reached.
    * @param {WalkStep[]} steps
    */
   async tryWalk(steps) {
@@ -85,7 +85,8 @@ export class Minimiser {
   }
 
   /**
-   * Tries to remove some steps: first with their waits, then without. Returns whether the property is still violated in one of these tries.
+   * Tries to remove some steps: first together with their waits, then without their waits. Returns whether the property is still violated
+   * in one of these tries.
    * @param {(index: number) => boolean} isRemoved
    */
   async tryWithout(isRemoved) {
@@ -108,7 +109,7 @@ export class Minimiser {
     for (const [at, step] of this.steps.entries()) {
       cyclesSinceStep += step.wait;
       if (isRemoved(at)) continue;
-      // While no input is down, a wait can exceed the maximum of the campaign, but must fit into one run.
+      // While no input is down, a wait can exceed the maximum of the campaign, but not the maximum length of a `run`.
       if (cyclesSinceStep > (downInputs.length > 0 ? campaign.maxWait : MAX_RUN_CYCLES)) return null;
       remainingSteps.push({ ...step, wait: cyclesSinceStep });
       downInputs = updateDownInputs(downInputs, step);
@@ -141,7 +142,7 @@ export class Minimiser {
       return isIdle ? [at] : [];
     });
     for (const at of idleSteps.reverse()) {
-      // A wait must fit into one run.
+      // A wait cannot be longer than one `run` of the bench.
       for (let { wait } = steps[at]; wait < Math.min(steps[at].wait + MAX_EXTRA_CYCLES, MAX_RUN_CYCLES + 1); wait++) {
         if (await this.tryWalk([{ ...steps[at], wait }, ...steps.slice(at + 1)])) return true;
       }

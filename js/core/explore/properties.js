@@ -157,7 +157,7 @@ export function onlyAfterProperty(text, condition, keys) {
       else if (isReportedTrue(event, moment)) {
         if (!memory[1] && memory[0] < keys.length) return moment.time;
         memory[1] = memory[2] = 1;
-        // The program counter leaves a label at once.
+        // The program counter is at the label only for a moment, so the condition is already false again.
         if (event === "label") memory.fill(0, 0, 2);
       } else if (event === "values" && memory[1]) memory.fill(0, 0, 2);
       return UNSET;
@@ -334,7 +334,7 @@ function findLastOpenCycle({ kind, limit }, since) {
  */
 function notifyGuarded({ form, update, keys }, memory, event, moment, isOpen) {
   if (form === "never for") return update(memory, event, { ...moment, holds: moment.holds && isOpen });
-  // The guards must be open when the key is pressed, but not when the condition becomes true.
+  // The guards must be open when the key is pressed. They need not be open when the condition becomes true.
   if (form === "after press") return event === "down" && moment.input === keys[0] && !isOpen ? UNSET : update(memory, event, moment);
   return isOpen || event === "reset" ? update(memory, event, moment) : UNSET;
 }

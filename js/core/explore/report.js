@@ -54,7 +54,7 @@ function pickShorter(first, second) {
 }
 
 /**
- * Returns the proof in one of several results: if possible, a proof for all inputs.
+ * Returns a proof from several results. Prefers a proof for all inputs.
  * @param {PropertyResult[]} results
  * @returns {Pick<PropertyResult, "states" | "limits">}
  */

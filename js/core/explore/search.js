@@ -41,14 +41,14 @@ const MAX_WALK_STEPS = 16;
 const MAX_DEPTH = 120;
 const MAX_STATES = 20000;
 const MAX_SNAPSHOTS = 200000;
-/** One of WATCH_INTERVAL walks is watched even if the walk reaches no new state. */
+/** One in WATCH_INTERVAL walks is watched even if the walk reaches no new state. */
 const WATCH_INTERVAL = 32;
 /**
  * The number of candidate states that are picked at random for each walk. The walk starts at the candidate at which the fewest walks have
  * started.
  */
 const CANDIDATE_COUNT = 3;
-/** The mean distance of a recent state from the last stored state, in stored states. Half of all walks start at a recent state. */
+/** Half of all walks start at a recent state. This is the mean number of states that were stored after the recent state. */
 const MEAN_STATES_BACK = 6;
 
 export class Search {
@@ -73,7 +73,7 @@ export class Search {
     this.appliedProperties = new Set();
     this.steps = 0;
     this.walks = 0;
-    /** @type {Map<string, Snapshot>} the snapshots that were computed before, by row of values */
+    /** @type {Map<string, Snapshot>} the cached snapshots, by row of values */
     this.snapshots = new Map();
     /** @type {Set<string>} the keys of all states so far; see `recordIfNew` */
     this.seenKeys = new Set();

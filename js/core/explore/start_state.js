@@ -82,7 +82,7 @@ function formatLines(tests) {
 
 /**
  * Returns the minimum and the maximum number of calls that have not returned after some tests. If one of the tests resets the machine, the
- * number is unknown.
+ * number is unknown, so the result is the full range.
  * @param {Test[]} tests
  * @param {OpenCallRecorder} recorder
  */

@@ -24,7 +24,7 @@ import * as say from "../../words/help.js";
  */
 
 /**
- * The session at the start of the tour, as an example.
+ * The example that the page opens at the start of the tour. It has a board but no program.
  * @type {import("../engine/examples.js").Example}
  */
 export const TOUR_EXAMPLE = {

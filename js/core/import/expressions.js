@@ -14,7 +14,7 @@ import * as say from "../../words/import.js";
 
 /** The maximum nesting depth of an expression. */
 const MAX_DEPTH = 50;
-/** The number of values of a byte. */
+/** The number of possible values of a byte. */
 const BYTE_VALUES = 256;
 /** The value of the highest bit that the operator & evaluates. */
 const HIGHEST_BIT = 4096;

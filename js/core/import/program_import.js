@@ -25,7 +25,7 @@ import * as say from "../../words/import.js";
 
 /** The maximum number of passes that compute the values of names. */
 const MAX_PASSES = 20;
-/** The number of values of a nibble, and of a byte. */
+/** The number of possible values of a nibble, and of a byte. */
 const NIBBLE_VALUES = 16;
 const BYTE_VALUES = 256;
 /** The columns at which statements and comments start in the output, counted from 0. */
@@ -223,7 +223,7 @@ class ProgramImport {
   }
 
   /**
-   * Converts a statement; "" for a directive that becomes a comment. Throws LineError if the statement cannot be converted.
+   * Converts a statement. Returns "" for a directive that becomes a comment. Throws LineError if the statement cannot be converted.
    * @param {string} word the mnemonic or directive
    * @param {string} operand the text of all operands
    */

@@ -66,7 +66,7 @@ export class SourceMap {
     if (name.isLabel) this.labels.set(name.value, [...this.labelsAt(name.value), name.name]);
   }
 
-  /** Returns the value of `labelledAddresses`. */
+  /** Computes `labelledAddresses`. */
   findLabelledAddresses() {
     const addresses = new Int16Array(ADDRESS_COUNT);
     let labelledAddress = -1;

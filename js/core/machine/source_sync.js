@@ -133,8 +133,8 @@ export class SourceSync {
 
   /** Waits until the current source has been checked. */
   async waitForCheck() {
-    // All callers wait for the same check. A newer check discards the results of older checks, so if each caller started its own check,
-    // it could happen that no result is ever accepted.
+    // All callers wait for the same check. A newer check discards the results of older checks, so if each caller started its own check, a
+    // result might never be accepted.
     while (this.callbacks.text() !== this.text || !this.lastResult) {
       this.pendingCheck = this.pendingCheck || this.check().finally(() => {
         this.pendingCheck = null;

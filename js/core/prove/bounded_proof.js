@@ -26,8 +26,8 @@ import * as say from "../../words/prove.js";
  * @typedef {{ text: string, line: number, isGoal: boolean, verdict: Verdict }} PropertyVerdict
  *
  * @typedef {object} ProvingCalls
- * @property {(states: number) => Promise<void>} reportStates reports the number of states that the prover has searched so far for the
- *   current question without a result
+ * @property {(states: number) => Promise<void>} reportStates reports the number of states that the prover has searched so far without
+ *   deciding the current question
  * @property {() => Promise<void>} yieldToMessages yields to other tasks
  */
 
@@ -44,7 +44,7 @@ class ProverQueries {
     this.texts = { board: texts.boardText, program: texts.programText };
     this.maxStates = maxStates;
     this.calls = calls;
-    /** The number of states that the prover has searched so far for the current question without a result. */
+    /** The number of states that the prover has searched so far without deciding the current question. */
     this.searchedStates = 0;
   }
 

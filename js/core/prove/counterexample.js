@@ -27,8 +27,8 @@ import { listInputs, replayValues } from "./input_replay.js";
 /** The maximum number of cycles that the bench may run to minimise a counterexample. */
 const MINIMISING_CYCLES = 10e6;
 /**
- * The maximum length, in cycles, of a counterexample to a property with labels that is minimised. Minimising a longer counterexample would
- * be slow.
+ * A counterexample to a property with labels is minimised only if it takes at most this number of cycles. Minimising a longer
+ * counterexample would be slow.
  */
 const MAX_MINIMISED_CYCLES = 1e6;
 /** The property forms that depend on all events since power-on. To find a violation, a walk must be watched from its start. */
@@ -87,7 +87,7 @@ function splitCycles(cycles) {
 }
 
 /**
- * Returns the steps that end before `time`, when their inputs change.
+ * Returns the steps whose input changes happen before `time`.
  * @param {WalkStep[]} steps
  * @param {number} time the time, in cycles from the start of the walk
  */

@@ -124,7 +124,7 @@ class ValueReplay {
     const port = `rom${parseInt(srcBytes[0][0], 16)}`;
     const drivenRows = indices(rows).filter((row) => chains[matrix.chain][matrix.first + row] === "1");
     const wantedLines = new Set(indices(4).filter((line) => Math.floor(value / 2 ** line) % 2 === 1));
-    /** @type {number[]} the keys that the read detects */
+    /** @type {number[]} the keys that the next read can detect */
     const visibleKeys = [];
     /** @type {number[]} */
     const wantedKeys = [];
@@ -141,7 +141,7 @@ class ValueReplay {
   }
 
   /**
-   * Releases keys that the read does not detect, as long as too many keys would be down after some keys are pressed.
+   * Releases other keys if too many keys would be down after the wanted keys are pressed.
    * @param {number[]} wantedKeys the keys to press
    */
   releaseSurplusKeys(wantedKeys) {

@@ -192,7 +192,7 @@ export class PropertyJudge {
     const isDecided = verdict.kind === "proved" || (verdict.kind === "found" && verdict.counterexample.isAllowed);
     if (isDecided || !this.inputLimits) return verdict;
     const limitedVerdict = await search({ ...question, inputLimits: this.inputLimits });
-    // A goal that only excluded inputs reach is still reached if the second search decides nothing.
+    // If the second search decides nothing, the verdict is the first counterexample, although the text does not allow its inputs.
     return limitedVerdict.kind === "open" && verdict.kind === "found" ? verdict : limitedVerdict;
   }
 

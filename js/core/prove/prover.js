@@ -9,7 +9,7 @@ import { TaskWorker } from "../bench/task_worker.js";
  * @typedef {import("./bounded_proof.js").PropertyVerdict} PropertyVerdict
  *
  * The progress of a proof. `verdicts` are the verdicts so far. `count` is the number of properties and common mistakes to check. `states`
- * is the number of states that the prover has searched for the current question without a result.
+ * is the number of states that the prover has searched so far without deciding the current question.
  * @typedef {{ verdicts: PropertyVerdict[], count: number, states: number }} Progress
  */
 

@@ -31,7 +31,7 @@ const BOARD_FILES = /\.toml$/i;
 const TEST_FILES = /\.test$/i;
 const PROPERTY_FILES = /\.props$/i;
 const PROGRAM_FILES = /\.(asm|s|src|a4|4004)$/i;
-/** Matches the names of text files whose kind only the text shows: names without an extension, `.txt` and `.text`. */
+/** Matches the names of text files whose kind is not clear from the name: names without an extension, `.txt` and `.text`. */
 const TEXT_FILES = /(^[^.]*|\.(txt|text))$/i;
 
 /**

@@ -8,7 +8,7 @@ const ANCHORS = { left: "start", center: "middle", right: "end" };
 /** @type {(number: number) => string} returns a number with at most two decimals */
 const formatNumber = (number) => String(Math.round(number * 100) / 100);
 
-/** @type {(text: string) => string} escapes the characters that have a meaning in XML */
+/** @type {(text: string) => string} escapes the characters that are special in XML */
 const escapeText = (text) => text.replace(/[&<>"]/g, (letter) => `&#${letter.charCodeAt(0)};`);
 
 /**
