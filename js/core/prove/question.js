@@ -50,9 +50,9 @@ import * as say from "../../words/prove.js";
  * @typedef {{ kind: "more" } | { kind: "lost" } | { kind: "full", states: number }} NoAnswer
  * @typedef {{ kind: "holds", states: number } | { kind: "fails", reads: Reads } | NoAnswer} Answer
  *
- * The inputs in a counterexample, one for each step of the search. `values` are the values that the first cycles of the steps read. If
- * there must be a minimum time between two changes, `levels` are the levels of all inputs in these cycles instead: for each step, the bits
- * of all keys, row by row, and then the bit of TEST.
+ * The inputs in a counterexample, one for each step of the search. `values` are the values that the first cycles of the steps read. If the
+ * question has a minimum time between two changes, `levels` are the levels of all inputs in these cycles instead. They are lists of bits:
+ * of all keys, row by row, and then of TEST.
  * @typedef {{ values: number[], levels?: undefined } | { levels: number[][], values?: undefined }} Reads
  *
  * The limits of a question:
