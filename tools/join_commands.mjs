@@ -20,7 +20,7 @@ const ESBUILD = ["--bundle", "--platform=node", "--format=cjs", "--target=node18
   // Dynamic imports become calls of `require`, which are faster than Node's ES module loader.
   "--supported:dynamic-import=false",
   // CommonJS has no import.meta, so this variable replaces it.
-  "--define:import.meta.url=ownUrl", '--banner:js=const ownUrl=require("node:url").pathToFileURL(__filename).href;'];
+  "--define:import.meta.url=scriptUrl", '--banner:js=const scriptUrl=require("node:url").pathToFileURL(__filename).href;'];
 const META = join(folder, "meta.json");
 
 /** Returns the source of a command's entry module. The command's own modules are loaded only after its arguments have been parsed. */

@@ -23,7 +23,7 @@ PLACES: list[tuple[str, Callable[..., str]]] = [
     (r"pc", lambda board: f"{board.pc:03X}"),
     (r"dcl", lambda board: f"{board.dcl}"),
     (r"ret", lambda board: ",".join(f"{address:03X}" for address in board.ret)),
-    (r"lamps", lambda board: board.chips.marks() or "-"),
+    (r"lamps", lambda board: board.chips.lamp_marks() or "-"),
     (r"src", lambda board: f"{board.chips.rom_src:02X}"),
     (r"rom(\w+)", lambda board, chip: f"{board.chips.levels('rom', chip):X}"),
     (r"ram(\w+)\.(\w+)", lambda board, bank, chip: f"{board.chips.levels('ram', bank, chip):X}"),
@@ -111,9 +111,9 @@ def instruction_text(board: Board, address: int) -> str:
     if byte not in CODES:
         return f"{address:03X} {byte:02X}    DB 0x{byte:02X}"
     name, low = CODES[byte]
-    on_page = f"0x{(address + 2) % ADDRESS_COUNT & 0xF00 | second_byte:03X}"
-    far = f" 0x{256 * low + second_byte:03X}"
-    operands = {"JCN": f" {low}, {on_page}", "FIM": f" P{low}, 0x{second_byte:02X}", "ISZ": f" R{low}, {on_page}", "JUN": far, "JMS": far,
+    page_target = f"0x{(address + 2) % ADDRESS_COUNT & 0xF00 | second_byte:03X}"
+    far_target = f" 0x{256 * low + second_byte:03X}"
+    operands = {"JCN": f" {low}, {page_target}", "FIM": f" P{low}, 0x{second_byte:02X}", "ISZ": f" R{low}, {page_target}", "JUN": far_target, "JMS": far_target,
                 "LDM": f" {low}", "BBL": f" {low}", **{name: f" P{low}" for name in CODES_ON_PAIR},
                 **{name: f" R{low}" for name in CODES_ON_REGISTER}}
     return f"{address:03X} {byte:02X} {f'{second_byte:02X}' if name in TWO_WORDS else '  '} {name}{operands.get(name, '')}"
@@ -144,7 +144,7 @@ def state_answer(board: Board, seq: int) -> str:
         "rams": [f"{bank}.{chip}.{latch:X}" for (bank, chip), latch in chips.ram_latch.items()],
         "chains": ["".join(str(bit) for bit in chain) for chain in chips.chains],
         "keys": [f"{row}.{column}" for row, column in sorted(chips.pressed_keys)],
-        "lamps": [chips.marks()] if chips.lamps else [],
+        "lamps": [chips.lamp_marks()] if chips.lamps else [],
         "breaks": [f"{address:03X}" for address in sorted(board.breaks)],
         "watches": [f"{bank}.{src:02X}" for bank, src in sorted(board.watches)],
     }
@@ -183,7 +183,7 @@ class Bench:
 
 QUERIES: dict[str, Callable[..., list[str]]] = {
     "seq": lambda bench: [f"seq {bench.seq}"],
-    "lamps": lambda bench: [f"lamps {bench.board.chips.marks() or '-'}"],
+    "lamps": lambda bench: [f"lamps {bench.board.chips.lamp_marks() or '-'}"],
     "regs": lambda bench: [registers_answer(bench.board, " ")],
     "breaks": lambda bench: ["breaks " + (" ".join(f"{address:03X}" for address in sorted(bench.board.breaks)) or "-")],
     "list": lambda bench, address, limit: list_answer(bench.board, parse_number(address), parse_number(limit)),
@@ -220,9 +220,9 @@ def set_key(board: Board, row: str, column: str, is_down: bool) -> str:
     return ""
 
 
-def set_membership(items: set, item: object, is_there: bool) -> str:
+def set_membership(items: set, item: object, is_member: bool) -> str:
     """Adds or removes an item of a set (a breakpoint or a watch)."""
-    (items.add if is_there else items.discard)(item)
+    (items.add if is_member else items.discard)(item)
     return ""
 
 

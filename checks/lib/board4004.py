@@ -99,7 +99,7 @@ class Chips:
         """Returns the level of an input line: 1 if a pressed key connects the line to a driven row."""
         return int(any(self.columns[column] == line and self.chains[self.keys["chain"]][self.keys["first"] + row] for row, column in self.pressed_keys))
 
-    def marks(self) -> str:
+    def lamp_marks(self) -> str:
         """Returns the lamps in the format of `lamps`: `*` for on, `.` for off."""
         return "".join("*" if self.level(lamp) else "." for lamp in self.lamps)
 

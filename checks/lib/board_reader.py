@@ -47,7 +47,7 @@ KEYS = {
 }
 
 
-def longest_toml(lines, count):
+def longest_valid_prefix(lines, count):
     """Returns the number of lines in the longest prefix (up to `count` lines) that is valid TOML, and the prefix's contents."""
     while True:
         try:
@@ -110,8 +110,8 @@ class BoardReading:
             if not isinstance(table, dict):
                 yield 23, section, index, None
                 continue
-            for key, fits in KEYS[section].items():
-                if not fits(table[key]):
+            for key, is_valid in KEYS[section].items():
+                if not is_valid(table[key]):
                     yield 23, section, index, key
 
     def excess_errors(self):
@@ -183,7 +183,7 @@ def line_of(lines, part):
     too_short, long_enough = 0, len(lines)
     while long_enough - too_short > 1:
         middle = (too_short + long_enough) // 2
-        count, document = longest_toml(lines[:middle], middle)
+        count, document = longest_valid_prefix(lines[:middle], middle)
         if has_part(document, section, index, key):
             long_enough = count
         else:
@@ -193,7 +193,7 @@ def line_of(lines, part):
 
 def wiring_answer(lines):
     """Returns the answer to `wiring` for a board's text."""
-    count, document = longest_toml(lines, len(lines))
+    count, document = longest_valid_prefix(lines, len(lines))
     if count < len(lines):
         return f"no 20 line {count + 1}"
     error = BoardReading(document).first_error()

@@ -14,25 +14,25 @@ const { BoardView } = createRequire(import.meta.url)(`${folder}/board_view.js`);
 const say = (message) => process.stdout.write(`${JSON.stringify(message)}\n`);
 const listeners = {};
 /** Returns a function that stores a listener under a name in `listeners`. */
-const listening = (name) => (act) => {
+const storeListenerAs = (name) => (act) => {
   listeners[name] = act;
   return { dispose: () => {} };
 };
 const vscode = {
   commands: { registerCommand: () => ({ dispose: () => {} }) },
   Uri: { file: (path) => ({ path }) },
-  window: { registerWebviewViewProvider: (_, provider) => listening("view")(provider), showErrorMessage: (error) => say({ error }) },
+  window: { registerWebviewViewProvider: (_, provider) => storeListenerAs("view")(provider), showErrorMessage: (error) => say({ error }) },
   debug: {
-    onDidReceiveDebugSessionCustomEvent: listening("event"), onDidTerminateDebugSession: listening("end"),
-    registerDebugAdapterTrackerFactory: (_, factory) => listening("tracker")(factory),
+    onDidReceiveDebugSessionCustomEvent: storeListenerAs("event"), onDidTerminateDebugSession: storeListenerAs("end"),
+    registerDebugAdapterTrackerFactory: (_, factory) => storeListenerAs("tracker")(factory),
   },
 };
 new BoardView(vscode, folder).register();
 const webview = {
   cspSource: "file:", asWebviewUri: ({ path }) => path.split("/").pop(),
-  postMessage: (toPage) => say({ toPage }), onDidReceiveMessage: listening("fromPage"),
+  postMessage: (toPage) => say({ toPage }), onDidReceiveMessage: storeListenerAs("fromPage"),
 };
-listeners.view.resolveWebviewView({ webview, onDidDispose: listening("closed") });
+listeners.view.resolveWebviewView({ webview, onDidDispose: storeListenerAs("closed") });
 say({ html: webview.html });
 
 const client = new Client(`${TOP}mcs4`);

@@ -6,11 +6,11 @@ import re
 import subprocess
 
 TOP = pathlib.Path(__file__).resolve().parent.parent.parent
-# Files that this project did not write, those that a program writes, and boards, whose comments are a front panel or a drawing.
+# Third-party files, generated files, and boards, whose comments describe a front panel or a drawing.
 EXEMPT_FILES = re.compile(r"page/(?:codemirror|from_npm)/|page/fethsaim\.html|shipped/|examples/\w+/board\.toml")
-C_LIKE = {".js", ".mjs", ".cjs", ".ts", ".css", ".c", ".rt"}
+C_STYLE_SUFFIXES = {".js", ".mjs", ".cjs", ".ts", ".css", ".c", ".rt"}
 HASH_SUFFIXES = {".py", ".sh", ".toml", ".vim"}
-# Matches a comment, or a string, a template or a regular expression, in which nothing is a comment.
+# Matches a comment. Also matches a complete string, template or regular expression, because nothing inside them is a comment.
 C_TOKEN = re.compile(r"""
     (?P<block>/\*.*?\*/) | (?P<line>//[^\n]*)
   | "(?:\\.|[^"\\\n])*" | '(?:\\.|[^'\\\n])*' | `(?:\\.|[^`\\])*`
@@ -26,17 +26,17 @@ JSDOC_TAG = re.compile(r"@(?:param|property|prop|returns?|throws|type|typedef|te
 
 
 def c_comments(text):
-    """Yields the comments of a source in a language with the comments of C, each with the number of its first line."""
+    """Yields the comments of a source in a language with C-style comments, each with the number of its first line."""
     for match in C_TOKEN.finditer(text):
         if match["block"] or match["line"]:
             yield text.count("\n", 0, match.start()) + 1, match[0]
 
 
-def without_signs(comment):
-    """Returns the words of a comment, without the signs at its beginning, at its end, and at the beginnings of its lines."""
+def without_comment_marks(comment):
+    """Returns the words of a comment, without the comment marks at its beginning, at its end, and at the beginnings of its lines."""
     comment = re.sub(r"^/\*+!?|\*+/$", "", comment.strip())
     words = "\n".join(re.sub(r"^\s*(?://[/!]?|\*(?!\*)|--|#+!?|;+)\s?", "", line) for line in comment.split("\n"))
-    # Make each line that explains a name an item of a list.
+    # Convert each line that explains a name to a list item.
     return re.sub(r"^(?=`[^`]+`: )", "- ", words, flags=re.M)
 
 
@@ -62,15 +62,15 @@ def without_types(text):
     return "\n".join(lines)
 
 
-def line_comments(text, sign):
-    """Yields runs of lines that begin with a sign, each with the number of its first line."""
-    block, first = [], 1
+def line_comments(text, mark):
+    """Yields the blocks of successive lines that begin with a comment mark, each with the number of its first line."""
+    block, first_number = [], 1
     for number, line in enumerate([*text.split("\n"), ""], 1):
-        if line.lstrip().startswith(sign) and not line.startswith("#!"):
-            first = first if block else number
+        if line.lstrip().startswith(mark) and not line.startswith("#!"):
+            first_number = first_number if block else number
             block.append(line)
         elif block:
-            yield first, "\n".join(block)
+            yield first_number, "\n".join(block)
             block = []
 
 
@@ -82,25 +82,25 @@ def python_comments(text):
             yield node.body[0].lineno, words
 
 
-def joined(comments):
+def join_line_comments(comments):
     """Yields comments with the numbers of their first lines. Joins `//` comments in successive lines."""
-    block, first, last = [], 1, 0
+    block, first_number, last = [], 1, 0
     for number, comment in comments:
         if block and not (comment.startswith("//") and number == last + 1):
-            yield first, "\n".join(block)
+            yield first_number, "\n".join(block)
             block = []
-        first = first if block else number
+        first_number = first_number if block else number
         block.append(comment)
         last = number if comment.startswith("//") else 0
     if block:
-        yield first, "\n".join(block)
+        yield first_number, "\n".join(block)
 
 
 def comments_of(path):
     """Yields the words of each comment of a file, with the number of its first line."""
     text = path.read_text(errors="replace")
-    if path.suffix in C_LIKE:
-        found = joined(c_comments(text))
+    if path.suffix in C_STYLE_SUFFIXES:
+        found = join_line_comments(c_comments(text))
     elif path.suffix == ".antt":
         found = line_comments(text, "--")
     elif path.suffix == ".py" or text.startswith("#!/usr/bin/env python3"):
@@ -108,14 +108,14 @@ def comments_of(path):
     else:
         found = line_comments(text, "#")
     for number, comment in found:
-        yield number, without_types(without_signs(comment))
+        yield number, without_types(without_comment_marks(comment))
 
 
 def is_commented(path):
     """Returns true if the comments of a file are checked."""
     if EXEMPT_FILES.search(str(path.relative_to(TOP))) or not path.is_file() or path.is_symlink():
         return False
-    return path.suffix in C_LIKE | HASH_SUFFIXES | {".antt"} or (path.suffix == "" and path.read_bytes().startswith(b"#!"))
+    return path.suffix in C_STYLE_SUFFIXES | HASH_SUFFIXES | {".antt"} or (path.suffix == "" and path.read_bytes().startswith(b"#!"))
 
 
 def commented_files():

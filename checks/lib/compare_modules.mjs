@@ -134,14 +134,14 @@ function tryLaws(name, text) {
   const before = instance.getFile();
   const served = instance.serve("bench_serve", text);
   countComparison(`${name}: the file cannot be settled`, !served.done || instance.settle().done);
-  const settled = instance.getFile();
+  const settledFile = instance.getFile();
   instance.setFile(before);
   const answers = instance.serve("bench_ask", text);
   countComparison(`${name}: asking gives other answers`, JSON.stringify(answers) === JSON.stringify(served));
   countComparison(`${name}: asking changes the file`, instance.getFile().equals(before));
-  const both = instance.serve("bench_serve_and_settle", text);
-  countComparison(`${name}: serving and settling gives other answers`, JSON.stringify(both) === JSON.stringify(served));
-  countComparison(`${name}: serving and settling leaves another file`, instance.getFile().equals(served.done ? settled : before));
+  const servedAndSettled = instance.serve("bench_serve_and_settle", text);
+  countComparison(`${name}: serving and settling gives other answers`, JSON.stringify(servedAndSettled) === JSON.stringify(served));
+  countComparison(`${name}: serving and settling leaves another file`, instance.getFile().equals(served.done ? settledFile : before));
   instance.setFile(before);
 }
 

@@ -1,7 +1,7 @@
 // Compares the page's module with the program: `node compare_page.mjs MODULE MCS4 COUNT`. Both serve the examples and COUNT random scripts. The
 // answers, the exit status and each byte of the session file must be the same. The same must hold if a script is split into two calls, with or
 // without settling the file in between, and if the file has version 1 or is damaged. (To settle a file is to replace its records with a snapshot.) If
-// the module gets the lines in pieces, as the page sends long work, the answers must be the same as in one call.
+// the module gets the lines in several calls, as the page does with long work, the answers must be the same as in one call.
 import { spawnSync } from "node:child_process";
 import { closeSync, existsSync, mkdtempSync, openSync, readFileSync, readdirSync, rmSync, writeFileSync } from "node:fs";
 import { tmpdir } from "node:os";
@@ -23,7 +23,7 @@ function random(limit) {
   return (seed >>> 8) % limit;
 }
 const pick = (list) => list[random(list.length)];
-const either = (makers) => pick(makers)();
+const callOneOf = (makers) => pick(makers)();
 
 const examples = join(dirname(fileURLToPath(import.meta.url)), "../../examples");
 const calculator = readFileSync(join(examples, "calculator/board.toml"), "utf8");
@@ -50,7 +50,7 @@ function randomProgram() {
   const size = 1 + random(40);
   for (let n = 0; n < size; n++) {
     if (random(9) === 0) lines.push(`l${n}:`);
-    lines.push(either([() => pick(NAMES), () => pick(NAMES), () => `FIM P${random(8)}, ${random(256)}`, () => `SRC P${random(8)}`,
+    lines.push(callOneOf([() => pick(NAMES), () => pick(NAMES), () => `FIM P${random(8)}, ${random(256)}`, () => `SRC P${random(8)}`,
       () => `LDM ${random(16)}`, () => `${pick(["ADD", "SUB", "LD", "XCH", "INC"])} R${random(16)}`, () => `ISZ R${random(16)}, ${random(200)}`,
       () => `JUN ${random(300)}`, () => `JMS ${random(300)}`, () => `BBL ${random(16)}`, () => `JCN ${random(16)}, ${random(200)}`,
       () => `DB ${random(256)}, ${random(300)}`, () => `FIN P${random(8)}`, () => `JIN P${random(8)}`, () => `ORG ${random(600)}`,
@@ -60,14 +60,14 @@ function randomProgram() {
 }
 
 function randomLine() {
-  return either([() => `run ${1 + random(3000)}`, () => `run ${1 + random(100)}`, () => `run ${pick([0, 100000, 100001])}`, () => "step",
-    () => `poke ${either(PLACES)} ${random(random(4) ? 16 : 300)}`,
+  return callOneOf([() => `run ${1 + random(3000)}`, () => `run ${1 + random(100)}`, () => `run ${pick([0, 100000, 100001])}`, () => "step",
+    () => `poke ${callOneOf(PLACES)} ${random(random(4) ? 16 : 300)}`,
     () => `press ${random(10)} ${random(5)}`, () => `release ${random(10)} ${random(5)}`,
     () => `test ${random(3)}`, () => "reset", () => `break ${random(400)}`, () => `unbreak ${random(400)}`,
     () => `watch ${random(9)} ${random(3) ? random(64) : random(260)}`, () => `unwatch ${random(8)} ${random(64)}`,
     () => pick(["lamps", "regs", "breaks", "watches", "board", "seq", "state"]), () => pick(["state", "watches", "regs"]),
     () => `count ${1 + random(2000)}`,
-    () => `trace ${1 + random(300)} ${Array.from({ length: random(5) }, () => either(PROBES)).join(" ")}`,
+    () => `trace ${1 + random(300)} ${Array.from({ length: random(5) }, () => callOneOf(PROBES)).join(" ")}`,
     () => `ram ${random(9)}`, () => `list ${random(4200)} ${random(260)}`, () => `wire\n${pick(BOARDS)}.`, () => randomProgram().trimEnd(),
     () => `foo ${random(9)}`, () => "", () => "\tregs \r", () => "wire now", () => "x".repeat(250 + random(10)), () => "caf\u00e9"]);
 }
@@ -122,7 +122,7 @@ const BEGINNINGS = {
   count: /^count ran /, trace: /^trace ran /,
 };
 
-// Returns true if the page's function `matchAnswers` assigns the answers to the right inputs.
+// Returns true if the page's function `matchAnswers` assigns the answers to the correct inputs.
 function areAnswersMatched(input, output) {
   const answers = output.split("\n").slice(1, -1);
   const inputs = readInputs(Buffer.from(input).toString("latin1"));
@@ -183,8 +183,8 @@ const answersTo = (engine, file, lines) => engine.ask(file, lines).answers;
 function compareSource(name, engine, file) {
   const board = answersTo(engine, file, "board\n").slice(1).map((line) => `${line}\n`).join("");
   const source = disassembleRom(engine, file);
-  const again = answersTo(engine, file, `wire\n.\nwire\n${board}.\nasm\n${source}.\n${ALL_ROM}`).slice(3);
-  verdict(`${name}: the source text from ROM gives other bytes`, again.join() === answersTo(engine, file, ALL_ROM).join());
+  const regeneratedAnswers = answersTo(engine, file, `wire\n.\nwire\n${board}.\nasm\n${source}.\n${ALL_ROM}`).slice(3);
+  verdict(`${name}: the source text from ROM gives other bytes`, regeneratedAnswers.join() === answersTo(engine, file, ALL_ROM).join());
 }
 
 // Reads a file's active slot, as docs/FORMAT.md defines it. Returns the number of commands and the version in its snapshot, and whether records
@@ -219,23 +219,23 @@ function compareInPieces(name, engine, file, input) {
 function compareFiles(name, engine, file) {
   compareSource(name, engine, file);
   compareInPieces(name, engine, file, randomScript());
-  const settled = settle(engine, file);
-  checkSettled(`${name}: settle`, settled, seqOf(engine, file));
-  const both = new Uint8Array(file.length);
-  engine.serve(file, "poke acc 1\npoke acc 2\n", both);
-  checkSettled(`${name}: serving and settling`, both, seqOf(engine, file) + 2);
+  const settledFile = settle(engine, file);
+  checkSettled(`${name}: settle`, settledFile, seqOf(engine, file));
+  const servedAndSettledFile = new Uint8Array(file.length);
+  engine.serve(file, "poke acc 1\npoke acc 2\n", servedAndSettledFile);
+  checkSettled(`${name}: serving and settling`, servedAndSettledFile, seqOf(engine, file) + 2);
   const output = pageResult(engine, file, QUERIES).output;
-  compare(`${name}, settled`, engine, settled, QUERIES);
-  verdict(`${name}: settling changed an answer`, pageResult(engine, settled, QUERIES).output === output);
-  const old = toVersion1(settled);
-  if (old && fitsVersion1(engine, settled)) {
+  compare(`${name}, settled`, engine, settledFile, QUERIES);
+  verdict(`${name}: settling changed an answer`, pageResult(engine, settledFile, QUERIES).output === output);
+  const old = toVersion1(settledFile);
+  if (old && fitsVersion1(engine, settledFile)) {
     compare(`${name}, of version 1`, engine, old, QUERIES);
     checkSettled(`${name}: settle of version 1`, settle(engine, Uint8Array.from(old)), seqOf(engine, old));
   }
-  const damaged = Uint8Array.from(file);
-  const randomOffset = () => either([() => random(24), () => 16 + random(8000), () => 16400 + random(2000)]);
-  for (let changes = 1 + random(3); changes > 0; changes--) damaged[randomOffset()] ^= 1 << random(8);
-  compare(`${name}, damaged`, engine, damaged, QUERIES);
+  const damagedFile = Uint8Array.from(file);
+  const randomOffset = () => callOneOf([() => random(24), () => 16 + random(8000), () => 16400 + random(2000)]);
+  for (let changes = 1 + random(3); changes > 0; changes--) damagedFile[randomOffset()] ^= 1 << random(8);
+  compare(`${name}, damaged`, engine, damagedFile, QUERIES);
 }
 
 function measureSeconds(act) {
@@ -244,7 +244,7 @@ function measureSeconds(act) {
   return Number(process.hrtime.bigint() - start) / 1e9;
 }
 
-const fastest = (act) => Math.min(...[1, 2, 3].map(() => measureSeconds(act)));
+const shortestTime = (act) => Math.min(...[1, 2, 3].map(() => measureSeconds(act)));
 
 // Returns the cycles per second of the page's module and of the program, with the calculator.
 function measureSpeeds(engine) {
@@ -252,9 +252,9 @@ function measureSpeeds(engine) {
   const runs = "run 100000\n".repeat(300);
   const file = engine.begin();
   engine.serve(file, board, file);
-  const page = 3e7 / fastest(() => engine.ask(file, runs));
-  const native = 3e7 / fastest(() => programResult(file, runs));
-  return { page, native };
+  const pageSpeed = 3e7 / shortestTime(() => engine.ask(file, runs));
+  const nativeSpeed = 3e7 / shortestTime(() => programResult(file, runs));
+  return { pageSpeed, nativeSpeed };
 }
 
 const engine = await Engine.load(readFileSync(modulePath));
@@ -271,7 +271,7 @@ for (let number = 1; number <= Number(count); number++) {
 for (const bytes of [Buffer.from("no session"), new Uint8Array(163856), new Uint8Array(163857)]) {
   compare(`a file of ${bytes.length} bytes`, engine, bytes, "seq\n");
 }
-const { page, native } = measureSpeeds(engine);
-const millions = [page, native].map((speed) => Math.round(speed / 1e6));
+const { pageSpeed, nativeSpeed } = measureSpeeds(engine);
+const millions = [pageSpeed, nativeSpeed].map((speed) => Math.round(speed / 1e6));
 console.log(`${passed} equal, ${failed} different; ${millions[0]} million cycles a second in node, the program ${millions[1]}`);
 process.exitCode = failed === 0 ? 0 : 1;

@@ -7,7 +7,7 @@ import pathlib
 import re
 
 TOP = pathlib.Path(__file__).resolve().parent.parent.parent
-HEAD = """# Crates
+HEADER = """# Crates
 
 `checks/lib/crate_list.py` generates this list from [crates.txt](../crates.txt), which lists the crates
 that each crate uses. The lowest crate comes first. [docs/MAP.md](../docs/MAP.md) says what a crate
@@ -37,7 +37,7 @@ def crates_by_heading():
 
 def crate_list():
     """Returns the whole text, which has a list of crates for each heading."""
-    lines = [HEAD.rstrip("\n")]
+    lines = [HEADER.rstrip("\n")]
     for heading, crates in crates_by_heading().items():
         lines += ["", f"## {heading.capitalize()}", "", *(f"- [{crate}]({crate}/src): {first_sentence(crate)}" for crate in crates)]
     return "\n".join([*lines, ""])

@@ -55,7 +55,7 @@ export class Client extends MessageClient {
   }
 
   /** Sends a request that runs the machine, and waits until it stops. Resolves to the body of the event `stopped`. */
-  async move(command, args = {}) {
+  async runUntilStop(command, args = {}) {
     await this.request(command, { threadId: 1, ...args });
     return (await this.event("stopped")).body;
   }

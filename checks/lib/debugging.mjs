@@ -1,5 +1,5 @@
-// The main tests of checks/debugging. The client in dap_client.mjs takes the part of an editor. Prints `ok TEXT` or `failed: TEXT` for each
-// check, and `speed: TEXT` for a measurement.
+// The main tests of checks/debugging. The client in dap_client.mjs acts as the editor. Prints `ok TEXT` or `failed: TEXT` for each check, and `speed:
+// TEXT` for a measurement.
 import { execFileSync, spawn } from "node:child_process";
 import { copyFileSync, readFileSync, readdirSync, writeFileSync } from "node:fs";
 import { Client } from "./dap_client.mjs";
@@ -64,8 +64,8 @@ async function machineState(client) {
   return { acc: digits("acc"), cy: values.cy, pc: digits("pc"), dcl: digits("dcl"), test: values.test, r };
 }
 
-/** Returns those values of an answer to `state` that `machineState` also returns. */
-const comparable = ({ acc, cy, pc, dcl, test, r }) => ({ acc, cy, pc, dcl, test, r });
+/** Returns only the values in an answer to `state` that `machineState` returns, too. */
+const comparableState = ({ acc, cy, pc, dcl, test, r }) => ({ acc, cy, pc, dcl, test, r });
 
 /** Compares steps of the adapter in an example, forward and back, with the steps of the native program. */
 async function trySteps(name) {
@@ -79,16 +79,16 @@ async function trySteps(name) {
   for (let step = 0; step < STEPS; step++) {
     states.push(await machineState(client));
     lines.push((await client.frames())[0].line);
-    events.push(await client.move("stepIn"));
+    events.push(await client.runUntilStop("stepIn"));
   }
-  verdict(states, expected.map(comparable), `${name}: ${STEPS} steps`);
+  verdict(states, expected.map(comparableState), `${name}: ${STEPS} steps`);
   verdict(lines, expected.map(({ pc }) => lineAt.get(parseInt(pc, 16)) || 0), `${name}: the lines of the steps`);
-  const back = [];
+  const statesBack = [];
   for (let step = 0; step < 40; step++) {
-    await client.move("stepBack");
-    back.unshift(await machineState(client));
+    await client.runUntilStop("stepBack");
+    statesBack.unshift(await machineState(client));
   }
-  verdict(back, states.slice(-40), `${name}: 40 steps back`);
+  verdict(statesBack, states.slice(-40), `${name}: 40 steps back`);
   verdict(client.violations, [], `${name}: each message follows the protocol`);
   verdict(await client.end(), 0, `${name}: the adapter's status`);
 }
@@ -109,8 +109,8 @@ async function tryBreakpoints(name) {
     await client.request("restart", {});
     await client.event("stopped");
     await client.request("setFunctionBreakpoints", { breakpoints: [{ name: label }] });
-    const stop = await client.move("continue");
-    verdict([stop.reason, await machineState(client)], ["function breakpoint", comparable(valuesOf(answers[3]))], `${name}: a breakpoint at ${label}`);
+    const stop = await client.runUntilStop("continue");
+    verdict([stop.reason, await machineState(client)], ["function breakpoint", comparableState(valuesOf(answers[3]))], `${name}: a breakpoint at ${label}`);
     await client.request("setFunctionBreakpoints", { breakpoints: [] });
   }
   matches(initial.result, /^state seq 2 acc 0 cy 0 pc 000/, `${name}: the state after launch`);
@@ -119,8 +119,8 @@ async function tryBreakpoints(name) {
 
 /**
  * Goes back from each arrival at a label to the previous one, and compares these stops with those of the native program, which runs
- * forward. Does the same with a condition on a register, given by its number. Then only the arrivals at which the condition is true must be
- * stops.
+ * forward. Does the same with a condition on a register, given by its number. With the condition, the adapter must stop only at the arrivals at which
+ * it is true.
  */
 async function tryArrivals(name, label, register) {
   const { file, names } = createSession(name);
@@ -130,30 +130,30 @@ async function tryArrivals(name, label, register) {
   await client.begin(example(name));
   await client.event("stopped");
   const { breakpoints: [{ id }] } = await client.request("setFunctionBreakpoints", { breakpoints: [{ name: label }] });
-  for (let stop = 0; stop < 40; stop++) await client.move("continue");
+  for (let stop = 0; stop < 40; stop++) await client.runUntilStop("continue");
   const back = [];
   const ids = [];
   for (let stop = 0; stop < 20; stop++) {
-    const { reason, hitBreakpointIds } = await client.move("reverseContinue");
+    const { reason, hitBreakpointIds } = await client.runUntilStop("reverseContinue");
     back.push(await machineState(client));
     ids.push([reason, ...(hitBreakpointIds || [])]);
   }
-  verdict(back, expected.slice(20, 40).reverse().map(comparable), `${name}: back to 20 arrivals at ${label}`);
+  verdict(back, expected.slice(20, 40).reverse().map(comparableState), `${name}: back to 20 arrivals at ${label}`);
   verdict(ids.filter(([reason, hit]) => reason !== "function breakpoint" || hit !== id), [], `${name}: each stop is by that breakpoint`);
   const value = expected[10].r[register];
   const matching = expected.slice(1, 20).filter(({ r }) => r[register] === value).reverse();
   await client.request("setFunctionBreakpoints", { breakpoints: [{ name: label, condition: `r${register} = ${parseInt(value, 16)}`, hitCondition: "90" }] });
   const conditionalStops = [];
   for (let stop = 0; stop < matching.length; stop++) {
-    await client.move("reverseContinue");
+    await client.runUntilStop("reverseContinue");
     conditionalStops.push(await machineState(client));
   }
-  verdict(conditionalStops, matching.map(comparable), `${name}: back to ${matching.length} arrivals at which a condition is true`);
-  const { reason } = await client.move("reverseContinue");
-  verdict([reason, await machineState(client)], ["entry", comparable(expected[0])], `${name}: back to the beginning`);
+  verdict(conditionalStops, matching.map(comparableState), `${name}: back to ${matching.length} arrivals at which a condition is true`);
+  const { reason } = await client.runUntilStop("reverseContinue");
+  verdict([reason, await machineState(client)], ["entry", comparableState(expected[0])], `${name}: back to the beginning`);
   await client.request("setFunctionBreakpoints", { breakpoints: [{ name: label, condition: `r${register} = ${parseInt(value, 16)}` }] });
   await client.request("evaluate", { expression: "run 100000", context: "repl" });
-  verdict(await machineState(client), comparable(matching[matching.length - 1]), `${name}: a run in the console stops when a condition is true`);
+  verdict(await machineState(client), comparableState(matching[matching.length - 1]), `${name}: a run in the console stops when a condition is true`);
   await client.end();
 }
 
@@ -172,7 +172,7 @@ async function trySetting() {
   await client.request("pressKey", { key: "5" });
   const { result } = await client.request("evaluate", { expression: "state", context: "repl" });
   const actual = valuesOf(result);
-  verdict([comparable(actual), actual.keys], [comparable(expected), expected.keys], "values that are set, and a pressed key");
+  verdict([comparableState(actual), actual.keys], [comparableState(expected), expected.keys], "values that are set, and a pressed key");
   verdict((await client.request("evaluate", { expression: "ram.0.0x13", context: "watch" })).result, "0x5", "a nibble of RAM that is set");
   await client.end();
 }
@@ -183,33 +183,33 @@ async function trySession() {
   const client = new Client(MCS4);
   await client.begin({ ...example("lock"), session: file });
   await client.event("stopped");
-  const differing = [];
+  const differingMoves = [];
   const compare = async (move) => {
     const { result } = await client.request("evaluate", { expression: "state", context: "repl" });
-    if (stateIn(file) !== result) differing.push(move);
+    if (stateIn(file) !== result) differingMoves.push(move);
   };
   await client.request("setFunctionBreakpoints", { breakpoints: [{ name: "show" }] });
   for (const move of ["stepIn", "next", "continue", "stepOut", "stepBack", "stepIn", "stepIn", "reverseContinue", "stepIn", "stepBack"]) {
-    await client.move(move);
+    await client.runUntilStop(move);
     await compare(move);
   }
   await client.request("setFunctionBreakpoints", { breakpoints: [] });
   await client.request("evaluate", { expression: "press 5", context: "repl" });
   await compare("press 5");
-  verdict(differing, [], "the session file has the reported state at each stop");
-  const other = new Client(MCS4);
-  await other.request("initialize", {});
-  matches((await other.answer("launch", { session: file })).message, /was rejected.*in use/s, "a session in use is rejected");
-  await other.end();
+  verdict(differingMoves, [], "the session file has the reported state at each stop");
+  const secondClient = new Client(MCS4);
+  await secondClient.request("initialize", {});
+  matches((await secondClient.answer("launch", { session: file })).message, /was rejected.*in use/s, "a session in use is rejected");
+  await secondClient.end();
   client.child.kill("SIGKILL");
   await client.ended;
   const stateAfterKill = stateIn(file);
-  const third = new Client(MCS4);
-  await third.begin({ session: file, stopOnEntry: false });
-  await third.request("setFunctionBreakpoints", { breakpoints: [] });
+  const thirdClient = new Client(MCS4);
+  await thirdClient.begin({ session: file, stopOnEntry: false });
+  await thirdClient.request("setFunctionBreakpoints", { breakpoints: [] });
   matches(stateAfterKill, / keys 1.1 /, "the reported state after the adapter was killed");
-  third.child.stdin.end();
-  verdict(await third.ended, 1, "the adapter ends when the client ends");
+  thirdClient.child.stdin.end();
+  verdict(await thirdClient.ended, 1, "the adapter ends when the client ends");
   verdict(mcs4("open", file, "breaks\n"), ["breaks 031"], "the breakpoints of a session are unchanged");
   verdict(readdirSync(folder).filter((name) => name.startsWith("lock.mcs.") || name.startsWith(".")), [], "no other files are left");
 }
@@ -226,8 +226,8 @@ async function tryFiles() {
   for (const [name, pattern] of [["damaged.mcs", /no 5[01]|damaged/], ["none.mcs", /no 50/], ["nothing/x.mcs", /does not exist/]]) {
     matches((await client.answer("launch", { session: `${folder}/${name}` })).message, pattern, `${name} is rejected`);
   }
-  const wrong = await client.answer("launch", { ...example("lock"), session: `${folder}/nothing/x.mcs` });
-  matches(wrong.message, /was rejected/, "a session in a missing folder is rejected");
+  const rejectedLaunch = await client.answer("launch", { ...example("lock"), session: `${folder}/nothing/x.mcs` });
+  matches(rejectedLaunch.message, /was rejected/, "a session in a missing folder is rejected");
   verdict(readFileSync(`${folder}/none.mcs`, "utf8"), "no session\n", "a file that is not a session is unchanged");
   verdict(Buffer.compare(readFileSync(`${folder}/damaged.mcs`), damaged), 0, "a damaged session is unchanged");
   await client.request("launch", example("lock"));
@@ -249,17 +249,17 @@ async function tryMessages() {
   client.sendBytes(Buffer.alloc(16777217, 32));
   matches((await client.next(({ request_seq }) => request_seq === 0)).message, /16777217 bytes was not read/, "a message that is too long");
   await client.request("launch", example("lock"));
-  const long = await client.answer("evaluate", { expression: "x".repeat(16000000), context: "repl" });
-  matches(long.message, /65536 characters/, "a console input of 16 MB");
+  const longInputAnswer = await client.answer("evaluate", { expression: "x".repeat(16000000), context: "repl" });
+  matches(longInputAnswer.message, /65536 characters/, "a console input of 16 MB");
   verdict(client.violations, [], "each message follows the protocol");
   verdict(await client.end(), 0, "the adapter's status after errors");
   const other = new Client(MCS4);
   other.sendBytes("GET / HTTP/1.1\r\n\r\n");
   verdict([await other.ended, other.stderr.split(",")[0]], [1, "dap: a message begins with one line Content-Length: N"], "another protocol");
-  const large = new Client(MCS4);
-  large.sendBytes("Content-Length: 99999999999\r\n\r\n");
-  const { message } = await large.next(({ request_seq }) => request_seq === 0);
-  verdict([await large.ended, large.stderr], [1, `dap: ${message}\n`], "a length that no message can have");
+  const largeClient = new Client(MCS4);
+  largeClient.sendBytes("Content-Length: 99999999999\r\n\r\n");
+  const { message } = await largeClient.next(({ request_seq }) => request_seq === 0);
+  verdict([await largeClient.ended, largeClient.stderr], [1, `dap: ${message}\n`], "a length that no message can have");
   matches(message, /99999999999 is more than a message can have/, "the error about a length that no message can have");
   const stdioClient = new Client(MCS4, TOP, ["--stdio"]);
   await stdioClient.request("initialize", {});
@@ -292,18 +292,18 @@ async function trySpeed() {
   const client = new Client(MCS4);
   await client.begin({ program, board: example("three_lamps").board });
   await client.event("stopped");
-  console.log(`speed: a step is reported in ${describeTimes(await measureTimes(200, () => client.move("stepIn")))}`);
+  console.log(`speed: a step is reported in ${describeTimes(await measureTimes(200, () => client.runUntilStop("stepIn")))}`);
   await client.request("setFunctionBreakpoints", { breakpoints: [{ name: "far" }] });
   const start = performance.now();
-  const stop = await client.move("continue");
+  const stop = await client.runUntilStop("continue");
   const time = (performance.now() - start) / 1000;
-  const backs = await measureTimes(20, () => client.move("stepBack"));
-  console.log(`speed: a step back after millions of cycles is reported in ${describeTimes(backs)}`);
+  const stepBackTimes = await measureTimes(20, () => client.runUntilStop("stepBack"));
+  console.log(`speed: a step back after millions of cycles is reported in ${describeTimes(stepBackTimes)}`);
   for (const breakpoint of [{ name: "count3" }, { name: "turn", condition: "r1 = 0 and r0 = 0" }]) {
     await client.request("setFunctionBreakpoints", { breakpoints: [breakpoint] });
-    const arrivals = await measureTimes(20, () => client.move("reverseContinue"));
+    const arrivalTimes = await measureTimes(20, () => client.runUntilStop("reverseContinue"));
     const target = breakpoint.condition ? "a condition that is evaluated 256 times" : "a breakpoint 12,000 cycles ago";
-    console.log(`speed: back to ${target} is reported in ${describeTimes(arrivals)}`);
+    console.log(`speed: back to ${target} is reported in ${describeTimes(arrivalTimes)}`);
   }
   const { result } = await client.request("evaluate", { expression: "count 1", context: "repl" });
   verdict([stop.reason, /^count/.test(result)], ["function breakpoint", true], "a distant breakpoint");

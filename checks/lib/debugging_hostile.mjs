@@ -1,6 +1,6 @@
-// Tests of checks/debugging with wrong messages: messages with wrong lengths, requests in the wrong order, unknown requests, and some 2,000 requests
-// with wrong arguments. The adapter must answer each request once and continue, or print an error and end. Prints `ok TEXT` or `failed: TEXT` for
-// each check.
+// Tests of checks/debugging with invalid messages: messages with wrong lengths, requests in the wrong order, unknown requests, and some 2,000
+// requests with wrong arguments. The adapter must answer each request once and continue, or print an error and end. Prints `ok TEXT` or `failed:
+// TEXT` for each check.
 import { Client } from "./dap_client.mjs";
 
 const TOP = new URL("../..", import.meta.url).pathname;
@@ -90,8 +90,8 @@ function mostlyValidArguments(command) {
     column: random(20), text: oneOf(TEXTS), targetId: random(4200), filters: ["calls"], filterOptions: [{ filterId: "chip", condition: oneOf(TEXTS) }],
     breakpoints: [{ line: random(120), name: oneOf(TEXTS), dataId: oneOf(["r4", "acc", oneOf(TEXTS)]), instructionReference: oneOf(["0x02C", "show"]),
       condition: oneOf(["", "r4 = 7", oneOf(TEXTS)]), hitCondition: oneOf(["", "3", oneOf(TEXTS)]) }], key: oneOf(["5", "#", "no"]), place: oneOf(["1 1", "9 9", "x"]) };
-  const all = Object.entries(valid).map(([name, validValue]) => [name, random(9) === 0 ? randomValue(0) : validValue]);
-  return command === "cancel" ? { requestId: random(2000) } : Object.fromEntries(all);
+  const allArguments = Object.entries(valid).map(([name, validValue]) => [name, random(9) === 0 ? randomValue(0) : validValue]);
+  return command === "cancel" ? { requestId: random(2000) } : Object.fromEntries(allArguments);
 }
 
 /** Returns arguments of any kind for a request. */
@@ -104,7 +104,7 @@ function argumentsFor(command) {
  * each, and how often it was answered. Throws an error if a request is not answered in time.
  */
 async function sendAll(client, count) {
-  const answered = new Map();
+  const answerCounts = new Map();
   for (let done = 0; done < count; done += BATCH) {
     const batch = [];
     for (let n = 0; n < BATCH; n++) {
@@ -117,13 +117,13 @@ async function sendAll(client, count) {
     await client.answer("pause", { threadId: 1 });
     for (const seq of batch) {
       await client.next((message) => message.type === "response" && message.request_seq === seq);
-      answered.set(seq, 1);
+      answerCounts.set(seq, 1);
     }
-    const extra = client.received.filter(({ type, request_seq: seq }) => type === "response" && answered.has(seq));
-    for (const { request_seq: seq } of extra) answered.set(seq, answered.get(seq) + 1);
+    const extraResponses = client.received.filter(({ type, request_seq: seq }) => type === "response" && answerCounts.has(seq));
+    for (const { request_seq: seq } of extraResponses) answerCounts.set(seq, answerCounts.get(seq) + 1);
     client.received = [];
   }
-  return [...answered].filter(([, times]) => times !== 1);
+  return [...answerCounts].filter(([, times]) => times !== 1);
 }
 
 async function tryRequests() {

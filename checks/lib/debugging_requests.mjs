@@ -49,14 +49,14 @@ function sessionFile(name, lines) {
  */
 async function begin(client, command, args, { watches = [], filterOptions = [], functions = [] } = {}) {
   const capabilities = await client.request("initialize", VSCODE);
-  const launched = client.answer(command, { name: "MCS-4", type: "mcs4", request: command, __sessionId: "1", ...args });
+  const launchResponse = client.answer(command, { name: "MCS-4", type: "mcs4", request: command, __sessionId: "1", ...args });
   await client.event("initialized");
   await client.request("setBreakpoints", { source: { name: "lock.asm", path: PROGRAM }, lines: [], breakpoints: [], sourceModified: false });
   await client.request("setFunctionBreakpoints", { breakpoints: functions });
   const data = watches.length > 0 ? await client.request("setDataBreakpoints", { breakpoints: watches }) : null;
   const filters = await client.request("setExceptionBreakpoints", { filters: [], filterOptions });
   await client.request("configurationDone");
-  verdict((await launched).success, true, `${command} is answered`);
+  verdict((await launchResponse).success, true, `${command} is answered`);
   return { capabilities, data, filters, stopped: (await client.event("stopped")).body };
 }
 
@@ -81,19 +81,19 @@ async function tryAttach() {
   const { stopped } = await begin(client, "attach", { session: file });
   verdict([stopped.reason, (await client.request("evaluate", { expression: "state", context: "repl" })).result], ["entry", state], "the state after attach is that of the file");
   await readStop(client);
-  const stepped = answersOf(file, "step\nstep\nstep\nstate\n").pop();
-  for (let step = 0; step < 3; step++) await client.move("stepIn", { granularity: "statement" });
-  verdict((await client.request("evaluate", { expression: "state", context: "repl" })).result, stepped, "three steps after attach");
+  const stateAfterSteps = answersOf(file, "step\nstep\nstep\nstate\n").pop();
+  for (let step = 0; step < 3; step++) await client.runUntilStop("stepIn", { granularity: "statement" });
+  verdict((await client.request("evaluate", { expression: "state", context: "repl" })).result, stateAfterSteps, "three steps after attach");
   verdict(Buffer.compare(before, readFileSync(file)), 0, "the file is unchanged");
   verdict(answersOf(file, "state\n")[0], state, "`mcs4 open` opens the file while the adapter is attached to it");
-  await client.move("restart", {});
+  await client.runUntilStop("restart", {});
   verdict((await client.request("evaluate", { expression: "state", context: "repl" })).result, state, "restart reads the file again");
   await client.request("disconnect", { restart: false, terminateDebuggee: false });
   verdict([await client.ended, Buffer.compare(before, readFileSync(file)), client.violations], [0, 0, []], "the adapter's status, and the file is unchanged");
   chmodSync(file, 0o600);
   const writer = new Client(ADAPTER);
   await begin(writer, "attach", { session: file, write: true, program: PROGRAM, board: BOARD });
-  await writer.move("stepIn");
+  await writer.runUntilStop("stepIn");
   const { result } = await writer.request("evaluate", { expression: "state", context: "repl" });
   verdict(answersOf(file, "state\n")[0], result, "with `write`, the file has the new state");
   const other = new Client(ADAPTER);
@@ -109,7 +109,7 @@ async function tryAttach() {
 /**
  * Checks that the adapter rejects a session file in use, and names the program that uses it. Also checks that it rejects files that are not sessions.
  */
-async function tryRejected() {
+async function tryRejectedFiles() {
   const file = sessionFile("held", "");
   const holder = spawn(process.env.MCS4, ["open", file], { stdio: ["pipe", "pipe", "ignore"] });
   await new Promise((resume) => holder.stdout.once("data", resume));
@@ -137,7 +137,7 @@ async function tryRejected() {
 }
 
 /** Checks that a data breakpoint stops at the changes in a trace of the native program. */
-async function tryWatches() {
+async function tryDataBreakpoints() {
   const file = sessionFile("watched", "run 400\n");
   for (const [dataId, probe] of [["r0", "r0"], ["acc", "acc"], ["chain0", "chain0"], ["rom0", "rom0"], ["cy", "cy"]]) {
     const client = new Client(ADAPTER);
@@ -153,7 +153,7 @@ async function tryWatches() {
     }).slice(0, 12);
     const stops = [];
     for (let stop = 0; stop < expected.length; stop++) {
-      const { reason, hitBreakpointIds } = await client.move("continue");
+      const { reason, hitBreakpointIds } = await client.runUntilStop("continue");
       const { stackFrames: [frame] } = await client.request("stackTrace", { threadId: 1, startFrame: 0, levels: 1 });
       stops.push(reason === "data breakpoint" && hitBreakpointIds[0] === data.breakpoints[0].id ? frame.instructionPointerReference : reason);
     }
@@ -171,49 +171,49 @@ async function tryRequests() {
   const client = new Client(ADAPTER);
   const { capabilities, filters } = await begin(client, "launch", { program: PROGRAM, board: BOARD },
     { functions: [{ name: "scan" }], filterOptions: [{ filterId: "calls" }, { filterId: "chip", condition: "r0 = 3" }] });
-  const named = ["supportsStepInTargetsRequest", "supportsRestartFrame", "supportsCancelRequest", "supportsValueFormattingOptions",
+  const usedCapabilities = ["supportsStepInTargetsRequest", "supportsRestartFrame", "supportsCancelRequest", "supportsValueFormattingOptions",
     "supportsExceptionFilterOptions", "supportsDataBreakpoints", "supportsCompletionsRequest", "supportsReadMemoryRequest", "supportsWriteMemoryRequest"];
-  verdict(named.filter((name) => capabilities[name] !== true), [], "the adapter announces all capabilities that are used");
+  verdict(usedCapabilities.filter((name) => capabilities[name] !== true), [], "the adapter announces all capabilities that are used");
   verdict(filters.breakpoints.map(({ verified }) => verified), [true, true], "exception filters with options are verified");
   const initial = await readStop(client);
   const { targets } = await client.request("stepInTargets", { frameId: initial.frames[0].id });
   verdict(targets, [], "stepInTargets: a jump is not a call");
-  await client.move("stepIn");
-  const ahead = await client.request("stepInTargets", { frameId: 1 });
-  verdict(ahead.targets.map(({ line }) => line), [29, 31], "the step targets are the two next calls");
-  await client.move("stepIn", { targetId: ahead.targets[0].id });
+  await client.runUntilStop("stepIn");
+  const targetsAhead = await client.request("stepInTargets", { frameId: 1 });
+  verdict(targetsAhead.targets.map(({ line }) => line), [29, 31], "the step targets are the two next calls");
+  await client.runUntilStop("stepIn", { targetId: targetsAhead.targets[0].id });
   const { frames } = await readStop(client);
   verdict([frames[0].name, frames.length], ["show", 2], "stepIn with a target enters the chosen call");
-  await client.move("continue");
-  const scanning = await readStop(client);
-  const [depth] = [scanning.frames.length];
+  await client.runUntilStop("continue");
+  const stopInScan = await readStop(client);
+  const [depth] = [stopInScan.frames.length];
   await client.request("setFunctionBreakpoints", { breakpoints: [] });
-  for (let step = 0; step < 5; step++) await client.move("next");
-  const { reason } = await client.move("restartFrame", { frameId: 2 });
-  const again = await readStop(client);
-  verdict([reason, again.frames.length, again.frames[0].canRestart], ["restart", depth - 1, true], "restartFrame ends the calls above the frame");
-  const address = Number(again.frames[0].instructionPointerReference);
-  const call = Number(again.frames[1].instructionPointerReference);
-  const [listed] = answersOf(file, `list ${call} 1\n`);
-  matches(listed, new RegExp(`JMS 0x${again.frames[0].instructionPointerReference.slice(2)}$`), `the restarted frame begins at ${address}, the target of its JMS`);
-  const registers = again.scopes.find(({ name }) => name === "Registers").variablesReference;
+  for (let step = 0; step < 5; step++) await client.runUntilStop("next");
+  const { reason } = await client.runUntilStop("restartFrame", { frameId: 2 });
+  const stopAfterRestart = await readStop(client);
+  verdict([reason, stopAfterRestart.frames.length, stopAfterRestart.frames[0].canRestart], ["restart", depth - 1, true], "restartFrame ends the calls above the frame");
+  const address = Number(stopAfterRestart.frames[0].instructionPointerReference);
+  const call = Number(stopAfterRestart.frames[1].instructionPointerReference);
+  const [listingRow] = answersOf(file, `list ${call} 1\n`);
+  matches(listingRow, new RegExp(`JMS 0x${stopAfterRestart.frames[0].instructionPointerReference.slice(2)}$`), `the restarted frame begins at ${address}, the target of its JMS`);
+  const registers = stopAfterRestart.scopes.find(({ name }) => name === "Registers").variablesReference;
   const values = async (format) => (await client.request("variables", { variablesReference: registers, format })).variables.map(({ value }) => value);
-  const [hex, decimal] = [await values({ hex: true }), await values({ hex: false })];
-  verdict(hex.map(Number), decimal.map(Number), "registers in hexadecimal and in decimal have equal values");
-  verdict([hex.every((value) => /^0x[0-9A-F]+$/.test(value)), decimal.every((value) => /^\d+$/.test(value))], [true, true], "registers: each value is in the requested base");
+  const [hexValues, decimalValues] = [await values({ hex: true }), await values({ hex: false })];
+  verdict(hexValues.map(Number), decimalValues.map(Number), "registers in hexadecimal and in decimal have equal values");
+  verdict([hexValues.every((value) => /^0x[0-9A-F]+$/.test(value)), decimalValues.every((value) => /^\d+$/.test(value))], [true, true], "registers: each value is in the requested base");
   const rom = Buffer.from((await client.request("readMemory", { memoryReference: "0x000", offset: 0, count: 4096 })).data, "base64");
   const bytes = Array.from({ length: 16 }, (_, page) => answersOf(file, `list ${256 * page} 256\n`)).flat();
-  const wrong = bytes.filter((line) => {
+  const differingRows = bytes.filter((line) => {
     const [at, ...rest] = line.slice(0, 9).trim().split(/ +/);
-    return rest.some((byte, more) => rom[parseInt(at, 16) + more] !== parseInt(byte, 16));
+    return rest.some((byte, offset) => rom[parseInt(at, 16) + offset] !== parseInt(byte, 16));
   });
-  verdict([bytes.length > 1000, wrong], [true, []], "readMemory of the ROM has the bytes of `list`");
+  verdict([bytes.length > 1000, differingRows], [true, []], "readMemory of the ROM has the bytes of `list`");
   await client.request("writeMemory", { memoryReference: "0x10000", offset: 18, data: Buffer.from([1, 2, 3]).toString("base64") });
   await client.event("memory");
   const { result } = await client.request("evaluate", { expression: "ram 0", context: "repl" });
   const wanted = answersOf(file, "poke ram.0.18 1\npoke ram.0.19 2\npoke ram.0.20 3\nram 0\n").slice(3);
-  const ofRegister = (lines) => lines.find((line) => line.startsWith("0.0.1 ")).split(" ")[1];
-  verdict(ofRegister(result.split("\n")).slice(2, 5), ofRegister(wanted).slice(2, 5), "writeMemory writes characters of the RAM");
+  const valuesOfRegister = (lines) => lines.find((line) => line.startsWith("0.0.1 ")).split(" ")[1];
+  verdict(valuesOfRegister(result.split("\n")).slice(2, 5), valuesOfRegister(wanted).slice(2, 5), "writeMemory writes characters of the RAM");
   const keys = await client.request("completions", { frameId: 1, text: "press ", column: 7, line: 1 });
   verdict(keys.targets.map(({ label }) => label).join(" "), "1 2 3 4 5 6 7 8 9 * 0 #", "completions after `press` are the keys of the board");
   verdict(client.violations, [], "each message of the adapter follows the protocol");
@@ -221,7 +221,7 @@ async function tryRequests() {
 }
 
 /** Checks that the adapter reports the progress of a long request, and ends the request when the client cancels it. */
-async function tryLong() {
+async function tryLongRequest() {
   const program = `${folder}/long.asm`;
   writeFileSync(program, " FIM P0, 0\nturn: ISZ R0, turn\n ISZ R1, turn\n JUN turn\n");
   const client = new Client(ADAPTER);
@@ -254,7 +254,7 @@ async function tryLong() {
 }
 
 await tryAttach();
-await tryRejected();
-await tryWatches();
+await tryRejectedFiles();
+await tryDataBreakpoints();
 await tryRequests();
-await tryLong();
+await tryLongRequest();

@@ -7,7 +7,7 @@ import pathlib
 import re
 
 CRATES = pathlib.Path(__file__).resolve().parent.parent.parent / "crates"
-# Patterns of source lines that define a name: an item, a clause, a field, a variant, or a trait implementation.
+# Patterns of source lines that define a name: an item (such as a function), a clause, a field, a variant, or a trait implementation.
 SOURCE_PATTERNS = (r"\b(?:fn|struct|enum|trait|const|static|mod|type|macro_rules!|ensures|invariant)\s+(\w+)", r"^\s+(?:pub(?:\(\w+\))? |ghost )?(\w+):",
               r"^\s+([A-Z]\w*)", r"\bimpl\b[^{;]*?(\w+)(?:<[^<>]*>)?\s+for\s")
 # The patterns with which a specs module defines a name: at the beginning of a line, or as a field or constructor below it.

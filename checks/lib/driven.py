@@ -55,7 +55,7 @@ class BrowserDriver:
         self.click_element(self.find(selector))
 
     def hold(self, selector, milliseconds_down):
-        """Presses the mouse button on an element for a time in milliseconds."""
+        """Holds the mouse button down on an element for a time in milliseconds."""
         self.scroll_to(selector)
         time.sleep(self.settle_seconds)
         self.actions({

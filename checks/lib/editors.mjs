@@ -1,5 +1,5 @@
-// The main tests of checks/editors. The client in lsp_client.mjs takes the part of an editor. Prints `ok TEXT` or `failed: TEXT` for each
-// check, and `speed: TEXT` for a measurement.
+// The main tests of checks/editors. The client in lsp_client.mjs acts as the editor. Prints `ok TEXT` or `failed: TEXT` for each check, and `speed:
+// TEXT` for a measurement.
 import { execFileSync } from "node:child_process";
 import { readFileSync, readdirSync } from "node:fs";
 import { Client } from "./lsp_client.mjs";
@@ -40,8 +40,8 @@ async function compare(client, name) {
   const uri = `file://${TOP}examples/${name}/${name}.asm`;
   const [text, board] = [read(`examples/${name}/${name}.asm`), read(`examples/${name}/board.toml`)];
   verdict(await client.open(uri, text), [], `${name} has no errors`);
-  const bare = text.split("\n").map((line) => line.replace(/;.*/, "").trim()).join("\n");
-  const { lines, names } = reportOf(board.replace(/^#.*$/gm, ""), bare.endsWith("\n") ? bare : `${bare}\n`);
+  const codeOnly = text.split("\n").map((line) => line.replace(/;.*/, "").trim()).join("\n");
+  const { lines, names } = reportOf(board.replace(/^#.*$/gm, ""), codeOnly.endsWith("\n") ? codeOnly : `${codeOnly}\n`);
   const wrongLines = [];
   for (const [line, { address, size }] of lines) {
     const column = text.split("\n")[line - 1].search(/\S/);
@@ -87,7 +87,7 @@ async function trySpeed(client) {
 }
 
 /** Checks that the server reports errors in messages, and answers the next request. */
-async function tryWrong() {
+async function tryWrongMessages() {
   const client = new Client(MCS4);
   verdict((await client.answer("textDocument/hover", {})).error.code, -32002, "a request before initialize");
   client.notify("textDocument/didOpen", { textDocument: {} });
@@ -113,30 +113,30 @@ async function tryWrong() {
   verdict(await client.end(), 0, "shutdown and exit");
 }
 
-async function tryEnds() {
+async function tryExits() {
   const closedClient = new Client(MCS4);
   await closedClient.begin();
   closedClient.child.stdin.end();
   verdict(await closedClient.ended, 1, "a client that ends");
-  const hasty = new Client(MCS4);
-  hasty.notify("exit");
-  verdict(await hasty.ended, 1, "exit without shutdown");
-  const other = new Client(MCS4);
-  other.sendBytes("GET / HTTP/1.1\r\n\r\n");
-  verdict([await other.ended, other.stderr.split(",")[0]], [1, "lsp: a message begins with one line Content-Length: N"], "another protocol");
+  const hastyClient = new Client(MCS4);
+  hastyClient.notify("exit");
+  verdict(await hastyClient.ended, 1, "exit without shutdown");
+  const httpClient = new Client(MCS4);
+  httpClient.sendBytes("GET / HTTP/1.1\r\n\r\n");
+  verdict([await httpClient.ended, httpClient.stderr.split(",")[0]], [1, "lsp: a message begins with one line Content-Length: N"], "another protocol");
 }
 
 /** Checks that the server answers in order if a client writes all requests before it reads any answer. */
-async function tryAtOnce() {
-  const hasty = new Client(MCS4);
+async function tryRequestsAtOnce() {
+  const hastyClient = new Client(MCS4);
   const uri = "file:///hasty.asm";
-  const initialized = hasty.answer("initialize", { processId: null, rootUri: null, capabilities: {} });
-  hasty.notify("initialized", {});
-  const errors = await hasty.open(uri, "JMP there\n");
+  const initialized = hastyClient.answer("initialize", { processId: null, rootUri: null, capabilities: {} });
+  hastyClient.notify("initialized", {});
+  const errors = await hastyClient.open(uri, "JMP there\n");
   verdict([(await initialized).error, errors.length], [undefined, 1], "the errors of a text that is opened in one chunk with initialize");
-  const shutdown = hasty.answer("shutdown");
-  hasty.notify("exit");
-  verdict([(await shutdown).error, await hasty.ended], [undefined, 0], "shutdown and exit in one chunk");
+  const shutdown = hastyClient.answer("shutdown");
+  hastyClient.notify("exit");
+  verdict([(await shutdown).error, await hastyClient.ended], [undefined, 0], "shutdown and exit in one chunk");
   const large = new Client(MCS4);
   large.sendBytes("Content-Length: 99999999999\r\n\r\n");
   const { error } = await large.next(({ id }) => id === null);
@@ -149,20 +149,20 @@ async function tryAtOnce() {
 async function tryWrongLengths() {
   const body = JSON.stringify({ jsonrpc: "2.0", id: 1, method: "initialize", params: {} });
   const clientWithLength = (size) => {
-    const started = new Client(MCS4);
-    started.sendBytes(`Content-Length: ${size}\r\n\r\n${body}`);
-    return started;
+    const newClient = new Client(MCS4);
+    newClient.sendBytes(`Content-Length: ${size}\r\n\r\n${body}`);
+    return newClient;
   };
-  const [open, closed, short] = [clientWithLength(body.length + 10), clientWithLength(body.length + 10), clientWithLength(body.length - 10)];
-  closed.child.stdin.end();
-  short.sendBytes(`Content-Length: ${body.length}\r\n\r\n${body}`);
+  const [openClient, endedClient, shortLengthClient] = [clientWithLength(body.length + 10), clientWithLength(body.length + 10), clientWithLength(body.length - 10)];
+  endedClient.child.stdin.end();
+  shortLengthClient.sendBytes(`Content-Length: ${body.length}\r\n\r\n${body}`);
   const expected = `only ${body.length} of the ${body.length + 10} bytes that Content-Length announces have arrived`;
-  for (const [started, condition] of [[closed, "the client ends"], [open, "the stream stays open"]]) {
-    const { error } = await started.next(({ id }) => id === null);
-    verdict([error.code, error.message, await started.ended, started.stderr], [-32600, expected, 1, `lsp: ${expected}\n`], `too large a length, ${condition}`);
+  for (const [testedClient, condition] of [[endedClient, "the client ends"], [openClient, "the stream stays open"]]) {
+    const { error } = await testedClient.next(({ id }) => id === null);
+    verdict([error.code, error.message, await testedClient.ended, testedClient.stderr], [-32600, expected, 1, `lsp: ${expected}\n`], `too large a length, ${condition}`);
   }
-  const { error } = await short.next(({ id }) => id === null);
-  verdict([error.code, await short.ended, short.stderr.split(",")[0]], [-32700, 1, "lsp: a message begins with one line Content-Length: N"],
+  const { error } = await shortLengthClient.next(({ id }) => id === null);
+  verdict([error.code, await shortLengthClient.ended, shortLengthClient.stderr.split(",")[0]], [-32700, 1, "lsp: a message begins with one line Content-Length: N"],
     "too small a length");
 }
 
@@ -172,7 +172,7 @@ await client.begin();
 for (const name of examples()) await compare(client, name);
 await trySpeed(client);
 verdict(await client.end(), 0, "the server's status");
-await tryWrong();
-await tryAtOnce();
-await tryEnds();
+await tryWrongMessages();
+await tryRequestsAtOnce();
+await tryExits();
 await wrongLengths;

@@ -52,23 +52,23 @@ mkdirSync(programs);
 execFileSync("python3", [`${TOP}checks/lib/seeded_programs.py`, programs, String(ACCEPTED), String(REJECTED)]);
 const client = new Client(`${TOP}mcs4`);
 await client.begin();
-let changed = 0;
-let loaded = 0;
+let changedCount = 0;
+let loadedCount = 0;
 for (let start = 0; start < COUNT; start += BATCH_SIZE) {
   const numbers = [...Array(Math.min(BATCH_SIZE, COUNT - start)).keys()].map((index) => start + index);
   const texts = numbers.map((number) => readFileSync(`${programs}/${number}.asm`, "utf8"));
   const after = [];
   for (const [index, number] of numbers.entries()) {
     const options = { tabSize: 8, insertSpaces: number % 2 === 0 };
-    const once = await format(client, `${number}.asm`, texts[index], options);
-    verdict(await format(client, `again${number}.asm`, once, options) === once, `program ${number}: formatting twice has the same result as once`);
-    changed += once === texts[index] ? 0 : 1;
-    after.push(once);
+    const formattedOnce = await format(client, `${number}.asm`, texts[index], options);
+    verdict(await format(client, `again${number}.asm`, formattedOnce, options) === formattedOnce, `program ${number}: formatting twice has the same result as once`);
+    changedCount += formattedOnce === texts[index] ? 0 : 1;
+    after.push(formattedOnce);
   }
   const [before, afterFormatting] = [answersTo(texts), answersTo(after)];
-  loaded += (before.match(/^ok \d+ bytes /gm) || []).length;
+  loadedCount += (before.match(/^ok \d+ bytes /gm) || []).length;
   verdict(before === afterFormatting, `programs ${start} to ${start + numbers.length - 1}: the same answers, byte for byte`);
 }
-verdict(loaded === ACCEPTED, `${loaded} programs were loaded`);
-verdict(changed > COUNT / 2, `${changed} of ${COUNT} programs have another layout`);
+verdict(loadedCount === ACCEPTED, `${loadedCount} programs were loaded`);
+verdict(changedCount > COUNT / 2, `${changedCount} of ${COUNT} programs have another layout`);
 verdict(await client.end() === 0, "the server's status");

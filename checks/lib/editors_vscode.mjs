@@ -10,7 +10,7 @@ const folder = `${process.argv[2]}/vscode`;
 const uriOf = (name) => `file://${folder}/${name}`;
 const uri = uriOf("lock.asm");
 const textDocument = { uri };
-const WHOLE = { start: { line: 0, character: 0 }, end: { line: 200, character: 0 } };
+const WHOLE_RANGE = { start: { line: 0, character: 0 }, end: { line: 200, character: 0 } };
 
 function verdict(actual, expected, description) {
   const [actualText, expectedText] = [JSON.stringify(actual), JSON.stringify(expected)];
@@ -60,17 +60,17 @@ const open = (client, name, languageId) => client.notify("textDocument/didOpen",
 /** Sends the requests that the editor sends when it shows a program, all at once. */
 async function show(client) {
   open(client, "lock.asm", "mcs4");
-  const [symbols, folds, actions, links, colours, visible, hints, lenses, marks, diagnostics] = await Promise.all([
+  const [symbols, folds, actions, links, colours, rangeColours, hints, lenses, marks, diagnostics] = await Promise.all([
     client.request("textDocument/documentSymbol", { textDocument }), client.request("textDocument/foldingRange", { textDocument }),
-    client.request("textDocument/codeAction", { textDocument, range: WHOLE, context: { diagnostics: [], triggerKind: 2 } }),
+    client.request("textDocument/codeAction", { textDocument, range: WHOLE_RANGE, context: { diagnostics: [], triggerKind: 2 } }),
     client.request("textDocument/documentLink", { textDocument }), client.request("textDocument/semanticTokens/full", { textDocument }),
-    client.request("textDocument/semanticTokens/range", { textDocument, range: WHOLE }),
-    client.request("textDocument/inlayHint", { textDocument, range: WHOLE }), client.request("textDocument/codeLens", { textDocument }),
+    client.request("textDocument/semanticTokens/range", { textDocument, range: WHOLE_RANGE }),
+    client.request("textDocument/inlayHint", { textDocument, range: WHOLE_RANGE }), client.request("textDocument/codeLens", { textDocument }),
     client.request("textDocument/documentHighlight", { textDocument, position: { line: 29, character: 2 } }),
     client.request("textDocument/diagnostic", { textDocument, identifier: "mcs4" }),
   ]);
   verdict([symbols.length, folds.length, actions, links], [29, 22, [], []], "symbols, folds, actions and links of a program");
-  verdict(colours.data, visible.data, "colours of the text, and of the range with the whole text");
+  verdict(colours.data, rangeColours.data, "colours of the text, and of the range with the whole text");
   verdict([hints.length > 100, lenses.length, marks.length], [true, 22, 2], "hints, lenses and marks");
   verdict([diagnostics.kind, diagnostics.items], ["full", []], "no error");
   return { colours, resultId: diagnostics.resultId };
@@ -96,8 +96,8 @@ async function change(client, { colours, resultId }) {
   const position = { line: 38, character: 12 };
   const completions = await client.request("textDocument/completion", { textDocument, position, context: trigger });
   verdict(completions[0].detail, "never", "conditions after a blank");
-  const blank = await client.request("textDocument/completion", { textDocument, position: { line: 38, character: 4 }, context: trigger });
-  verdict(blank, [], "no completion for a blank that indents");
+  const completionsAtBlank = await client.request("textDocument/completion", { textDocument, position: { line: 38, character: 4 }, context: trigger });
+  verdict(completionsAtBlank, [], "no completion for a blank that indents");
   client.notify("workspace/didChangeWatchedFiles", { changes: [{ uri: uriOf("board.toml"), type: 2 }] });
   verdict((await client.request("textDocument/diagnostic", { textDocument })).items.length, 0, "the text with the correction");
 }

@@ -116,7 +116,7 @@ POSSIBLE_OUTPUTS = {
 }
 
 
-# The comparisons that are true while the program counter has its value after power-on.
+# The comparisons that are true while the program counter has its power-on value.
 AT_POWER_ON = "in counter 3 whole 0 0 & in counter 4 whole 0 0 & in counter 5 whole 0 0"
 
 
@@ -182,7 +182,7 @@ TIME_LIMITS = [
     duration_question(THREE_LAMPS, "never lamps none for 1 ms", all_zero("ramport", [0]), 93, "holds 2", 7),
     TimeLimit(THREE_LAMPS, "every 6 ms @next", [AT_POWER_ON, "@next"], ["@next"], 556, "holds 2", 538),
 ]
-# Lines with a time limit that are not tested, because their conditions need the digits of a display and their programs have too many states.
+# Lines with a time limit that are not tested, because their conditions depend on the digits of a display and their programs have too many states.
 UNTESTED_LINES = {"never display -0 and st.0.0.2 3 for 20 ms"}
 
 
@@ -213,8 +213,8 @@ REQUIRED_PRESSES = [
 
 @dataclass
 class LimitedCondition:
-    """A condition that an example cannot make true within limits of the inputs: its comparisons, the limits, and the answer. Within wider limits, it
-    can become true after `value_count` values."""
+    """A condition that cannot become true in an example if the inputs are limited: its comparisons, the limits, and the answer. Within wider limits,
+    it can become true after the program has read `value_count` values."""
 
     props: str
     condition: str

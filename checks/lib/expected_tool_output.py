@@ -78,7 +78,7 @@ def changes_between(previous: Board, after: Board) -> list[str]:
     changes += [f"out {bank}.{chip} {latch:X}" for (bank, chip), latch in new_chips.ram_latch.items() if old_chips.ram_latch[bank, chip] != latch]
     changes += [f"rom{chip} out {latch:X}" for chip, latch in new_chips.rom_latch.items() if old_chips.rom_latch[chip] != latch]
     changes += [f"chain{n} " + "".join(str(bit) for bit in chain) for n, chain in enumerate(new_chips.chains) if old_chips.chains[n] != chain]
-    return changes + ([f"lamps {new_chips.marks()}"] if old_chips.marks() != new_chips.marks() else [])
+    return changes + ([f"lamps {new_chips.lamp_marks()}"] if old_chips.lamp_marks() != new_chips.lamp_marks() else [])
 
 
 def trace_row(board: Board, cycle: int, details: str, source: Source | None, with_lines: bool) -> str:
@@ -202,13 +202,13 @@ def cover_output(start: Board, cycles: int, source: Source) -> str:
         runs_text = runs[source.spans[i][0]] or "never" if i in lines else ""
         taken_text = "{}/{}".format(*directions[i]) if i in directions else ""
         rows.append(f"{runs_text:>10} {taken_text:<13}  {text}".rstrip())
-    never_run = [i for i in lines if not runs[source.spans[i][0]]]
+    lines_never_run = [i for i in lines if not runs[source.spans[i][0]]]
     taken_count = sum(1 for counts in directions.values() for taken_text in counts if taken_text)
-    rows += ["", f"{len(lines) - len(never_run)} of {len(lines)} instructions were run{percentage_of(len(lines) - len(never_run), len(lines))}, "
+    rows += ["", f"{len(lines) - len(lines_never_run)} of {len(lines)} instructions were run{percentage_of(len(lines) - len(lines_never_run), len(lines))}, "
              f"{taken_count} of {2 * len(directions)} branch directions{percentage_of(taken_count, 2 * len(directions))}"]
     one_way_lines = [f"{i + 1} ({'always' if taken else 'never'} taken)" for i, (taken, not_taken) in directions.items() if (taken == 0) != (not_taken == 0)]
-    if never_run:
-        rows.append(f"never run: line{'s' if len(never_run) > 1 else ''} {line_ranges(lines, never_run)}")
+    if lines_never_run:
+        rows.append(f"never run: line{'s' if len(lines_never_run) > 1 else ''} {line_ranges(lines, lines_never_run)}")
     if one_way_lines:
         rows.append(f"only one way: line{'s' if len(one_way_lines) > 1 else ''} {', '.join(one_way_lines)}")
     return "".join(f"{row}\n" for row in rows)

@@ -24,12 +24,12 @@ class Plain {
   }
 }
 /** The texts whose language the extension has set, with these languages. */
-const assigned = [];
+const assignedLanguages = [];
 const setTextDocumentLanguage = async (document, language) => {
-  assigned.push([document.fileName, language]);
+  assignedLanguages.push([document.fileName, language]);
 };
 const languages = new Proxy({ setTextDocumentLanguage }, {
-  get: (own, name) => own[name] || (name === "createDiagnosticCollection" ? () => ({ set: (uri, list) => diagnostics.set(uri.text, list), dispose: () => {} })
+  get: (target, name) => target[name] || (name === "createDiagnosticCollection" ? () => ({ set: (uri, list) => diagnostics.set(uri.text, list), dispose: () => {} })
     : (...given) => {
       providers[name] = given[Math.min(1, given.length - 1)];
       return disposable;
@@ -118,8 +118,8 @@ async function tryFeatures() {
   verdict(fold.given.slice(0, 2), [0, 1], "a fold");
   const [selection] = await providers.registerSelectionRangeProvider.provideSelectionRanges(document, [{ line: 1, character: 13 }]);
   verdict([selection.given[0].given, selection.given[1].given[0].given], [[1, 12, 1, 13], [1, 8, 1, 13]], "a selection, and a larger one");
-  const help = await providers.registerSignatureHelpProvider.provideSignatureHelp(document, { line: 1, character: 12 });
-  verdict([help.signatures[0].given[0], help.signatures[0].parameters.length, help.activeParameter], ["LDM d", 1, 0], "the syntax of a statement");
+  const signatureHelp = await providers.registerSignatureHelpProvider.provideSignatureHelp(document, { line: 1, character: 12 });
+  verdict([signatureHelp.signatures[0].given[0], signatureHelp.signatures[0].parameters.length, signatureHelp.activeParameter], ["LDM d", 1, 0], "the syntax of a statement");
   const [lens] = await providers.registerCodeLensProvider.provideCodeLenses(document);
   const { title, command, arguments: [at, , [place]] } = lens.given[1];
   verdict([title, command, at.text, place.given[1].given], ["1 reference", "editor.action.showReferences", "file:///tmp/a.asm", [0, 12, 0, 17]], "a lens");
@@ -127,9 +127,9 @@ async function tryFeatures() {
   verdict([symbol.given[0], symbol.given[1], symbol.given[2]], ["start", 11, "a.asm"], "a symbol of the workspace");
   const [item] = await providers.registerCallHierarchyProvider.prepareCallHierarchy(document, { line: 0, character: 13 });
   verdict(item.given.slice(0, 2), [11, "start"], "a routine");
-  const [kind, name, detail, where, whole, own] = item.given;
+  const [kind, name, detail, itemUri, fullRange, nameRange] = item.given;
   const plain = (given) => ({ start: { line: given[0], character: given[1] }, end: { line: given[2], character: given[3] } });
-  const callItem = { kind, name, detail, uri: where, range: plain(whole.given), selectionRange: plain(own.given) };
+  const callItem = { kind, name, detail, uri: itemUri, range: plain(fullRange.given), selectionRange: plain(nameRange.given) };
   verdict(await providers.registerCallHierarchyProvider.provideCallHierarchyOutgoingCalls(callItem), [], "the outgoing calls of a routine");
   verdict(await providers.registerDocumentLinkProvider.provideDocumentLinks(document), [], "a program has no links");
   const tokens = providers.registerDocumentSemanticTokensProvider;
@@ -163,7 +163,8 @@ verdict(data.length % 5 === 0 && data.length > 0, true, "semantic colours");
 await tryFeatures();
 verdict(factories.mcs4.createDebugAdapterDescriptor().given, [`${TOP}mcs4`, ["dap"], { env: {} }], "the debug adapter");
 verdict(factories.provider.resolveDebugConfiguration(undefined, {}).program, "/tmp/a.asm", "F5 debugs the program in the editor");
-// The extension assigns its language to an .asm file only if board.toml is in the file's folder, or mcs4.toml is there or above, and only once.
+// The extension assigns its language to an .asm file only once. It does so only if board.toml is in the file's folder, or mcs4.toml is in that folder
+// or above it.
 const folder = mkdtempSync(join(tmpdir(), "extension."));
 for (const name of ["board", "project/deep/er", "other"]) mkdirSync(join(folder, name), { recursive: true });
 for (const name of ["board/board.toml", "project/mcs4.toml"]) writeFileSync(join(folder, name), "");
@@ -175,9 +176,9 @@ for (const name of ["board/a.asm", "project/deep/er/A.ASM", "project/b.asm", "ot
 for (const name of ["board/a.test", "project/a.props", "other/a.test", "other/a.props"]) show(name, "plaintext");
 show("board/mine.asm", "mcs4");
 show("board/old.asm", "asm", "git");
-verdict(assigned.slice(0, 3), ["board/a.asm", "project/deep/er/A.ASM", "project/b.asm"].map((name) => [join(folder, name), "mcs4"]),
+verdict(assignedLanguages.slice(0, 3), ["board/a.asm", "project/deep/er/A.ASM", "project/b.asm"].map((name) => [join(folder, name), "mcs4"]),
   "the .asm files that get the extension's language");
-verdict(assigned.slice(3), [[join(folder, "board/a.test"), "mcs4-test"], [join(folder, "project/a.props"), "mcs4-props"]],
+verdict(assignedLanguages.slice(3), [[join(folder, "board/a.test"), "mcs4-test"], [join(folder, "project/a.props"), "mcs4-props"]],
   "the tests and properties that get the extension's languages");
 rmSync(folder, { recursive: true });
 const manifest = JSON.parse(readFileSync(`${TOP}editors/vscode/package.json`, "utf8"));

@@ -5,7 +5,7 @@ import pathlib
 import re
 
 from side_by_side import CHECKS
-from mutants import WRONG_BOARDS, WRONG_LIMITS, WRONG_SEARCHES, WRONG_TOOLS
+from mutants import BOARD_MUTANTS, LIMIT_MUTANTS, SEARCH_MUTANTS, TOOL_MUTANTS
 
 TOP = pathlib.Path(__file__).resolve().parent.parent.parent
 
@@ -36,10 +36,10 @@ def sweep_phrases():
 
 
 def check_phrases():
-    """Yields the phrases about the number of wrong implementations that the checks must detect, the phrase about seeded boards, and the name of each
+    """Yields the phrases about the number of faulty implementations that the checks must detect, the phrase about seeded boards, and the name of each
     check."""
-    yield f"{len(WRONG_BOARDS) + len(WRONG_TOOLS)} wrong readings"
-    yield f"{len(WRONG_SEARCHES) + len(WRONG_LIMITS)} wrong searches"
+    yield f"{len(BOARD_MUTANTS) + len(TOOL_MUTANTS)} wrong readings"
+    yield f"{len(SEARCH_MUTANTS) + len(LIMIT_MUTANTS)} wrong searches"
     boards = re.search(r"^RANDOM_BOARD_COUNT = (\d+)$", (TOP / "checks/runs").read_text(), re.M)
     yield f"of {boards[1]} seeded boards in various TOML spellings"
     for path in sorted((TOP / "checks").iterdir()):

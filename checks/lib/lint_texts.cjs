@@ -1,6 +1,6 @@
 // Prints the messages of ESLint about texts: `NODE_PATH=/usr/share/nodejs node lint_texts.cjs < LINES`, in the folder js. Each line has the name of a
-// module, a space, and the text of the module. The output has a line for each of them, with its messages. One process reads all texts, because most
-// of the time of a process is ESLint's start.
+// module, a space, and the text of the module. The output has one line for each module, with its messages. One process reads all texts, because
+// starting ESLint takes most of the time.
 const eslint = require("eslint");
 
 const linter = new eslint.CLIEngine({});

@@ -31,7 +31,7 @@ class Firefox(BrowserDriver):
     # Firefox 153 often calls no listeners of `pagehide`, but it always calls those of `beforeunload`.
     always_calls_pagehide = False
     # With these settings, Firefox stores no site data.
-    blocks_data = {"network.cookie.cookieBehavior": 2}
+    data_blocking_settings = {"network.cookie.cookieBehavior": 2}
 
     def __init__(self, folder, download_folder, **settings):
         profile = pathlib.Path(folder)

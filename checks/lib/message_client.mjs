@@ -15,7 +15,7 @@ export class MessageClient {
     /** The number of the last request. */
     this.number = 0;
     this.wake = () => {};
-    this.child.stdout.on("data", (bytes) => this.take(bytes));
+    this.child.stdout.on("data", (bytes) => this.receive(bytes));
     this.child.stderr.on("data", (bytes) => {
       this.stderr += bytes;
     });
@@ -41,7 +41,7 @@ export class MessageClient {
   }
 
   /** Adds received bytes, and checks and stores the messages that are complete. */
-  take(bytes) {
+  receive(bytes) {
     const { messages, rest } = MessageClient.messagesIn(this.input.length === 0 ? bytes : Buffer.concat([this.input, bytes]));
     this.input = rest;
     for (const message of messages) {

@@ -51,14 +51,14 @@ def send_src_to_all_banks(chips: Chips, _bank: int, byte: int) -> None:
         chips.bank_src[bank] = byte
 
 
-def write_latch_with(is_edge: Callable[[int, int], bool], data_is_new: bool) -> Callable[[Chips, dict, object, int], None]:
+def write_latch_with(is_edge: Callable[[int, int], bool], uses_new_data: bool) -> Callable[[Chips, dict, object, int], None]:
     """Returns a port write that clocks chains at the wrong edge, or that shifts in the old level of the data line."""
     def write(chips: Chips, latches: dict, port: object, value: int) -> None:
         levels_before = [(chips.level(clock), chips.level(data)) for clock, data in chips.clocks]
         latches[port] = value
         for n, (clock, data) in enumerate(chips.clocks):
             if is_edge(levels_before[n][0], chips.level(clock)):
-                chips.chains[n] = [chips.level(data) if data_is_new else levels_before[n][1], *chips.chains[n][:-1]]
+                chips.chains[n] = [chips.level(data) if uses_new_data else levels_before[n][1], *chips.chains[n][:-1]]
     return write
 
 
@@ -81,7 +81,7 @@ def end_before_other_reasons(board: Board, cycles: int, max_cycles: int, is_watc
 SKIPPED_INSTRUCTIONS = ("JCN", "FIM", "SRC", "FIN", "JIN", "JUN", "JMS", "INC", "ISZ", "ADD", "SUB", "LD", "XCH", "BBL", "LDM", "WRM", "WMP", "WRR", "SBM", "RDM",
            "RDR", "ADM", "DCL")
 CORRECT_STOP_REASON = Board.stop_reason
-WRONG_BOARDS: dict[str, Callable[[], AbstractContextManager]] = {
+BOARD_MUTANTS: dict[str, Callable[[], AbstractContextManager]] = {
     "DAA clears the carry": replace_instruction("DAA", daa_without_carry),
     "ISZ jumps on its own page": replace_instruction("ISZ", isz_on_own_page),
     "BBL leaves nothing": replace_instruction("BBL", bbl_without_address),
@@ -105,22 +105,22 @@ def as_number(text: str) -> object:
     return float(text) if re.fullmatch(r"[0-9]+(E[0-9]+)?", text) else text
 
 
-def changes_by_number(before: Board, after: Board) -> list[str]:
+def changes_compared_as_numbers(before: Board, after: Board) -> list[str]:
     """Returns the changes by an instruction, except changes of chains whose texts are equal as numbers."""
     chains = ["".join(str(bit) for bit in chain) for chain in before.chips.chains]
     return [change for change in CORRECT_CHANGES_BETWEEN(before, after)
             if not change.startswith("chain") or as_number(change.split()[1]) != as_number(chains[int(change[5])])]
 
 
-def levels_by_number(board: Board, source: expected_tool_output.Source) -> dict[str, str]:
+def levels_with_numeric_counter(board: Board, source: expected_tool_output.Source) -> dict[str, str]:
     """Returns the levels with the program counter as a number, so that addresses that are equal as numbers do not differ."""
     return CORRECT_LEVELS(board, source) | {"pc": str(as_number(f"{board.pc:03X}"))}
 
 
 CORRECT_CHANGES_BETWEEN, CORRECT_LEVELS = expected_tool_output.changes_between, expected_tool_output.levels
-WRONG_TOOLS: dict[str, Callable[[], AbstractContextManager]] = {
-    "trace compares chains as numbers": replace_function(expected_tool_output, "changes_between", changes_by_number),
-    "wave compares addresses as numbers": replace_function(expected_tool_output, "levels", levels_by_number),
+TOOL_MUTANTS: dict[str, Callable[[], AbstractContextManager]] = {
+    "trace compares chains as numbers": replace_function(expected_tool_output, "changes_between", changes_compared_as_numbers),
+    "wave compares addresses as numbers": replace_function(expected_tool_output, "levels", levels_with_numeric_counter),
 }
 
 
@@ -131,7 +131,7 @@ def with_incremented_number(words: list[str], index: int) -> str:
     return " ".join([*words[:index], str(int(words[index]) + 1), *words[index + 1:]])
 
 
-WRONG_ANSWERS: dict[str, tuple[str, Callable[[list[str]], list[str]]]] = {
+ANSWER_MUTANTS: dict[str, tuple[str, Callable[[list[str]], list[str]]]] = {
     "a cycle too many": ("run", lambda lines: [with_incremented_number(lines[0].split(), 3)]),
     "a count too many": ("count", lambda lines: [*lines[:-1], with_incremented_number(lines[-1].split(), 1)]),
     "a count that is left out": ("count", lambda lines: lines[:-1]),
@@ -149,7 +149,7 @@ def zeros_like(value: Any) -> Any:
     return type(value)(map(zeros_like, value)) if isinstance(value, (tuple, bytes)) else 0
 
 
-def saved_without(index: int) -> Callable[[Board], tuple]:
+def save_state_without(index: int) -> Callable[[Board], tuple]:
     """Returns a function that saves a machine's state without one of its parts."""
     def save_state(board: Board) -> tuple:
         state = CORRECT_STATE_OF(board)
@@ -157,7 +157,7 @@ def saved_without(index: int) -> Callable[[Board], tuple]:
     return save_state
 
 
-def values_but_largest(board: Board) -> dict[int, Levels]:
+def values_without_largest(board: Board) -> dict[int, Levels]:
     """Omits the largest value that the next cycle can read, unless it is the only value."""
     values = CORRECT_VALUES_READ(board)
     return {value: values[value] for value in sorted(values)[:max(len(values) - 1, 1)]}
@@ -168,19 +168,19 @@ def values_at_constant_test(board: Board) -> dict[int, Levels]:
     return {value: levels for value, levels in CORRECT_VALUES_READ(board).items() if second_search.next_instruction(board)[0] != "JCN" or levels[1] == 1}
 
 
-def tested_only_at_end(board: Board, levels: Levels, is_bad: Condition, pause: int) -> tuple[int, bool]:
+def test_only_at_next_state(board: Board, levels: Levels, is_failure: Condition, pause: int) -> tuple[int, bool]:
     """Tests conditions only when the search reaches a state, not in the cycles between two states."""
     cycle_count, _bad = CORRECT_RUN_TO_NEXT_STATE(board, levels, lambda _board: False, pause)
-    return cycle_count, is_bad(board)
+    return cycle_count, is_failure(board)
 
 
 def condition_between_instructions(conditions: list[list[Comparison]]) -> Condition:
     """Does not test conditions between the two cycles of an instruction."""
-    is_bad = CORRECT_CONDITION(conditions)
-    return lambda board: not board.owed and is_bad(board)
+    is_failure = CORRECT_CONDITION(conditions)
+    return lambda board: not board.owed and is_failure(board)
 
 
-def is_met_from_left(board: Board, comparison: Comparison) -> bool:
+def is_met_with_reversed_bits(board: Board, comparison: Comparison) -> bool:
     """Reverses the bits of a number, so that line 0 is the highest bit."""
     if comparison[0] == "mistake":
         return CORRECT_IS_MET(board, comparison)
@@ -210,13 +210,13 @@ def elapsed_without_restart(board: Board) -> int:
 CORRECT_STATE_OF, CORRECT_VALUES_READ, CORRECT_RUN_TO_NEXT_STATE = second_search.state_of, second_search.values_read, second_search.run_to_next_state
 CORRECT_CONDITION, CORRECT_IS_MET, CORRECT_NEXT_INSTRUCTION = second_search.condition_of, second_search.is_met, second_search.next_instruction
 CORRECT_RUN_CYCLE, CORRECT_MISTAKES = second_search.run_cycle, second_search.mistakes_of_next_cycle
-def seen_without_reset(board: Board) -> int:
+def marks_seen_without_reset(board: Board) -> int:
     """Does not reset the number of seen marks when the condition becomes true."""
     sequence = second_search.mark_sequence_of(board)
     return second_search.marks_seen(board) if sequence and sequence.opens(board) else CORRECT_MARKS_SEEN_AFTER(board)
 
 
-def seen_while_condition_true(board: Board) -> int:
+def marks_seen_while_condition_true(board: Board) -> int:
     """Counts marks while the condition is true, instead of starting after it."""
     sequence = second_search.mark_sequence_of(board)
     return int(second_search.is_mark_shown(board, sequence.marks[0])) if sequence and sequence.opens(board) else CORRECT_MARKS_SEEN_AFTER(board)
@@ -238,19 +238,20 @@ CORRECT_ELAPSED_AFTER, CORRECT_IS_LATE = second_search.elapsed_after, second_sea
 CORRECT_MARKS_SEEN_AFTER, CORRECT_IS_MARK_SHOWN, CORRECT_IS_EARLY = second_search.marks_seen_after, second_search.is_mark_shown, second_search.is_early
 STATE_PARTS = ("accumulator", "carry", "counter", "DCL", "owed cycle", "registers", "return addresses", "SRC of the ROMs", "SRC of the banks",
          "ports of ROMs", "ports of RAM", "chains", "RAM", "open calls", "elapsed cycles", "marks")
-WRONG_SEARCHES: dict[str, Callable[[], AbstractContextManager]] = {
-    **{f"a state without its {part}": replace_function(second_search, "state_of", saved_without(place)) for place, part in enumerate(STATE_PARTS)},
-    "a value is left out": replace_function(second_search, "values_read", values_but_largest),
+SEARCH_MUTANTS: dict[str, Callable[[], AbstractContextManager]] = {
+    **{f"a state without its {part}": replace_function(second_search, "state_of", save_state_without(index))
+       for index, part in enumerate(STATE_PARTS)},
+    "a value is left out": replace_function(second_search, "values_read", values_without_largest),
     "TEST is constant": replace_function(second_search, "values_read", values_at_constant_test),
     "JCN 9 reads nothing": replace_function(second_search, "next_instruction", lambda board: ("", 0) if CORRECT_NEXT_INSTRUCTION(board) == ("JCN", 9) else CORRECT_NEXT_INSTRUCTION(board)),
     "RDR reads nothing": replace_function(second_search, "next_instruction", lambda board: ("", 0) if CORRECT_NEXT_INSTRUCTION(board)[0] == "RDR" else CORRECT_NEXT_INSTRUCTION(board)),
     "an owed cycle reads": replace_function(second_search, "next_instruction", lambda board: ("", 0) if board.is_at_invalid_code() else board4004.CODES[board.rom[board.pc]]),
     "each row is driven": replace_function(Chips, "is_pulled", lambda chips, line: int(any(chips.columns[column] == line for _row, column in chips.pressed_keys))),
     "a stretch is cut a cycle late": replace_function(second_search, "run_to_next_state", lambda board, levels, bad, pause: CORRECT_RUN_TO_NEXT_STATE(board, levels, bad, pause + 1)),
-    "looked at where states stand": replace_function(second_search, "run_to_next_state", tested_only_at_end),
+    "looked at where states stand": replace_function(second_search, "run_to_next_state", test_only_at_next_state),
     "not looked at between two cycles": replace_function(second_search, "condition_of", condition_between_instructions),
     "one comparison of a row is enough": replace_function(second_search, "condition_of", lambda nevers: CORRECT_CONDITION([[each] for row in nevers for each in row])),
-    "lines count from the left": replace_function(second_search, "is_met", is_met_from_left),
+    "lines count from the left": replace_function(second_search, "is_met", is_met_with_reversed_bits),
     "out is in": replace_function(second_search, "is_met", lambda board, words: CORRECT_IS_MET(board, words if words[0] == "mistake" else ("in", *words[1:]))),
     "mistakes are looked at at reads": replace_function(second_search, "mistakes_of_next_cycle", lambda board: CORRECT_MISTAKES(board) if second_search.is_reading(board) else set()),
     "four calls may be open": replace_function(second_search, "MAX_OPEN_CALLS", 4),
@@ -261,8 +262,8 @@ WRONG_SEARCHES: dict[str, Callable[[], AbstractContextManager]] = {
         second_search.elapsed_of(board) if second_search.is_reading(board) else CORRECT_ELAPSED_AFTER(board))),
     "a limit is a cycle longer": replace_function(second_search, "is_late", lambda board, within: within is not None and CORRECT_IS_LATE(board, within + 1)),
     "a limit is a cycle shorter": replace_function(second_search, "is_late", lambda board, within: within is not None and CORRECT_IS_LATE(board, within - 1)),
-    "marks are kept when the condition holds": replace_function(second_search, "marks_seen_after", seen_without_reset),
-    "a mark is seen while the condition holds": replace_function(second_search, "marks_seen_after", seen_while_condition_true),
+    "marks are kept when the condition holds": replace_function(second_search, "marks_seen_after", marks_seen_without_reset),
+    "a mark is seen while the condition holds": replace_function(second_search, "marks_seen_after", marks_seen_while_condition_true),
     "a key is up if its line is 0": replace_function(second_search, "is_mark_shown", is_shown_by_line("up")),
     "a key is down if its line is 1": replace_function(second_search, "is_mark_shown", is_shown_by_line("down")),
     "up is down": replace_function(second_search, "is_mark_shown", lambda board, mark: CORRECT_IS_MARK_SHOWN(board, ("down" if mark[0] == "up" else "up", *mark[1:]))),
@@ -282,7 +283,7 @@ def values_with_few_lines(board: Board) -> dict[int, Levels]:
 
 
 CORRECT_ALLOWED_KEYS, CORRECT_TEST_LEVELS, CORRECT_MAX_KEYS_DOWN = second_search.allowed_keys, second_search.allowed_test_levels, second_search.max_keys_down
-WRONG_LIMITS: dict[str, Callable[[], AbstractContextManager]] = {
+LIMIT_MUTANTS: dict[str, Callable[[], AbstractContextManager]] = {
     "together is ignored": replace_function(second_search, "max_keys_down", lambda board: len(second_search.all_keys(board))),
     "one more key is down": replace_function(second_search, "max_keys_down", lambda board: CORRECT_MAX_KEYS_DOWN(board) + 1),
     "one key less is down": replace_function(second_search, "max_keys_down", lambda board: max(CORRECT_MAX_KEYS_DOWN(board) - 1, 0)),

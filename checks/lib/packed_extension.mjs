@@ -56,10 +56,10 @@ const diagnosticsOf = ({ shown }, { uri }) => until(() => shown.diagnostics.has(
   .map(({ given: [range, words] }) => [range.start.line, words.split("\n")[0]]));
 
 async function tryTexts(editor) {
-  const wrong = editor.open("lock/wrong.asm", "plaintext");
-  verdict(wrong.languageId, "mcs4", "an .asm file in a folder with a board");
-  const line = readFileSync(wrong.fileName, "utf8").split("\n").findIndex((text) => text.includes("JMP enter"));
-  verdict(await diagnosticsOf(editor, wrong), [[line, "JMP is not an instruction; JUN?"]], "errors in a text, without mcs4 on the PATH");
+  const wrongText = editor.open("lock/wrong.asm", "plaintext");
+  verdict(wrongText.languageId, "mcs4", "an .asm file in a folder with a board");
+  const line = readFileSync(wrongText.fileName, "utf8").split("\n").findIndex((text) => text.includes("JMP enter"));
+  verdict(await diagnosticsOf(editor, wrongText), [[line, "JMP is not an instruction; JUN?"]], "errors in a text, without mcs4 on the PATH");
   verdict(await diagnosticsOf(editor, editor.open("lone/three_lamps.4004", "mcs4")), [], "a program with the extension .4004");
   verdict(await diagnosticsOf(editor, editor.open("lone/three_lamps.test", "plaintext")), [], "the tests of a .4004 program");
 }
@@ -81,13 +81,13 @@ async function tryTests(editor) {
     .get(editor.vscode.Uri.file(join(folder, "printer", "printing_calculator.test")).toString()).children.size]], "the texts of tests, with the numbers of their tests");
   const itemsOf = (name) => tests.items.get(editor.vscode.Uri.file(join(folder, name)).toString());
   const lock = itemsOf("lock/lock.test");
-  const all = await runTests(editor, "Run", [lock]);
-  verdict([all.isEnded, all.results.length, all.results.every(([kind]) => kind === "passed")], [true, lock.children.size, true], "tests of a project run");
-  const lone = [];
-  itemsOf("lone/three_lamps.test").children.forEach((item) => lone.push(item));
-  const [, failingTest] = lone;
+  const testRun = await runTests(editor, "Run", [lock]);
+  verdict([testRun.isEnded, testRun.results.length, testRun.results.every(([kind]) => kind === "passed")], [true, lock.children.size, true], "tests of a project run");
+  const testItems = [];
+  itemsOf("lone/three_lamps.test").children.forEach((item) => testItems.push(item));
+  const [, failingTest] = testItems;
   verdict([failingTest.label, failingTest.range.start.line], ["it fails", 3], "the line of a test");
-  const { results } = await runTests(editor, "Run", lone);
+  const { results } = await runTests(editor, "Run", testItems);
   const [[, ], [kind, , message]] = results;
   const { given: [uri, at] } = message.location;
   verdict([results[0], kind, uri.fsPath, at.line], [["passed", "it begins"], "failed", join(folder, "lone", "three_lamps.test"), 5], "a failed test, and its location");
@@ -126,10 +126,10 @@ async function tryDebuggedTest(editor, configuration) {
   await client.event("stopped");
   const output = client.output();
   verdict(/three_lamps\.test:6: it fails: acc is \w+, but must be 9/.test(output), true, `a test is debugged: ${output.trim()}`);
-  const counter = async () => (await client.frames())[0].instructionPointerReference;
-  const before = await counter();
-  await client.move("stepBack");
-  verdict(before !== await counter(), true, "a step back from the failure");
+  const programCounter = async () => (await client.frames())[0].instructionPointerReference;
+  const before = await programCounter();
+  await client.runUntilStop("stepBack");
+  verdict(before !== await programCounter(), true, "a step back from the failure");
   await end();
 }
 

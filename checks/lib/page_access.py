@@ -5,7 +5,7 @@ borders, marks and lamps in both colour schemes."""
 import re
 
 from page_in_browser import (ESCAPE, GET_TEXT_OF_EDITOR, IS_AT_COUNTER, PUT_INTO_EDITOR, TAB, choose_example, send_lines, reopen_page, show_text,
-                             step_with_marks, stop_time)
+                             step_with_marks, pause_running_time)
 from verdicts import eventually, verdict
 from web_driver import Chromium
 
@@ -15,7 +15,7 @@ CONTROL_ROLES = {"button", "textbox", "searchbox", "combobox", "checkbox", "slid
 # The roles of regions, groups, dialogs, tables and images. Each of them except a group needs a name, so that a user of a screen reader can
 # distinguish them.
 NAMED_ROLES = {"region", "group", "tablist", "tabpanel", "dialog", "table", "log", "complementary", "image", "alertdialog"}
-# Symbols for which a screen reader says nothing useful.
+# Symbols for which a screen reader says nothing, or nothing useful.
 UNSPOKEN_SYMBOLS = re.compile("[\u25b2-\u25cf\u2713]")
 
 
@@ -30,12 +30,12 @@ def check(browser, page, _folder, _mcs4):
 def check_answers_announced(browser):
     """Checks that a screen reader announces the answer to a sent line, and an error with its message."""
     choose_example(browser, "three lamps")
-    stop_time(browser)
-    get_status = "return document.getElementById('answer-status').textContent"
+    pause_running_time(browser)
+    status_script = "return document.getElementById('answer-status').textContent"
     send_lines(browser, "poke acc 5")
-    eventually(browser, "the answer to a line is announced", get_status, re.compile(r"^ok \d+$"))
+    eventually(browser, "the answer to a line is announced", status_script, re.compile(r"^ok \d+$"))
     send_lines(browser, "poke acc 77")
-    eventually(browser, "the message about a rejected line is announced", get_status, re.compile(r"^no \d+.*: [a-z]"))
+    eventually(browser, "the message about a rejected line is announced", status_script, re.compile(r"^no \d+.*: [a-z]"))
 
 
 # Returns the id of the panel that has the focus. Outside the panels, returns the id of the focused element.
@@ -115,8 +115,8 @@ def check_contrast(browser, view):
 
 
 def check_view(browser, view):
-    """Checks that what is visible has names that a screen reader can speak, and enough contrast. `view` describes it in the verdicts. Returns the
-    list of the nodes from `nodes_of`."""
+    """Checks that the visible elements have names that a screen reader can speak, and enough contrast. `view` describes the view in the verdicts.
+    Returns the list of the nodes from `nodes_of`."""
     nodes = check_names(browser, view)
     check_contrast(browser, view)
     return nodes
@@ -161,7 +161,7 @@ def check_board(browser):
 def check_other_views(browser):
     """Checks that the other tabs have names and enough contrast, and that an invalid field is announced as invalid."""
     choose_example(browser, "calculator")
-    stop_time(browser)
+    pause_running_time(browser)
     for name in ("board", "wiring"):
         show_text(browser, name)
         browser.script(EXPAND_ALL, "#wiring")
@@ -180,7 +180,8 @@ def check_other_views(browser):
 
 
 def check_tests(browser):
-    """Checks that the results of tests and of a search, and the counts beside the source, have names and enough contrast. One test fails."""
+    """Checks that the results of tests and of a search, and the counts beside the source, have names and enough contrast. One of the tests is made to
+    fail."""
     show_text(browser, "tests")
     browser.script(PUT_INTO_EDITOR, "#tests-editor", "test it is dark\n  expect display 0\n  keys 5\n  expect display 6\n")
     browser.click("#tests-editor .send")

@@ -5,13 +5,13 @@ import re
 
 from driven import ELEMENT
 from page_access import check_view
-from page_in_browser import DOWN, ENTER, ESCAPE, GET_STATUS, IS_READY, STEPPED, TAB, TOP, choose_example, reopen_page, show_text, stop_time, until_ready
+from page_in_browser import DOWN, ENTER, ESCAPE, GET_STATUS, IS_READY, STEPPED, TAB, TOP, choose_example, reopen_page, show_text, pause_running_time, until_ready
 from verdicts import eventually, verdict
 from web_driver import Chromium
 
 CONTROL, SHIFT, UP = "\ue009", "\ue008", "\ue013"
 F1, F5, F8, F9, F10, F11 = "\ue031", "\ue035", "\ue038", "\ue039", "\ue03a", "\ue03b"
-# The messages after stepping over and out. F5 can pause time inside a subroutine or before a call, so each has two forms.
+# The messages after stepping over and out. F5 can pause time inside a subroutine or before a call, so each message has two forms.
 STEPPED_OVER = re.compile(f"{STEPPED.pattern}|^Returned to [0-9A-F]{{3}}, after ")
 STEPPED_OUT = re.compile("^Returned to |no call is open here")
 IS_PALETTE_OPEN = "const palette = document.getElementById('palette'); return palette !== null && palette.open"
@@ -24,8 +24,8 @@ return option && option.getAttribute('aria-selected') === 'true' ? [...option.pa
 GET_FOCUSED_ID = "return document.activeElement.id"
 GET_TOOLTIP = "const tip = document.getElementById('tooltip'); return tip.hidden ? '' : tip.textContent"
 GET_FRONT_TAB = "return document.querySelector('#text-tabs [aria-selected=true]').id"
-# The buttons that need no command, with the reason. They open a menu, belong to an open dialog or to the field next to them, or do the same as a
-# command.
+# The buttons that need no command, each with the reason. They open a menu, belong to an open dialog or to the field next to them, or do the same as
+# another command.
 BUTTONS_WITHOUT_COMMAND = {
     "menu-button": "opens the menu of files", "view-button": "opens the menu of panels", "cancel": "of work that goes on",
     "tour-close": "of the tour", "tour-back": "of the tour", "tour-put": "of the tour", "tour-next": "of the tour", "first-program": "as help.tour",
@@ -59,7 +59,7 @@ def execute_command(browser, query):
 def check_palette_contents(browser):
     """Checks that the palette lists every command, and that every button of the page has a command, except for tabs and exempt buttons."""
     choose_example(browser, "calculator")
-    stop_time(browser)
+    pause_running_time(browser)
     open_palette(browser)
     listed_commands = set(browser.script(GET_PALETTE_ITEMS))
     source = (TOP / "js/words/page_commands.js").read_text()
@@ -88,16 +88,16 @@ def check_listbox(browser):
     browser.script("document.getElementById('name').focus()")
     press_chord(browser, CONTROL, SHIFT, "p")
     eventually(browser, "Ctrl+Shift+P opens the palette", IS_PALETTE_OPEN, True)
-    get_roles = "return ['input', 'ul', 'li'].map((node) => document.querySelector(`#palette ${node}`).getAttribute('role'))"
-    verdict("the roles of the palette's parts", browser.script(get_roles), ["combobox", "listbox", "option"])
-    get_labels = "return ['', ' input', ' ul'].map((node) => document.querySelector(`#palette${node}`).getAttribute('aria-label'))"
-    verdict("the names of the palette's parts", browser.script(get_labels), ["Commands", "Type a command", "Commands"])
+    roles_script = "return ['input', 'ul', 'li'].map((node) => document.querySelector(`#palette ${node}`).getAttribute('role'))"
+    verdict("the roles of the palette's parts", browser.script(roles_script), ["combobox", "listbox", "option"])
+    labels_script = "return ['', ' input', ' ul'].map((node) => document.querySelector(`#palette${node}`).getAttribute('aria-label'))"
+    verdict("the names of the palette's parts", browser.script(labels_script), ["Commands", "Type a command", "Commands"])
     verdict("the first command is selected", browser.script(GET_ACTIVE_OPTION), 0)
     browser.keys([DOWN, DOWN, UP])
     verdict("the arrow keys select another command", browser.script(GET_ACTIVE_OPTION), 1)
     browser.keys([UP, UP])
-    get_last_index = "return document.querySelectorAll('#palette-list li').length - 1"
-    verdict("the Up arrow wraps around to the last command", browser.script(GET_ACTIVE_OPTION), browser.script(get_last_index))
+    last_index_script = "return document.querySelectorAll('#palette-list li').length - 1"
+    verdict("the Up arrow wraps around to the last command", browser.script(GET_ACTIVE_OPTION), browser.script(last_index_script))
     browser.type_into("#palette input", "step ov")
     eventually(browser, "typed words find a command, which shows its key", GET_FIRST_COMMAND, "Step overTimeF10")
     verdict("the field keeps the focus", browser.script("return document.activeElement.getAttribute('role')"), "combobox")
@@ -139,10 +139,10 @@ def check_keys(browser):
     browser.script("document.querySelector('#program-editor .cm-editor').lineEditor.setCursor({ line: 12, ch: 0 })")
     browser.script("document.activeElement.blur()")
     browser.keys([F9])
-    count_breakpoints = "return document.querySelectorAll('#breakpoint-list li').length"
-    eventually(browser, "F9 sets a breakpoint at the caret", count_breakpoints, 1)
+    breakpoint_count_script = "return document.querySelectorAll('#breakpoint-list li').length"
+    eventually(browser, "F9 sets a breakpoint at the caret", breakpoint_count_script, 1)
     browser.keys([F9])
-    eventually(browser, "F9 clears the breakpoint", count_breakpoints, 0)
+    eventually(browser, "F9 clears the breakpoint", breakpoint_count_script, 0)
     browser.keys([F5])
     eventually(browser, "F5 continues", GET_STATUS, re.compile("^Running"))
     browser.keys([F8])
@@ -164,8 +164,8 @@ def check_place_palette(browser):
     browser.until(IS_PALETTE_OPEN, True)
     browser.type_into("#palette input", ":3" + ENTER)
     eventually(browser, "the source is in front after a line is chosen", GET_FRONT_TAB, "program-tab")
-    get_caret_line = "return document.querySelector('#program-editor .cm-editor').lineEditor.getCursor().line"
-    eventually(browser, "the chosen source line has the caret", get_caret_line, 2)
+    caret_line_script = "return document.querySelector('#program-editor .cm-editor').lineEditor.getCursor().line"
+    eventually(browser, "the chosen source line has the caret", caret_line_script, 2)
     browser.script("document.activeElement.blur()")
     press_chord(browser, CONTROL, "p")
     browser.until(IS_PALETTE_OPEN, True)
@@ -186,10 +186,10 @@ def check_command_effects(browser):
     """Checks that one command of each kind, executed through the palette, has its effect."""
     execute_command(browser, "show tests")
     eventually(browser, "the command shows the tests", GET_FRONT_TAB, "tests-tab")
-    get_text_size = "return document.getElementById('texts').style.getPropertyValue('--text-size')"
-    size_before = browser.script(get_text_size)
+    text_size_script = "return document.getElementById('texts').style.getPropertyValue('--text-size')"
+    size_before = browser.script(text_size_script)
     execute_command(browser, "larger text")
-    eventually(browser, "the command presses the button for larger text", f"{get_text_size} !== {size_before!r}", True)
+    eventually(browser, "the command presses the button for larger text", f"{text_size_script} !== {size_before!r}", True)
     execute_command(browser, "smaller text")
     execute_command(browser, "find in the text")
     eventually(browser, "the command opens the search of the text in front", "return document.activeElement.closest('#tests-editor') !== null", True)
@@ -208,7 +208,7 @@ def check_command_effects(browser):
     browser.keys([ESCAPE])
     execute_command(browser, "open the example stopwatch")
     eventually(browser, "the command opens the example", "return document.title", re.compile("^stopwatch"))
-    stop_time(browser)
+    pause_running_time(browser)
 
 
 GET_PAGE_COLOUR = "return getComputedStyle(document.body).backgroundColor"
@@ -216,25 +216,25 @@ GET_PAGE_COLOUR = "return getComputedStyle(document.body).backgroundColor"
 
 def check_theme(browser):
     """Checks that the user's choice of a theme survives a reload, and that the theme follows the system by default."""
-    light = browser.script(GET_PAGE_COLOUR)
+    light_colour = browser.script(GET_PAGE_COLOUR)
     execute_command(browser, "theme dark")
-    eventually(browser, "the theme is dark", f"{GET_PAGE_COLOUR} !== {light!r}", True)
-    dark = browser.script(GET_PAGE_COLOUR)
-    get_scheme = "return getComputedStyle(document.documentElement).colorScheme"
-    verdict("the browser's controls are dark, too", browser.script(get_scheme), "dark")
+    eventually(browser, "the theme is dark", f"{GET_PAGE_COLOUR} !== {light_colour!r}", True)
+    dark_colour = browser.script(GET_PAGE_COLOUR)
+    scheme_script = "return getComputedStyle(document.documentElement).colorScheme"
+    verdict("the browser's controls are dark, too", browser.script(scheme_script), "dark")
     browser.reload()
     until_ready(browser)
-    eventually(browser, "the theme after a reload", GET_PAGE_COLOUR, dark)
+    eventually(browser, "the theme after a reload", GET_PAGE_COLOUR, dark_colour)
     browser.command("Emulation.setEmulatedMedia", features=[{"name": "prefers-color-scheme", "value": "dark"}])
     execute_command(browser, "theme light")
-    eventually(browser, "the chosen light theme is used although the system is dark", GET_PAGE_COLOUR, light)
+    eventually(browser, "the chosen light theme is used although the system is dark", GET_PAGE_COLOUR, light_colour)
     execute_command(browser, "theme system")
-    eventually(browser, "the system theme is dark in a dark system", GET_PAGE_COLOUR, dark)
+    eventually(browser, "the system theme is dark in a dark system", GET_PAGE_COLOUR, dark_colour)
     browser.command("Emulation.setEmulatedMedia", features=[])
-    eventually(browser, "the system theme changes with the system", GET_PAGE_COLOUR, light)
+    eventually(browser, "the system theme changes with the system", GET_PAGE_COLOUR, light_colour)
 
 
-HOVER = {"type": "pointer", "id": "mouse", "parameters": {"pointerType": "mouse"}}
+MOUSE_POINTER = {"type": "pointer", "id": "mouse", "parameters": {"pointerType": "mouse"}}
 
 
 def check_tooltips(browser):
@@ -247,9 +247,9 @@ def check_tooltips(browser):
     eventually(browser, "Escape hides the tooltip", GET_TOOLTIP, "")
     browser.script("document.activeElement.blur()")
     move_to_step = {"type": "pointerMove", "duration": 0, "x": 0, "y": 0, "origin": {ELEMENT: browser.find("#step")}}
-    browser.actions({**HOVER, "actions": [move_to_step]})
+    browser.actions({**MOUSE_POINTER, "actions": [move_to_step]})
     eventually(browser, "a tooltip appears under the pointer", GET_TOOLTIP, re.compile("^Step into.* F11$"))
-    browser.actions({**HOVER, "actions": [{"type": "pointerMove", "duration": 0, "x": 300, "y": 300}]})
+    browser.actions({**MOUSE_POINTER, "actions": [{"type": "pointerMove", "duration": 0, "x": 300, "y": 300}]})
     eventually(browser, "the tooltip disappears when the pointer leaves", GET_TOOLTIP, "")
     status_before = browser.script(GET_STATUS)
     browser.touch("#out", 900)
@@ -283,8 +283,8 @@ def check_toolbar(browser):
     browser.keys([ENTER])
     eventually(browser, "Enter opens the File menu", IS_MENU_EXPANDED, "true")
     verdict("the first item of the menu has the focus", browser.script(GET_FOCUSED_ID), "open-button")
-    get_roles = "return [...document.querySelectorAll('#menu button')].map((node) => node.getAttribute('role')).join(' ')"
-    verdict("the roles of the menu's items", set(browser.script(get_roles).split()), {"menuitem"})
+    roles_script = "return [...document.querySelectorAll('#menu button')].map((node) => node.getAttribute('role')).join(' ')"
+    verdict("the roles of the menu's items", set(browser.script(roles_script).split()), {"menuitem"})
     browser.keys([UP])
     verdict("the Up arrow wraps around to the last item of the menu", browser.script(GET_FOCUSED_ID), "projects-button")
     browser.keys([ESCAPE])
@@ -292,8 +292,8 @@ def check_toolbar(browser):
     verdict("the focused element after the menu was closed", browser.script(GET_FOCUSED_ID), "menu-button")
     browser.script("document.activeElement.blur()")
     browser.click("#theme-button")
-    get_checked = "return [...document.querySelectorAll('#theme-menu button')].map((node) => node.getAttribute('aria-checked'))"
-    eventually(browser, "the theme menu marks the selected theme", get_checked, ["true", "false", "false"])
+    checked_items_script = "return [...document.querySelectorAll('#theme-menu button')].map((node) => node.getAttribute('aria-checked'))"
+    eventually(browser, "the theme menu marks the selected theme", checked_items_script, ["true", "false", "false"])
     browser.click("#front h2")
     verdict("a click outside closes the theme menu", browser.script("return document.getElementById('theme-menu').hidden"), True)
     browser.click("#front h2")
@@ -327,8 +327,8 @@ def check_first_visit(browser, page):
     eventually(browser, "the page is ready", IS_READY, True, 90)
     if browser.script("return indexedDB.databases === undefined"):
         return
-    is_welcome_open = "return document.getElementById('welcome').open"
-    if not browser.script(is_welcome_open):
+    welcome_open_script = "return document.getElementById('welcome').open"
+    if not browser.script(welcome_open_script):
         # If earlier checks have stored sessions, the page shows the cards only on command.
         execute_command(browser, "first steps")
     cards = browser.script(GET_WELCOME_CARDS)
@@ -351,7 +351,7 @@ def check_first_visit(browser, page):
     browser.go("about:blank")
     browser.go(page.as_uri())
     until_ready(browser)
-    verdict("the welcome cards do not appear again", browser.script(is_welcome_open), False)
+    verdict("the welcome cards do not appear again", browser.script(welcome_open_script), False)
 
 
 # Returns the id of the button in the middle of the tour's ring, or the button's class if it has no id. Returns "" if the ring is hidden or surrounds
@@ -383,16 +383,16 @@ def check_empty_panels(browser):
     eventually(browser, "the button of the empty watch panel moves the focus to the field", GET_FOCUSED_ID, "watched-field")
     browser.type_into("#watched-field", "R5" + ENTER)
     eventually(browser, "the note disappears when the panel has a value", IS_EMPTY_NOTE_SHOWN, False)
-    count_other_panels = "return [...document.querySelectorAll('.empty')].filter((node) => node.querySelectorAll('button').length !== 1).length"
-    verdict("the number of empty panels without exactly one button", browser.script(count_other_panels), 0)
+    other_panel_count_script = "return [...document.querySelectorAll('.empty')].filter((node) => node.querySelectorAll('button').length !== 1).length"
+    verdict("the number of empty panels without exactly one button", browser.script(other_panel_count_script), 0)
 
 
 def check_examples(browser):
     """Checks that every example in the list has a note, and that "three lamps" is the first example."""
     browser.click("#sessions-button")
     eventually(browser, "the number of examples without a note", COUNT_EXAMPLES_WITHOUT_NOTE, 0)
-    get_first_label = "return document.querySelector('#examples li:nth-child(2) button').getAttribute('aria-label')"
-    verdict("the first example in the list", browser.script(get_first_label), "new session: three lamps")
+    first_label_script = "return document.querySelector('#examples li:nth-child(2) button').getAttribute('aria-label')"
+    verdict("the first example in the list", browser.script(first_label_script), "new session: three lamps")
     browser.click("#close-sessions")
 
 

@@ -33,7 +33,7 @@ JUN_LINE, WMP_LINE, INC_LINE = (LINES.index(next(line for line in LINES if text 
 
 SET_PROGRAM = """
 document.querySelector("#program-editor .cm-editor").lineEditor.setValue(arguments[0])"""
-# Inserts a line before the line with this number, like an edit of the user. The arguments are the number, from 1, and the text.
+# Inserts a line before the line with this number, as an edit by the user does. The arguments are the number, from 1, and the text.
 INSERT_LINE = """
 const editor = document.querySelector("#program-editor .cm-editor").lineEditor;
 editor.replaceRange(`        ${arguments[1]}\\n`, { line: arguments[0] - 1, ch: 0 }, undefined, "paste")"""

@@ -3,7 +3,7 @@
 import re
 import time
 
-from page_in_browser import GET_ALL_NOTICES, GET_STATUS, GET_TEXT_OF_EDITOR, PUT_INTO_EDITOR, STEPPED, choose_example, reopen_page, show_text, stop_time
+from page_in_browser import GET_ALL_NOTICES, GET_STATUS, GET_TEXT_OF_EDITOR, PUT_INTO_EDITOR, STEPPED, choose_example, reopen_page, show_text, pause_running_time
 from verdicts import eventually, verdict
 
 CONTROL, SHIFT, ALT, ENTER, ESCAPE, TAB = "\ue009", "\ue008", "\ue00a", "\ue007", "\ue00c", "\ue004"
@@ -17,7 +17,7 @@ FIND_EDITOR = "const editor = document.querySelector(`${arguments[0]} .cm-editor
 GET_CARET = f"{FIND_EDITOR}const at = editor.getCursor(); return [at.line, at.ch, editor.getSelection()]"
 SET_CARET = f"{FIND_EDITOR}editor.setCursor({{ line: arguments[1], ch: arguments[2] }}); editor.focus()"
 GET_ERRORS = "return [...document.querySelectorAll('{} .fault-list li')].map((node) => node.textContent).join('|')"
-GET_UNDERLINED = "return [...document.querySelectorAll('{} .fault')].map((node) => node.textContent).join(' ')"
+GET_UNDERLINED_TEXT = "return [...document.querySelectorAll('{} .fault')].map((node) => node.textContent).join(' ')"
 GET_STATUS_OF = "return document.querySelector('{} .status-text').textContent"
 GET_EXPLANATION = "return document.querySelector('{} .meaning').textContent"
 GET_LISTING = "return document.querySelector('#lines-of-program').textContent"
@@ -87,7 +87,7 @@ def check_errors(browser):
     set_text(browser, PROGRAM_EDITOR, FAULTY_PROGRAM)
     browser.script(SET_CARET, PROGRAM_EDITOR, 1, 3)
     eventually(browser, "the messages about all errors of the program", GET_ERRORS.format(PROGRAM_EDITOR), ERROR_MESSAGES)
-    verdict("the underlined words", browser.script(GET_UNDERLINED.format(PROGRAM_EDITOR)), "LDX R0 JMP LDM loop")
+    verdict("the underlined words", browser.script(GET_UNDERLINED_TEXT.format(PROGRAM_EDITOR)), "LDX R0 JMP LDM loop")
     verdict("the caret and the selection are unchanged", browser.script(GET_CARET, PROGRAM_EDITOR), [1, 3, ""])
     verdict("the number of errors in the margin",
             browser.script("return document.querySelectorAll('#program-editor .mark-faults').length"), 5)
@@ -135,40 +135,40 @@ def check_typing(browser):
 def check_name_commands(browser):
     """Checks that the keys find a name's definition and its references, and rename it everywhere except in comments. Also checks going to a line,
     commenting, and replacing."""
-    get_text = GET_TEXT_OF_EDITOR.replace("arguments[0]", f"'{PROGRAM_EDITOR}'")
-    get_caret = GET_CARET.replace("arguments[0]", f"'{PROGRAM_EDITOR}'")
+    text_script = GET_TEXT_OF_EDITOR.replace("arguments[0]", f"'{PROGRAM_EDITOR}'")
+    caret_script = GET_CARET.replace("arguments[0]", f"'{PROGRAM_EDITOR}'")
     set_text(browser, PROGRAM_EDITOR, "loop:\tNOP ; loop\n\tFIM P0, loop\n\tJUN loop")
     browser.script(SET_CARET, PROGRAM_EDITOR, 2, 7)
     browser.keys([F12], 5, 5)
-    eventually(browser, "F12 selects the definition of a name", get_caret, [0, 4, "loop"])
+    eventually(browser, "F12 selects the definition of a name", caret_script, [0, 4, "loop"])
     browser.press_chord(SHIFT, F12)
     eventually(browser, "Shift+F12 lists the references to a name", "return [...document.querySelectorAll('#program-editor .places li')].map((node) => node.textContent).join('|')",
                "loop is at 3 places Close|line 1, where it is defined loop:\tNOP ; loop|line 2 FIM P0, loop|line 3 JUN loop")
     browser.click(f"{PROGRAM_EDITOR} .places li:nth-child(3) button")
-    eventually(browser, "a click in the list selects a reference", get_caret, [1, 13, "loop"])
+    eventually(browser, "a click in the list selects a reference", caret_script, [1, 13, "loop"])
     browser.keys([F2], 5, 5)
     browser.keys([*"jun", ENTER], 5, 5)
     eventually(browser, "a name that is an instruction is rejected with a message", "return document.querySelector('#program-editor .search:not([hidden]) p').textContent",
                "jun is an instruction.")
     browser.keys([BACKSPACE, BACKSPACE, BACKSPACE, *"again", ENTER], 5, 5)
-    eventually(browser, "the name is replaced in all places except comments", get_text, "again:\tNOP ; loop\n\tFIM P0, again\n\tJUN again")
+    eventually(browser, "the name is replaced in all places except comments", text_script, "again:\tNOP ; loop\n\tFIM P0, again\n\tJUN again")
     browser.press_chord(CONTROL, "g")
     browser.keys(["3", ENTER], 5, 5)
-    eventually(browser, "Ctrl+G goes to a line by its number", get_caret, [2, 0, ""])
+    eventually(browser, "Ctrl+G goes to a line by its number", caret_script, [2, 0, ""])
     browser.press_chord(CONTROL, "/")
-    eventually(browser, "Ctrl+/ makes a line a comment", get_text, "again:\tNOP ; loop\n\tFIM P0, again\n; \tJUN again")
+    eventually(browser, "Ctrl+/ makes a line a comment", text_script, "again:\tNOP ; loop\n\tFIM P0, again\n; \tJUN again")
     browser.press_chord(CONTROL, "/")
-    eventually(browser, "Ctrl+/ restores the line", get_text, "again:\tNOP ; loop\n\tFIM P0, again\n\tJUN again")
+    eventually(browser, "Ctrl+/ restores the line", text_script, "again:\tNOP ; loop\n\tFIM P0, again\n\tJUN again")
     browser.script(SET_CARET, PROGRAM_EDITOR, 0, 0)
     browser.press_chord(CONTROL, "h")
     browser.keys([*"again"], 5, 5)
     browser.script(f"document.querySelector('{PROGRAM_EDITOR} [aria-label=\"Replace with\"]').value = 'loop'")
     browser.script(f"[...document.querySelectorAll('{PROGRAM_EDITOR} .search button')].find((node) => node.textContent === 'Replace all').click()")
-    eventually(browser, "Replace all replaces the name", get_text, "loop:\tNOP ; loop\n\tFIM P0, loop\n\tJUN loop")
+    eventually(browser, "Replace all replaces the name", text_script, "loop:\tNOP ; loop\n\tFIM P0, loop\n\tJUN loop")
     browser.keys([ESCAPE], 5, 5)
 
 
-GET_FOLDED = "return [...document.querySelectorAll('#program-editor .folded-lines')].map((node) => node.textContent).join()"
+GET_FOLDED_LINES = "return [...document.querySelectorAll('#program-editor .folded-lines')].map((node) => node.textContent).join()"
 FOLDABLE_PROGRAM = """; two lines
 ; of comment
 
@@ -187,13 +187,13 @@ def check_folding(browser):
     set_text(browser, PROGRAM_EDITOR, FOLDABLE_PROGRAM)
     browser.until("return document.querySelectorAll('#program-editor .fold-open').length", 4)
     browser.click(f"{PROGRAM_EDITOR} .fold-open")
-    eventually(browser, "a click in the margin folds a part", GET_FOLDED, "\u2026 1 line")
+    eventually(browser, "a click in the margin folds a part", GET_FOLDED_LINES, "\u2026 1 line")
     verdict("the click sets no breakpoint", browser.script(f"return document.querySelector('{PROGRAM_EDITOR} .mark-breakpoints') === null"), True)
     browser.script(SET_CARET, PROGRAM_EDITOR, 5, 8)
     keys = [CONTROL, SHIFT, "["]
     browser.actions({"type": "key", "id": "keyboard", "actions": [
         *[{"type": "keyDown", "value": key} for key in keys], *[{"type": "keyUp", "value": key} for key in reversed(keys)]]})
-    eventually(browser, "Ctrl+Shift+[ folds the part at the caret", GET_FOLDED, "\u2026 1 line,\u2026 1 line")
+    eventually(browser, "Ctrl+Shift+[ folds the part at the caret", GET_FOLDED_LINES, "\u2026 1 line,\u2026 1 line")
     verdict("the innermost part is folded, and the caret is in its first line", browser.script(GET_CARET, PROGRAM_EDITOR)[:1], [4])
     verdict("folding does not change the text", browser.script(GET_TEXT_OF_EDITOR, PROGRAM_EDITOR), FOLDABLE_PROGRAM)
     browser.script(SET_CARET, PROGRAM_EDITOR, 7, 2)
@@ -201,15 +201,15 @@ def check_folding(browser):
     browser.actions({"type": "key", "id": "keyboard", "actions": [
         *[{"type": "keyDown", "value": key} for key in keys], *[{"type": "keyUp", "value": key} for key in reversed(keys)]]})
     browser.script(SET_CARET, PROGRAM_EDITOR, 7, 2)
-    eventually(browser, "Ctrl+Shift+Alt+[ folds all parts", GET_FOLDED, "\u2026 1 line,\u2026 2 lines,\u2026 1 line")
+    eventually(browser, "Ctrl+Shift+Alt+[ folds all parts", GET_FOLDED_LINES, "\u2026 1 line,\u2026 2 lines,\u2026 1 line")
     browser.click(f"{PROGRAM_EDITOR} .send")
     eventually(browser, "a folded program is assembled and runs", GET_STATUS, re.compile("^Running"))
-    stop_time(browser)
+    pause_running_time(browser)
     # On a busy machine, time can be paused before the first instruction, whose line is not folded.
     browser.click("#step")
     browser.until(GET_STATUS, STEPPED)
     # Time is paused either at the loop's label, so that the line below the label stays folded, or at that line.
-    eventually(browser, "the line at which the program is paused is unfolded", GET_FOLDED, re.compile("^\u2026 1 line(,\u2026 1 line){1,2}$"))
+    eventually(browser, "the line at which the program is paused is unfolded", GET_FOLDED_LINES, re.compile("^\u2026 1 line(,\u2026 1 line){1,2}$"))
 
 
 def check_line_numbers(browser):
@@ -241,9 +241,9 @@ def check_opened_text(browser, page):
     choose_example(browser, "calculator")
     time.sleep(0.5)
     verdict("an opened text is shown from its first line", browser.script(GET_SCROLL_TOP), 0)
-    are_lines_coloured = """const lines = [...document.querySelectorAll('#program-editor .cm-line')].filter((line) => line.textContent.trim() !== "");
+    lines_coloured_script = """const lines = [...document.querySelectorAll('#program-editor .cm-line')].filter((line) => line.textContent.trim() !== "");
 return lines.length > 20 && lines.every((line) => line.querySelector('span') !== null)"""
-    verdict("the lines of an opened text are coloured", browser.script(are_lines_coloured), True)
+    verdict("the lines of an opened text are coloured", browser.script(lines_coloured_script), True)
 
 
 def check_limits(browser):
@@ -288,7 +288,7 @@ def check_running(browser):
     eventually(browser, "Ctrl+Enter assembles and runs the source", GET_STATUS_OF.format(PROGRAM_EDITOR), "Assembled 3 bytes; running from 000.")
     eventually(browser, "the program is running", GET_STATUS, re.compile("^Running"))
     browser.until("return document.querySelector('#registers').textContent", re.compile("^acc7"))
-    stop_time(browser)
+    pause_running_time(browser)
     eventually(browser, "the machine is at the end of the program", "return document.querySelector('#registers').textContent", re.compile("^acc7.*pc00[12]"))
     browser.script("document.getElementById('lines').value = 'list 3 40'")
     show_text(browser, "console")
@@ -333,7 +333,7 @@ def check_board_text(browser):
     for wrong_text, corrected_text, message, underlined in BOARD_CORRECTIONS:
         set_text(browser, BOARD_EDITOR, text)
         eventually(browser, "the message about the error in the board's text", GET_ERRORS.format(BOARD_EDITOR), message)
-        verdict("the underlined text", browser.script(GET_UNDERLINED.format(BOARD_EDITOR)), underlined)
+        verdict("the underlined text", browser.script(GET_UNDERLINED_TEXT.format(BOARD_EDITOR)), underlined)
         text = text.replace(wrong_text, corrected_text)
     set_text(browser, BOARD_EDITOR, text)
     eventually(browser, "the error about a lamp at a missing ROM chip", GET_ERRORS.format(BOARD_EDITOR), "line 6: the board has no line rom0.0: no [[rom]] has chip = 0")
@@ -370,20 +370,20 @@ def check_phone_keyboard(browser, page):
     reopen_page(browser, page)
     choose_example(browser, "calculator")
     show_text(browser, "program")
-    get_text = GET_TEXT_OF_EDITOR.replace("arguments[0]", f"'{PROGRAM_EDITOR}'")
+    text_script = GET_TEXT_OF_EDITOR.replace("arguments[0]", f"'{PROGRAM_EDITOR}'")
     set_text(browser, PROGRAM_EDITOR, "\tLDM \n\tJUN nowhere\n")
     browser.script(SET_CARET, PROGRAM_EDITOR, 0, 5)
     compose(browser, "w", "wo", "wor", "word")
-    eventually(browser, "a composed word is inserted while errors are marked", get_text, "\tLDM word\n\tJUN nowhere\n")
+    eventually(browser, "a composed word is inserted while errors are marked", text_script, "\tLDM word\n\tJUN nowhere\n")
     eventually(browser, "the composed word has an error", GET_ERRORS.format(PROGRAM_EDITOR), re.compile("^line 1: .*word"))
     set_text(browser, PROGRAM_EDITOR, "lable:\tNOP\n")
     browser.script(SET_CARET, PROGRAM_EDITOR, 0, 5)
     compose(browser, "label", replaced_range=(0, 5))
-    eventually(browser, "a word that the keyboard corrects appears once", get_text, "label:\tNOP\n")
+    eventually(browser, "a word that the keyboard corrects appears once", text_script, "label:\tNOP\n")
     set_text(browser, PROGRAM_EDITOR, "one:\tNOP\ntwo:\tNOP\n\tNOP\n")
     browser.script(f"{FIND_EDITOR}editor.focus(); editor.setSelection({{ line: 0, ch: 5 }}, {{ line: 1, ch: 8 }})", PROGRAM_EDITOR)
     browser.command("Input.insertText", text="I")
-    eventually(browser, "text typed over selected lines replaces them", get_text, "one:\tI\n\tNOP\n")
+    eventually(browser, "text typed over selected lines replaces them", text_script, "one:\tI\n\tNOP\n")
 
 
 def check_editor(browser, page, _folder, _mcs4):
@@ -406,5 +406,5 @@ def check_editor(browser, page, _folder, _mcs4):
     check_board_text(browser)
     check_empty_bench(browser)
     notices = browser.script(GET_ALL_NOTICES)
-    unexpected = [words for words in notices[:len(notices) - notice_count_before] if not words.endswith("is saved.")]
-    verdict("the notices of this check", unexpected, ["The source was disassembled from ROM."])
+    unexpected_notices = [words for words in notices[:len(notices) - notice_count_before] if not words.endswith("is saved.")]
+    verdict("the notices of this check", unexpected_notices, ["The source was disassembled from ROM."])

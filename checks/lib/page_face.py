@@ -68,7 +68,7 @@ GET_EARLY_ANNOUNCEMENTS = "return window.saidEarly.join(' ')"
 
 
 def lamps_pattern(names):
-    """Returns a pattern that matches only this text of lamps' names and states."""
+    """Returns a pattern that matches only the complete text `names`, which lists the names and states of lamps."""
     return re.compile("^" + re.escape(names) + "$")
 
 
@@ -117,7 +117,8 @@ def check_test_button(browser):
 
 
 def check_stopwatch(browser):
-    """Checks that the stopwatch's TEST is a switch, and that its display counts, has the right segments, and is announced only after it stopped."""
+    """Checks that the stopwatch's TEST is a switch, and that its display counts, has the correct segments, and is announced only after it has
+    stopped."""
     choose_example(browser, "stopwatch")
     eventually(browser, "the title of the stopwatch's front panel", GET_TITLE, "Stopwatch")
     verdict("the switch has its name and is off", [browser.text(f"{TEST_KEY} b"), browser.script(IS_TEST_PRESSED)], ["RUN", "false"])
@@ -154,8 +155,8 @@ def check_stacker(browser):
     """Checks that the lamps of the game Stacker are a matrix of 8 rows, and that its button DROP works."""
     choose_example(browser, "stacker")
     eventually(browser, "the number of lamps of the matrix", "return document.querySelectorAll('.matrix .bulb').length", 64)
-    count_rows = "return new Set([...document.querySelectorAll('.matrix .bulb')].map((bulb) => Math.round(bulb.getBoundingClientRect().y))).size"
-    verdict("the number of rows of the matrix", browser.script(count_rows), 8)
+    row_count_script = "return new Set([...document.querySelectorAll('.matrix .bulb')].map((bulb) => Math.round(bulb.getBoundingClientRect().y))).size"
+    verdict("the number of rows of the matrix", browser.script(row_count_script), 8)
     eventually(browser, "three lamps are on at the beginning", "return document.querySelectorAll('.matrix .lit').length", 3)
     browser.touch_together([TEST_KEY], 80)
     eventually(browser, "DROP stops three lamps, and three more are on", "return document.querySelectorAll('.matrix .lit').length", 6)
@@ -217,14 +218,14 @@ def check_panel_errors(browser):
 
 
 def check_forced_colours(browser):
-    """Checks that in forced colours, lamps have one colour and show their own colours as letters, and that only those that are on are filled."""
+    """Checks that in forced colours, lamps have one colour and show their own colours as letters, and that only lamps that are on are filled."""
     choose_example(browser, "traffic light")
     eventually(browser, "the traffic light is green", GET_NAMES, re.compile("green, lit"))
     browser.command("Emulation.setEmulatedMedia", features=[{"name": "forced-colors", "value": "active"}])
     verdict("in forced colours all lamps have one colour", len(set(browser.script(GET_RINGS))), 1)
     verdict("in forced colours only lamps that are on are filled", browser.script(ARE_ONLY_LIT_LAMPS_FILLED), True)
-    get_letters = "return [...document.querySelectorAll('#front .bulb')].map((bulb) => getComputedStyle(bulb, '::before').content).join(' ')"
-    verdict("in forced colours letters show the colours of the lamps", browser.script(get_letters), '"" "A" "" "G" "G"')
+    letters_script = "return [...document.querySelectorAll('#front .bulb')].map((bulb) => getComputedStyle(bulb, '::before').content).join(' ')"
+    verdict("in forced colours letters show the colours of the lamps", browser.script(letters_script), '"" "A" "" "G" "G"')
     browser.command("Emulation.setEmulatedMedia", features=[])
 
 

@@ -184,8 +184,8 @@ def check_other_sessions(browser, page):
     browser.until("return document.getElementById('sessions').open", True)
     browser.click("#examples button[aria-label='new session with its story: printing calculator']")
     eventually(browser, "the list of examples opens the story", GET_TITLE, "1 of 6: A sum")
-    is_page_in_window = "return document.documentElement.scrollWidth <= innerWidth"
-    verdict("the page is not wider than the window", browser.script(is_page_in_window), True)
+    page_in_window_script = "return document.documentElement.scrollWidth <= innerWidth"
+    verdict("the page is not wider than the window", browser.script(page_in_window_script), True)
     choose_example(browser, "traffic light")
     eventually(browser, "another session has no story", GET_TITLE, "-")
 

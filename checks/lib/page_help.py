@@ -124,9 +124,9 @@ def check_tour(browser):
 
 def check_cell_tooltips(browser):
     """Checks that tooltips explain the cells of the processor, the calls and the ports."""
-    get_titles = "return [...document.querySelectorAll('#processor [title], #calls [title], #ports [title]')].map((node) => node.title).join('; ')"
+    titles_script = "return [...document.querySelectorAll('#processor [title], #calls [title], #ports [title]')].map((node) => node.title).join('; ')"
     for description in ("the accumulator", "in the middle of a two-cycle instruction", "the return addresses for BBL, the newest first", "what WRR has written"):
-        eventually(browser, f"the tooltip of a cell: {description}", get_titles, re.compile(description))
+        eventually(browser, f"the tooltip of a cell: {description}", titles_script, re.compile(description))
 
 
 def check(browser, page, _folder, _mcs4):

@@ -100,7 +100,7 @@ def reopen_page(browser, page):
     until_ready(browser)
 
 
-def stop_time(browser):
+def pause_running_time(browser):
     """Pauses time, which must be running."""
     browser.click("#run")
     browser.until(GET_STATUS, re.compile("^Paused"))
@@ -129,13 +129,14 @@ def step_with_marks(browser):
     """Checks with the traffic light that a lamp is on, that time can be paused, and that a step marks the values that it changed."""
     choose_example(browser, "traffic light")
     eventually(browser, "a lamp of the traffic light is on", "return document.querySelectorAll('.bulb.lit').length > 0", True)
-    stop_time(browser)
+    pause_running_time(browser)
     browser.click("#step")
     eventually(browser, "a step marks the changed values", "return document.querySelectorAll('.changed').length > 0", True)
 
 
 def check_calculator(browser):
-    """Checks that the calculator computes what is typed with the pointer and on the keyboard, even very fast, and that a reload keeps the display."""
+    """Checks that the calculator computes what is typed with the pointer and on the keyboard, even if it is typed very fast, and that a reload keeps
+    the display."""
     choose_example(browser, "calculator")
     for legend in "12+30=":
         browser.touch_together([key(legend)], 60)
@@ -191,7 +192,7 @@ def check_session_files(browser, folder, mcs4):
     browser.until(GET_DIGITS, "42")
     # Wait until no key is down, because a key that is down when time is paused is also down in the file.
     browser.until(COUNT_KEYS_DOWN, 0)
-    stop_time(browser)
+    pause_running_time(browser)
     choose_from_file_menu(browser, "#save-session-button")
     saved_file = folder / "downloads/calculator.mcs"
     deadline = time.monotonic() + 20
@@ -336,11 +337,11 @@ def check_speed_field(browser):
 def show_text(browser, name):
     """Brings a tab of the texts (such as `program`) or of the dock (such as `console`) to the front. Clicks again if the page has moved the tab away
     from the pointer, which can happen on a slow machine."""
-    get_selected = f"return document.getElementById('{name}-tab').getAttribute('aria-selected')"
+    selected_tab_script = f"return document.getElementById('{name}-tab').getAttribute('aria-selected')"
     deadline = time.monotonic() + 30
     while time.monotonic() < deadline:
         browser.click(f"#{name}-tab")
-        if browser.script(get_selected) == "true":
+        if browser.script(selected_tab_script) == "true":
             return
         time.sleep(0.2)
     raise DriverError(f"the tab {name} does not come to the front")
@@ -419,7 +420,7 @@ def check_basic_use(browser, page, folder, mcs4):
     check_speed_field(browser)
 
 
-def check_by_chromium(browser, page):
+def check_with_chromium(browser, page):
     """Checks that the page does not scroll sideways on a phone, and that the browser's log has no errors. Only Chromium's driver has the functions
     for this."""
     browser.go(page.as_uri())

@@ -5,7 +5,7 @@ import time
 
 from page_altered import REQUEST_FAILURE, EXPOSE_WORKER, INSTALL_FAILURES, write_altered_page
 from page_in_browser import (ENTER, ESCAPE, GET_DIGITS, GET_NOTICE, GET_STATUS, GET_TEXT_OF_EDITOR, IS_READY, PUT_INTO_EDITOR, choose_example,
-                             send_lines, reopen_page, stop_time, until_ready)
+                             send_lines, reopen_page, pause_running_time, until_ready)
 from verdicts import eventually, verdict
 from web_driver import Chromium
 
@@ -88,7 +88,7 @@ def check_worker_restart(browser):
     browser.click("#run")
     browser.keys(["4"])
     eventually(browser, "the bench continues in a new worker", GET_DIGITS, "1234")
-    stop_time(browser)
+    pause_running_time(browser)
     answer_before = send_lines(browser, "seq")
     cause_failure(browser, "hang")
     browser.script("document.getElementById('lines').value = 'poke r5 9'")
@@ -142,7 +142,7 @@ def check_long_work(browser, page):
     """Checks that long work shows its progress and does not block the page, and that a cancellation undoes all of it."""
     reopen_page(browser, page)
     choose_example(browser, "calculator")
-    stop_time(browser)
+    pause_running_time(browser)
     # Send a line, so that the entry about the runs so far is in the log before the long work begins.
     send_lines(browser, "seq")
     answer_before = send_lines(browser, "seq")
@@ -212,7 +212,7 @@ def check_no_locks(browser, page, folder):
     notice_after_reopening(browser, write_altered_page(page, folder, "Object.defineProperty(Navigator.prototype, 'locks', { value: undefined })"), IS_READY, True)
     address = browser.script("return location.href")
     first_tab = browser.tab()
-    stop_time(browser)
+    pause_running_time(browser)
     browser.new_tab()
     browser.go(address)
     until_ready(browser)
@@ -227,7 +227,7 @@ def check_no_locks(browser, page, folder):
 
 def check_blocked_data(browser_class, page, folder):
     """Checks that the page reports blocked site data and still works, in a browser whose settings block all site data."""
-    browser = browser_class(folder / f"blocked{browser_class.name}", str(folder / "downloads"), **browser_class.blocks_data)
+    browser = browser_class(folder / f"blocked{browser_class.name}", str(folder / "downloads"), **browser_class.data_blocking_settings)
     try:
         verdict("the notice about blocked site data", notice_after_reopening(browser, page), re.compile("blocked by the settings"))
         check_calculator_works(browser, "blocked data of sites")
@@ -241,7 +241,7 @@ def check_little_memory(page, folder):
     try:
         browser.go(page.as_uri())
         until_ready(browser)
-        stop_time(browser)
+        pause_running_time(browser)
         # Use only the last word, because the log can get an entry about runs before the answer.
         number_before = send_lines(browser, "seq").split()[-1]
         browser.script("document.getElementById('lines').value = 'poke r5 9\\nasm\\n' + '; a comment of so many letters\\n'.repeat(150000)")
@@ -288,31 +288,31 @@ def check_leaving_early(browser, address, session):
 def check_unfinished_opening(browser, page, folder):
     """Checks that the page does not open a session automatically if the page hung when it opened this session the last time. A message reports that,
     and the user can open or delete the session."""
-    hanging = write_altered_page(page, folder, MAKE_DEAF).as_uri()
-    reopen(browser, hanging)
+    hanging_page = write_altered_page(page, folder, MAKE_DEAF).as_uri()
+    reopen(browser, hanging_page)
     browser.script(REMOVE_FLAGS)
     choose_example(browser, "die")
     browser.click("#step")
     session = browser.until("return location.hash", re.compile("^#session="))
     eventually(browser, "the flag is removed after the session was opened", COUNT_FLAGS, 0)
-    verdict("the session is opened automatically", [reopen(browser, hanging), browser.script("return location.hash")], ["", session])
+    verdict("the session is opened automatically", [reopen(browser, hanging_page), browser.script("return location.hash")], ["", session])
     browser.until(COUNT_FLAGS, 0)
-    open_hanging_session(browser, hanging + session)
-    for address in (hanging, hanging + session):
+    open_hanging_session(browser, hanging_page + session)
+    for address in (hanging_page, hanging_page + session):
         verdict("a session whose opening did not finish is reported", reopen(browser, address), UNFINISHED_NOTICE)
         verdict("that session is not opened automatically", browser.script("return location.hash") != session, True)
     browser.click("#notice button[aria-label^='Open it']")
     eventually(browser, "the session can be opened", "return location.hash", session)
     eventually(browser, "the flag is removed after the user opened the session", COUNT_FLAGS, 0)
-    verdict("the session is opened automatically at the next start", [reopen(browser, hanging), browser.script("return location.hash")], ["", session])
+    verdict("the session is opened automatically at the next start", [reopen(browser, hanging_page), browser.script("return location.hash")], ["", session])
     browser.until(COUNT_FLAGS, 0)
-    check_leaving_early(browser, hanging, session)
+    check_leaving_early(browser, hanging_page, session)
     browser.until(COUNT_FLAGS, 0)
-    open_hanging_session(browser, hanging + session)
-    reopen(browser, hanging)
+    open_hanging_session(browser, hanging_page + session)
+    reopen(browser, hanging_page)
     browser.click("#notice button[aria-label^='Delete it']")
     eventually(browser, "the session can be deleted", GET_NOTICE, 'Deleted "die".')
-    verdict("the deleted session is no longer reported", reopen(browser, hanging), "")
+    verdict("the deleted session is no longer reported", reopen(browser, hanging_page), "")
 
 
 def check_failures_and_missing_features(browser, page, folder):

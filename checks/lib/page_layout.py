@@ -5,8 +5,8 @@ import re
 import time
 
 from page_in_browser import (ENTER, ESCAPE, GET_STATUS, IS_AT_COUNTER, STEPPED, choose_example, key, send_lines, reopen_page, show_text,
-                             step_with_marks, stop_time, until_ready)
-from page_workbench import (check_arrangement, check_touch_targets, check_first_glance, check_phone_details, check_first_tasks, check_shifts,
+                             step_with_marks, pause_running_time, until_ready)
+from page_workbench import (check_arrangement, check_touch_targets, check_first_glance, check_phone_details, check_first_tasks, check_layout_shifts,
                             check_details)
 from page_waves import record
 from verdicts import eventually, verdict
@@ -38,7 +38,7 @@ def check(browser, page, _folder, _mcs4):
     if isinstance(browser, Chromium):
         check_phone_details(browser, set_size)
         check_touch_targets(browser, set_size)
-        check_shifts(browser, page, set_size)
+        check_layout_shifts(browser, page, set_size)
         check_narrow_sizes(browser)
         check_controls(browser)
         check_phone(browser)
@@ -70,17 +70,17 @@ def check_tabs(browser):
 def check_folds(browser):
     """Checks that a click folds and unfolds a panel, and that a reload keeps the folded panel and the selected tabs."""
     browser.click("#memory .fold")
-    get_fold_state = "return document.querySelector('#memory .fold').getAttribute('aria-expanded') + isShown(document.getElementById('banks'))"
-    verdict("a click folds the panel", browser.script(get_fold_state), "falsefalse")
+    fold_state_script = "return document.querySelector('#memory .fold').getAttribute('aria-expanded') + isShown(document.getElementById('banks'))"
+    verdict("a click folds the panel", browser.script(fold_state_script), "falsefalse")
     show_text(browser, "board")
     show_text(browser, "console")
     browser.reload()
     until_ready(browser)
-    verdict("the panel is still folded after a reload", browser.script(get_fold_state), "falsefalse")
+    verdict("the panel is still folded after a reload", browser.script(fold_state_script), "falsefalse")
     verdict("the selected text tab after a reload", browser.script(GET_FRONT_TAB), "board-tab")
     verdict("the selected tab of the dock after a reload", browser.script("return isShown(document.getElementById('talk'))"), True)
     browser.click("#memory .fold")
-    verdict("a click unfolds the panel", browser.script(get_fold_state), "truetrue")
+    verdict("a click unfolds the panel", browser.script(fold_state_script), "truetrue")
     show_text(browser, "program")
     show_text(browser, "disassembly")
 
@@ -106,7 +106,7 @@ def focus_row(browser, index):
 def check_disassembly_keys(browser):
     """Checks that the keys bring all instructions of the program, and the first and the last address, into view. Also checks the scroll bar and Go
     to."""
-    stop_time(browser)
+    pause_running_time(browser)
     focus_row(browser, 3)
     browser.keys([HOME])
     eventually(browser, "Home shows address 000", GET_FOCUSED_ROW, "000")
@@ -173,7 +173,7 @@ def check_follow(browser):
         eventually(browser, "a row begins at the program counter after each step", IS_AT_COUNTER, True)
     browser.click("#run")
     eventually(browser, "Follow shows the row of the program counter while the program is running", GET_NEXT_LINE, re.compile("."))
-    stop_time(browser)
+    pause_running_time(browser)
 
 
 def text_of(browser, name):
@@ -195,7 +195,7 @@ SLOW_PROGRAM = "FIM P0, 0x00\\nLDM 7\\nXCH R5\\nwait: ISZ R0, wait\\nISZ R1, wai
 def check_change_marks(browser):
     """Checks that after a pause, everything that differs from the previous pause is marked, even if it changed long before."""
     choose_example(browser, "three lamps")
-    stop_time(browser)
+    pause_running_time(browser)
     send_lines(browser, f"asm\n{SLOW_PROGRAM}.\nreset\nbreak 12".replace("\\n", "\n"))
     eventually(browser, "the status after a reset", GET_STATUS, "The board was reset; the program counter is at 000.")
     browser.script(COUNT_MARKS)
@@ -276,9 +276,9 @@ def check_limit_messages(browser):
     send_lines(browser, "\n".join(f"watch 7 {address}" for address in range(8)))
     browser.click(".ram button:nth-child(5)")
     eventually(browser, "a ninth watch is rejected with a message", GET_POPUP, re.compile("8 nibbles"))
-    is_popup_near = "const [a, b] = [arguments[0], '.popup-message'].map((selector) => document.querySelector(selector).getBoundingClientRect()); " \
+    popup_near_script = "const [a, b] = [arguments[0], '.popup-message'].map((selector) => document.querySelector(selector).getBoundingClientRect()); " \
         "return Math.abs(a.left - b.left) + Math.abs(a.bottom - b.top) < 260"
-    verdict("the message is near the clicked cell", browser.script(is_popup_near, ".ram button:nth-child(5)"), True)
+    verdict("the message is near the clicked cell", browser.script(popup_near_script, ".ram button:nth-child(5)"), True)
     send_lines(browser, "\n".join([*(f"unwatch 7 {address}" for address in range(8)), *(f"break {0x300 + address}" for address in range(32))]))
     browser.click("#lines-of-program button:nth-child(2)")
     eventually(browser, "a thirty-third breakpoint is rejected with a message", GET_POPUP, re.compile("32 breakpoints"))
@@ -301,7 +301,7 @@ for (const each of places) {
 
 
 def check_accessible_names(browser):
-    """Checks that the RAM cells and the browser tab have the right names, and that a running program causes only a few announcements."""
+    """Checks that the RAM cells and the browser tab have the correct names, and that a running program causes only a few announcements."""
     verdict("the number of RAM cells with a wrong name", browser.script(GET_WRONGLY_NAMED_CELLS), 0)
     verdict("the title of the browser tab", browser.script("return document.title"), re.compile("^three lamps"))
     choose_example(browser, "stopwatch")
@@ -331,7 +331,7 @@ def check_swipe(browser):
         browser.script(SWIPE_KEY, key("7"), milliseconds)
         time.sleep(0.5)
         eventually(browser, f"no key is down after a {speed} swipe while running", COUNT_KEYS_DOWN, 0)
-    stop_time(browser)
+    pause_running_time(browser)
     for speed, milliseconds in (("quick", 20), ("slow", 200)):
         browser.script(SWIPE_KEY, key("7"), milliseconds)
         time.sleep(0.5)
@@ -391,7 +391,7 @@ return [...document.querySelectorAll("#toolbar :is(button, input, select):not([r
   return left < Math.max(0, room.left) || right > Math.min(innerWidth, room.right);
 }).map(({ id }) => id)"""
 MEASURE_OVERFLOW = "return document.documentElement.scrollWidth - document.documentElement.clientWidth"
-# Returns four numbers of pixels: how much the page itself is too wide and too high, and how far a script can scroll it to the right and down.
+# Returns four numbers of pixels: by how much the page itself is too wide and too high, and how far a script can scroll it to the right and down.
 TRY_TO_SCROLL = """
 const { scrollHeight, clientHeight, scrollWidth, clientWidth } = document.documentElement;
 scrollTo(1000, 1000);
@@ -516,8 +516,8 @@ def check_menu(browser):
     browser.click("#help-close")
     browser.click("#menu-button")
     browser.click("#examples-narrow")
-    measure_overflow = "const box = document.getElementById('sessions'); return box.open && box.scrollWidth - box.clientWidth"
-    eventually(browser, "the sessions dialog does not scroll sideways", measure_overflow, 0)
+    overflow_script = "const box = document.getElementById('sessions'); return box.open && box.scrollWidth - box.clientWidth"
+    eventually(browser, "the sessions dialog does not scroll sideways", overflow_script, 0)
     browser.click("#close-sessions")
 
 
@@ -546,7 +546,7 @@ def check_phone(browser):
     browser.click("#region-board")
     for selector in (".bulb", ".key", "#run"):
         verdict(f"{selector} is visible on a phone", browser.script(IS_IN_VIEW, selector), True)
-    stop_time(browser)
+    pause_running_time(browser)
     set_size(browser, 375, 420, True)
     box = browser.script("const box = document.querySelector('.key').getBoundingClientRect(); return [box.x + 20, box.y + 15]")
     swipe_up(browser, *box)
@@ -574,8 +574,8 @@ def check_forced_colours(browser):
     step_with_marks(browser)
     emulate_media(browser, forced_colors="active")
     verdict("in forced colours lamps that are on differ from the others", browser.script(ARE_LAMPS_DISTINCT), True)
-    get_outline = "return getComputedStyle(document.querySelector('.changed')).outlineStyle"
-    verdict("in forced colours marks have an outline", browser.script(get_outline), "solid")
+    outline_script = "return getComputedStyle(document.querySelector('.changed')).outlineStyle"
+    verdict("in forced colours marks have an outline", browser.script(outline_script), "solid")
     emulate_media(browser)
 
 

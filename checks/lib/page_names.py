@@ -5,7 +5,7 @@ import pathlib
 import re
 import subprocess
 
-from page_in_browser import ENTER, GET_NOTICE, GET_STATUS, PUT_INTO_EDITOR, choose_example, send_lines, show_text, stop_time, until_ready
+from page_in_browser import ENTER, GET_NOTICE, GET_STATUS, PUT_INTO_EDITOR, choose_example, send_lines, show_text, pause_running_time, until_ready
 from verdicts import eventually, verdict
 
 TOP = pathlib.Path(__file__).resolve().parent.parent.parent
@@ -28,8 +28,8 @@ GET_LABELS = "return [...document.querySelectorAll('#lines-of-program .labels')]
 GET_BREAKPOINT_LINES = """
 return document.querySelector("#program-editor .cm-editor").lineEditor.marksIn("breakpoints").map((line) => line + 1).join(" ")"""
 
-# Steps as often as the argument says. Returns for each step the program counter, and the marked source line with its number, or `not seen` if the
-# line is out of view.
+# Executes as many steps as the argument says. Returns for each step the program counter, and the marked source line with its number, or `not seen` if
+# the line is out of view.
 STEP_THROUGH = """
 // Omits the values that the page shows after a line, which are not a part of the line.
 const textOf = (line) => {
@@ -117,7 +117,7 @@ def go_to(browser, text):
 
 def check_marked_lines(browser, source):
     """Checks that after each of many steps, the page marks the source line that `mcs4 listing` shows at the program counter."""
-    stop_time(browser)
+    pause_running_time(browser)
     send_lines(browser, "reset")
     rows = []
     for chunk in range(STEP_COUNT // STEPS_PER_SCRIPT):

@@ -33,7 +33,7 @@ CHANGED_NOTE = "the program, the board or the text has changed since then"
 BOARD = ('# lamp 0: lit\n# test: button WALK\nlamp = [{ line = "ram0.0.0" }, { line = "ram0.0.1" }]\nrom = [{ chip = 0, port = "0000" }]\n'
          "ram = [{ bank = 0, chips = 1 }]\n")
 PROGRAM = "look:   JCN 1, on\n        LDM 0\n        JUN put\non:     LDM 1\nput:    WMP\n        INC R1\n        JUN look\n"
-# The program counts in all registers, so no search reaches an end.
+# The program counts in all registers, so no search can visit all of its states.
 COUNTING_PROGRAM = "look:   JCN 1, look\n" + "".join(f"        ISZ R{number}, look\n" for number in range(16)) + "        JUN look\n"
 
 
@@ -45,12 +45,12 @@ def start_proof(browser, states=1000000):
 
 
 def prove_to_end(browser, description, states=1000000):
-    """Starts a proof, and checks that it ends in time. Then the button has its original label again."""
+    """Starts a proof. Checks that it ends in time, and that the button then has its original label again."""
     start_proof(browser, states)
     eventually(browser, description, GET_BUTTON_LABEL, "Prove", MAX_SECONDS)
 
 
-def proved_by_tool(browser, folder, mcs4):
+def prove_with_tool(browser, folder, mcs4):
     """Runs `mcs4 prove` with the page's texts. Returns a text and a number of states for each proved property, and then for each kind of mistake."""
     names = [("board", "board.toml"), ("program", "program.asm"), ("properties", "some.props")]
     for name, file in names:
@@ -65,7 +65,7 @@ def check_example(browser, folder, mcs4):
     the page's first, short search may visit."""
     choose_example(browser, "stopwatch")
     properties = [line for line in text_of(browser, "properties").splitlines() if line.startswith(("never", "every"))]
-    results_of_tool = proved_by_tool(browser, folder, mcs4)
+    results_of_tool = prove_with_tool(browser, folder, mcs4)
     verdict("the properties that mcs4 prove proves", [text for text, _ in results_of_tool][: len(properties)], properties)
     verdict("the number of common mistakes that mcs4 prove reports", len(results_of_tool) - len(properties), MISTAKE_COUNT)
     start_proof(browser)
@@ -123,15 +123,15 @@ def check_counterexample(browser):
     verdict("the bench reports that the lamp is on", send_lines(browser, "lamps").endswith("lamps *."), True)
     browser.click("#back-instruction")
     eventually(browser, "going back turns the lamp off", COUNT_LAMPS_ON, 0)
-    get_cycle_count = "return document.getElementById('cycles').textContent.match(/[\\d,]+ cycle/)[0]"
-    eventually(browser, "going back leads to the cycle at which the session was opened", get_cycle_count, "3 cycle")
+    cycle_count_script = "return document.getElementById('cycles').textContent.match(/[\\d,]+ cycle/)[0]"
+    eventually(browser, "going back leads to the cycle at which the session was opened", cycle_count_script, "3 cycle")
     browser.click("#back-instruction")
-    eventually(browser, "going back can continue before that cycle", get_cycle_count, "2 cycle")
+    eventually(browser, "going back can continue before that cycle", cycle_count_script, "2 cycle")
 
 
 def check_all_verdicts(browser):
-    """Checks that the page reports each kind of verdict, for a separate board and program. Also checks a proof with too few states, and that Clear
-    removes the results."""
+    """Checks that the page reports each kind of verdict, for a separate board and program. Also checks a proof that may visit too few states, and
+    that Clear removes the results."""
     choose_example(browser, "empty bench")
     set_text(browser, "board", BOARD)
     set_text(browser, "program", PROGRAM)

@@ -84,8 +84,8 @@ def check_rewritten_display(browser):
     eventually(browser, "a display that the program rewrites in each iteration shows its number", GET_DIGITS, "42")
     record_brightness(browser, 2000)
     verdict("the display shows the same number in each frame", browser.script("return [...new Set(window.numbers)].join(' ')"), "42")
-    count_lit_segments = "return [...document.querySelectorAll('#glass svg')].map((digit) => digit.querySelectorAll('.lit').length).join(' ')"
-    verdict("the segments that are on, and the number of outlined digits", [browser.script(count_lit_segments), browser.script("return document.querySelectorAll('.smeared').length")],
+    lit_segments_script = "return [...document.querySelectorAll('#glass svg')].map((digit) => digit.querySelectorAll('.lit').length).join(' ')"
+    verdict("the segments that are on, and the number of outlined digits", [browser.script(lit_segments_script), browser.script("return document.querySelectorAll('.smeared').length")],
             ["4 5", 2])
 
 
@@ -111,24 +111,24 @@ def check_clock(browser):
     browser.script(SET_SPEED, "real")
     browser.click("#run")
     eventually(browser, "the program is paused", GET_STATUS, re.compile("^Paused"))
-    count_lit_digits = "return [...document.querySelectorAll('#glass svg')].filter((digit) => digit.querySelector('.lit')).length"
-    verdict("while paused, at most one digit is on", browser.script(count_lit_digits) <= 1, True)
+    lit_digits_script = "return [...document.querySelectorAll('#glass svg')].filter((digit) => digit.querySelector('.lit')).length"
+    verdict("while paused, at most one digit is on", browser.script(lit_digits_script) <= 1, True)
 
 
 def check_pictures(browser):
     """Checks that a multiplexed matrix of lamps shows its pictures while running, and at most one row while paused."""
     choose_example(browser, "pictures")
-    get_rows = ("const bulbs = [...document.querySelectorAll('.matrix .bulb')].map((bulb) => (bulb.classList.contains('lit') ? '*' : '.'));"
+    rows_script = ("const bulbs = [...document.querySelectorAll('.matrix .bulb')].map((bulb) => (bulb.classList.contains('lit') ? '*' : '.'));"
             "return Array.from({ length: 8 }, (_, row) => bulbs.slice(8 * row, 8 * row + 8).join('')).join(' ')")
-    eventually(browser, "the multiplexed matrix shows a heart", get_rows,
+    eventually(browser, "the multiplexed matrix shows a heart", rows_script,
                "........ .**..**. ******** ******** .******. ..****.. ...**... ........")
     verdict("the title of a lamp names both of its lines", browser.script("return document.querySelectorAll('.matrix .bulb')[13].title"),
             "ram0.1.2 and ram0.2.1")
     browser.keys(["n"], 100)
-    eventually(browser, "NEXT shows another picture", get_rows, "..****.. .*....*. *.*..*.* *......* *.*..*.* *..**..* .*....*. ..****..")
+    eventually(browser, "NEXT shows another picture", rows_script, "..****.. .*....*. *.*..*.* *......* *.*..*.* *..**..* .*....*. ..****..")
     browser.click("#run")
     eventually(browser, "the program is paused", GET_STATUS, re.compile("^Paused"))
-    verdict("while paused, at most one row is on", sum("*" in row for row in browser.script(get_rows).split()) <= 1, True)
+    verdict("while paused, at most one row is on", sum("*" in row for row in browser.script(rows_script).split()) <= 1, True)
 
 
 def check(browser, page, _folder, _mcs4):

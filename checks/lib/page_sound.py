@@ -82,13 +82,13 @@ def check_tone(browser):
         eventually(browser, "several blocks are played with the page's clock", COUNT_PLAYED, re.compile("^[5-9]$|^..$"))
     time.sleep(1)
     played = browser.script("return window.played")
-    lengths = [block["count"] / block["rate"] for block in played]
-    edges = sum(len(block["edges"]) for block in played)
-    pitch = edges / 2 / sum(lengths)
+    block_seconds = [block["count"] / block["rate"] for block in played]
+    edge_count = sum(len(block["edges"]) for block in played)
+    pitch = edge_count / 2 / sum(block_seconds)
     verdict(f"the pitch is within 1 % of the expected one: {pitch:.1f} Hz", abs(pitch - EXPECTED_PITCH) < EXPECTED_PITCH / 100, True)
     verdict("the sample rate is that of the cycles", sorted({block["rate"] for block in played}), [92593])
     verdict("the first block arrives early enough", is_first_block_early(browser, played[0]), True)
-    gaps = [(previous, following) for previous, following, length in zip(played, played[1:], lengths) if abs(previous["when"] + length - following["when"]) > 1e-6]
+    gaps = [(previous, following) for previous, following, length in zip(played, played[1:], block_seconds) if abs(previous["when"] + length - following["when"]) > 1e-6]
     intervals = [f"{following['at'] - previous['at']:.3f} s" for previous, following in gaps]
     verdict(f"gaps between {len(played)} blocks are only where the host was too slow: {intervals}",
             all(following["at"] - previous["at"] > MAX_BLOCK_INTERVAL for previous, following in gaps), True)

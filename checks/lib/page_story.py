@@ -122,7 +122,7 @@ def check_breakpoint(browser):
 
 def check_restored_source(browser):
     """Checks that Ctrl+Z restores a source that was replaced by a disassembly of ROM."""
-    own_source = browser.script(GET_PROGRAM_TEXT)
+    typed_source = browser.script(GET_PROGRAM_TEXT)
     browser.script("document.getElementById('from-rom').focus()")
     browser.keys([ENTER])
     browser.until(GET_QUESTION, "Replace the source?")
@@ -132,7 +132,7 @@ def check_restored_source(browser):
     eventually(browser, "the source that is disassembled from ROM has no comment", GET_PROGRAM_TEXT, re.compile(r"^\s*LDM 3\s+WRR\s+RDR\s+WMP\s+JUN 0x002\s*$"))
     go_to_source(browser)
     browser.press_chord(CONTROL, "z")
-    eventually(browser, "Ctrl+Z restores the text", GET_PROGRAM_TEXT, own_source)
+    eventually(browser, "Ctrl+Z restores the text", GET_PROGRAM_TEXT, typed_source)
 
 
 def save_by_keyboard(browser):

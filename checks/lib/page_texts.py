@@ -8,7 +8,7 @@ import time
 import zlib
 
 from page_in_browser import (ESCAPE, GET_ALL_NOTICES, GET_NOTICE, GET_STATUS, choose_example, send_lines, choose_from_file_menu, reopen_page, show_text,
-                             status_of, stop_time, until_ready)
+                             status_of, pause_running_time, until_ready)
 from verdicts import eventually, verdict
 
 TOP = pathlib.Path(__file__).resolve().parent.parent.parent
@@ -76,15 +76,15 @@ def check_project(browser, folder):
 def check_rejected_files(browser, folder, project_bytes):
     """Checks that incomplete, damaged and foreign files are rejected with a message, and that the current texts stay unchanged."""
     texts_before = browser.script(GET_TEXTS)
-    cut_file = folder / "cut.mcsp"
-    cut_file.write_bytes(project_bytes[:-700])
+    truncated_file = folder / "cut.mcsp"
+    truncated_file.write_bytes(project_bytes[:-700])
     changed_file = folder / "changed.mcsp"
     changed_file.write_bytes(project_bytes.replace(b"my own", b"my 0wn"))
     newer_file = folder / "newer.mcsp"
     newer_file.write_bytes(project_bytes.replace(b"project 1", b"project 2"))
     foreign_file = folder / "foreign.png"
     foreign_file.write_bytes(b"\x89PNG\r\n\x1a\n" + bytes(100))
-    for path, reason in ((cut_file, "cut off: its last line"), (changed_file, "damaged or was edited"), (newer_file, "of version 2"),
+    for path, reason in ((truncated_file, "cut off: its last line"), (changed_file, "damaged or was edited"), (newer_file, "of version 2"),
                         (foreign_file, "not a text, a session or a project; supported are projects")):
         browser.type_into("#file", str(path))
         eventually(browser, f"{path.name} is rejected with a message", GET_NOTICE,
@@ -100,8 +100,8 @@ def check_rejected_files(browser, folder, project_bytes):
 
 def check_undoing_replacement(browser):
     """Checks that the page asks before it replaces a text, and that replacing can be undone."""
-    own_source, rom_source = "; mine\n\tLDM 5\n\tJUN 0\n", "\tLDM 5\n\tJUN 0x000\n"
-    status_of(browser, "#program-editor", own_source)
+    user_source, rom_source = "; mine\n\tLDM 5\n\tJUN 0\n", "\tLDM 5\n\tJUN 0x000\n"
+    status_of(browser, "#program-editor", user_source)
     texts_before = browser.script(GET_TEXTS)
     show_text(browser, "program")
     browser.click("#from-rom")
@@ -113,23 +113,23 @@ def check_undoing_replacement(browser):
     browser.click("#ask .bar button:first-child")
     eventually(browser, "the source is disassembled from ROM", GET_PROGRAM_TEXT, rom_source)
     browser.click(UNDO_BUTTON)
-    eventually(browser, "Undo restores the source", GET_PROGRAM_TEXT, own_source)
+    eventually(browser, "Undo restores the source", GET_PROGRAM_TEXT, user_source)
     browser.click(UNDO_BUTTON)
     eventually(browser, "Undo can be undone", GET_PROGRAM_TEXT, rom_source)
     browser.click(UNDO_BUTTON)
-    browser.until(GET_PROGRAM_TEXT, own_source)
+    browser.until(GET_PROGRAM_TEXT, user_source)
     browser.script("document.querySelector('#program-editor .cm-editor').lineEditor.undo()")
-    verdict("Ctrl+Z after Undo undoes the edit before the replacement", browser.script(GET_PROGRAM_TEXT) in (own_source, rom_source), False)
+    verdict("Ctrl+Z after Undo undoes the edit before the replacement", browser.script(GET_PROGRAM_TEXT) in (user_source, rom_source), False)
     browser.script("document.querySelector('#program-editor .cm-editor').lineEditor.undoOrRedo('redo')")
-    browser.until(GET_PROGRAM_TEXT, own_source)
+    browser.until(GET_PROGRAM_TEXT, user_source)
     browser.click("#notice .dismiss")
     time.sleep(1)
     browser.reload()
     until_ready(browser)
-    verdict("the source is unchanged after a reload", browser.script(GET_PROGRAM_TEXT), own_source)
+    verdict("the source is unchanged after a reload", browser.script(GET_PROGRAM_TEXT), user_source)
 
 
-def count_saved(browser):
+def count_saved_sessions(browser):
     """Returns the number of sessions in the dialog, and leaves the dialog open."""
     browser.click("#sessions-button")
     browser.until("return document.getElementById('sessions').open", True)
@@ -138,16 +138,16 @@ def count_saved(browser):
 
 def check_example_saved_later(browser):
     """Checks that an example becomes a saved session only after the user has done something in it. Returns the number of saved sessions."""
-    count_before = count_saved(browser)
+    count_before = count_saved_sessions(browser)
     browser.click("#close-sessions")
     choose_example(browser, "die")
     eventually(browser, "the address names the example", "return location.hash", "#example=die")
     eventually(browser, "the title of the browser tab has the example's name", "return document.title", "die - Fethsaim")
-    verdict("the example is not saved yet", count_saved(browser), count_before)
+    verdict("the example is not saved yet", count_saved_sessions(browser), count_before)
     browser.click("#close-sessions")
     browser.click("#step")
     eventually(browser, "the example is saved after a step", "return location.hash", re.compile("^#session="))
-    verdict("the number of saved sessions after the step", count_saved(browser), count_before + 1)
+    verdict("the number of saved sessions after the step", count_saved_sessions(browser), count_before + 1)
     browser.click("#close-sessions")
     rename_session(browser, "my die")
     verdict("the title of the browser tab has the new name", browser.script("return document.title"), "my die - Fethsaim")
@@ -164,7 +164,7 @@ def check_example_saved_later(browser):
 
 def check_deleting(browser, count):
     """Checks that several sessions can be deleted at once and restored. `count` is the number of saved sessions."""
-    verdict("the number of saved sessions after more examples were opened", count_saved(browser), count)
+    verdict("the number of saved sessions after more examples were opened", count_saved_sessions(browser), count)
     browser.click("#choose-all")
     browser.click("#delete-chosen")
     eventually(browser, "all chosen sessions are deleted", COUNT_SAVED, 0)
@@ -180,10 +180,10 @@ def check_deleting(browser, count):
 
 
 def check_notices(browser, folder):
-    """Checks that notices of different kinds are shown together, that a new notice replaces the last one of its kind, and that the status is right
+    """Checks that notices of different kinds are shown together, that a new notice replaces the last one of its kind, and that the status is correct
     after a reset."""
     choose_example(browser, "calculator")
-    stop_time(browser)
+    pause_running_time(browser)
     browser.type_into("#file", str(folder / "cut.mcsp"))
     browser.until(GET_NOTICE, re.compile("cut off"))
     status_of(browser, "#program-editor", "\tNOP\n")
@@ -247,20 +247,20 @@ def check_link(browser, page):
                " ? document.getElementById('link').value.slice(document.getElementById('link').selectionStart).split('#')[1] : ''", link)
     browser.click("#ask .bar button:last-child")
     choose_example(browser, "die")
-    stored_count = count_saved(browser)
+    stored_count = count_saved_sessions(browser)
     open_link(browser, page, link)
     eventually(browser, "the link causes a question with the name", GET_QUESTION, 'Open "my light" from a link?')
     verdict("the question describes the contents of the link", browser.text("#ask"), re.compile("Three lamps.*text has 1[0-9] lines, the source 3 lines.*1 ROM, 1 RAM chip, 3 lamps"))
     browser.click("#ask .bar button:last-child")
     eventually(browser, "the link is not opened if the user declines", "return location.hash", re.compile("^#(session|example)="))
-    verdict("the number of saved sessions is unchanged", count_saved(browser), stored_count)
+    verdict("the number of saved sessions is unchanged", count_saved_sessions(browser), stored_count)
     open_link(browser, page, link)
     eventually(browser, "the same link causes the question again", GET_QUESTION, re.compile("my light"))
     browser.click("#ask .bar button:first-child")
     eventually(browser, "the link opens as a session", GET_NAME, "my light")
     until_ready(browser)
     verdict("the session has the texts of the link", browser.script(GET_TEXTS), [BOARD, PROGRAM])
-    verdict("the session is saved", count_saved(browser), stored_count + 1)
+    verdict("the session is saved", count_saved_sessions(browser), stored_count + 1)
     browser.click("#close-sessions")
     open_link(browser, page, f"{link}%20")
     eventually(browser, "a space after the link is ignored", GET_QUESTION, re.compile("my light"))
@@ -274,7 +274,7 @@ def check_link(browser, page):
         verdict("the texts are unchanged", browser.script(GET_TEXTS), texts_before)
 
 
-def link_of(name, board, program):
+def make_link(name, board, program):
     """Returns a link with this name and these texts, as somebody else could write it."""
     contents = f"name {name}\nwire\n{board}.\nasm\n{program}.\n".encode()
     checksum = subprocess.run(["cksum"], input=contents, stdout=subprocess.PIPE, check=True).stdout.split()[0]
@@ -288,12 +288,12 @@ def check_foreign_links(browser, page):
     names = [f"n{number}" for number in range(12000)]
     hanging = f"# lamp 0: {' '.join(names)}\n# grid 0: {' '.join(f'-{name}' for name in names)}\n"
     texts_before = browser.script(GET_TEXTS)
-    open_link(browser, page, link_of("a clock", hanging, ""))
+    open_link(browser, page, make_link("a clock", hanging, ""))
     eventually(browser, "a link with a text that is too long is rejected with a message", GET_NOTICE, re.compile(
         rf"^Cannot open the link: the board's text has {len(hanging):,} characters; at most 65,536 are accepted\. Nothing was changed\.$"))
     verdict("the texts are unchanged", browser.script(GET_TEXTS), texts_before)
     board = f"# title: {'long words ' * 20}\n# lamp 0: {' '.join(names[:400])}\n# grid 0: {' '.join(f'-{number}' for number in range(600))}\n"
-    open_link(browser, page, link_of("\u202etxe\u2066\t" + "name " * 900, board, ""))
+    open_link(browser, page, make_link("\u202etxe\u2066\t" + "name " * 900, board, ""))
     eventually(browser, "the name in the question is shortened and has no control characters", GET_QUESTION, f'Open "txe {"name " * 10}name…" from a link?')
     verdict("the title in the question is shortened", browser.text("#ask"), re.compile("link\\?(long words ){5}long…The board's text has 3 lines"))
     browser.click("#ask .bar button:first-child")
@@ -313,19 +313,19 @@ data.items.add(new File([arguments[0]], "dropped.mcsp"));
 document.body.dispatchEvent(new DragEvent("drop", { dataTransfer: data, bubbles: true, cancelable: true }))""", project.decode())
     eventually(browser, "a dropped project is opened", GET_TEXTS, [BOARD, PROGRAM])
     # A script cannot drop a folder, but dropping its files has the same effect.
-    drop_files = """
+    drop_files_script = """
 const data = new DataTransfer();
 for (const [name, text] of arguments[0]) data.items.add(new File([text], name));
 document.body.dispatchEvent(new DragEvent("drop", { dataTransfer: data, bubbles: true, cancelable: true }))"""
     names = 'board = "own.toml"\nprogram = "own.asm"\nspeed = "tenth"\n'
     files = [["own.toml", BOARD], ["own.asm", "; my own\n" + PROGRAM], ["mcs4.toml", names]]
-    browser.script(drop_files, files)
+    browser.script(drop_files_script, files)
     eventually(browser, "the dropped files are opened as mcs4.toml describes them", GET_TEXTS, [BOARD, "; my own\n" + PROGRAM])
     eventually(browser, "the project has the speed in mcs4.toml", "return document.getElementById('speed').value", "tenth")
-    browser.script(drop_files, [*files[:2], ["mcs4.toml", names + "lamps = 1\n"]])
+    browser.script(drop_files_script, [*files[:2], ["mcs4.toml", names + "lamps = 1\n"]])
     eventually(browser, "an error in mcs4.toml is reported with its line", GET_NOTICE, re.compile(
         r"^Cannot open the folder: mcs4\.toml: line 4: a project has no key lamps; .*The session shown is unchanged"))
-    browser.script(drop_files, files[2:])
+    browser.script(drop_files_script, files[2:])
     eventually(browser, "mcs4.toml alone is rejected with a message", GET_NOTICE, re.compile(r"^Cannot open mcs4\.toml: it names files of a project: drop its folder"))
     browser.script("document.getElementById('speed').value = 'real'; document.getElementById('speed').dispatchEvent(new Event('change'))")
 
@@ -349,7 +349,8 @@ def answers_in_copy(mcs4, session, lines):
 
 
 def check_opened_and_exported_files(browser, folder, mcs4):
-    """Checks that files of boards and programs can be opened, and that exported texts and ROM images are those of the files and of `mcs4 rom`."""
+    """Checks that files of boards and programs can be opened, and that exported texts and ROM images equal the opened files and the output of `mcs4
+    rom`."""
     example = TOP / "examples/three_lamps"
     for name in ("board.toml", "three_lamps.asm"):
         browser.type_into("#file", str(example / name))
@@ -408,7 +409,7 @@ def check_project_tool(folder, project):
 
 def check_texts(browser, page, folder, mcs4):
     reopen_page(browser, page)
-    stop_time(browser)
+    pause_running_time(browser)
     project = check_project(browser, folder)
     check_rejected_files(browser, folder, project.read_bytes())
     check_project_tool(folder, project)

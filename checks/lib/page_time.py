@@ -6,7 +6,7 @@ import pathlib
 import re
 import subprocess
 
-from page_in_browser import GET_DIGITS, GET_RATE, GET_STATUS, SET_SPEED, STEPPED, choose_example, key, send_lines, stop_time, until_ready
+from page_in_browser import GET_DIGITS, GET_RATE, GET_STATUS, SET_SPEED, STEPPED, choose_example, key, send_lines, pause_running_time, until_ready
 from verdicts import eventually, verdict
 
 TOP = pathlib.Path(__file__).resolve().parent.parent.parent
@@ -56,7 +56,7 @@ class Program:
         return int(self.tool("cycles", line, line, lines=answers).split(" ")[0])
 
 
-def texts_of(name):
+def setup_lines_of(name):
     """Returns the lines that apply an example's board and assemble its program."""
     folder = TOP / "examples" / name
     board, program = (folder / "board.toml").read_text(), (folder / f"{name}.asm").read_text()
@@ -66,7 +66,7 @@ def texts_of(name):
 def first_call(program, name):
     """Finds the first JMS that an example executes. Returns the cycles before the JMS, the cycles until its subroutine returns, its address, and its
     return address."""
-    file, _ = program.session(name, texts_of(name))
+    file, _ = program.session(name, setup_lines_of(name))
     lines = [line for line in program.tool("trace", file, 3000).splitlines() if re.match(r" *\d+  [0-9A-F]{3} ", line)]
     index = next(index for index, line in enumerate(lines) if " JMS " in line)
     cycles, address = lines[index].split()[:2]
@@ -84,7 +84,7 @@ def cycles_text(cycles):
 def pause_time(browser):
     """Pauses time if it is running."""
     if browser.script("return document.getElementById('run').textContent") == "Pause":
-        stop_time(browser)
+        pause_running_time(browser)
 
 
 def open_paused_example(browser, name):
@@ -103,8 +103,8 @@ def query_state(browser):
 
 
 def check_step_over(browser, program, name, example):
-    """Checks that a step over a JMS, with the button or with F10, takes the cycles that the trace shows. Steps into the subroutine and out of it
-    must take the same time. No breakpoint or watch may remain."""
+    """Checks that a step over a JMS, with the button or with F10, takes the cycles that the trace shows. A step into the subroutine and a step out of
+    it must together take the same number of cycles. No breakpoint or watch may remain."""
     cycles_before, call_cycles, address, return_address = first_call(program, example)
     open_paused_example(browser, name)
     send_lines(browser, f"run {cycles_before}")
@@ -157,9 +157,9 @@ editor.getInputField().dispatchEvent(new KeyboardEvent("keydown", { key: "F10", 
 
 
 def check_many_steps(browser, program):
-    """Checks that a step of several instructions takes the number of cycles that the trace shows, and that a wrong number of instructions is
+    """Checks that a step of several instructions takes the number of cycles that the trace shows, and that an invalid number of instructions is
     rejected."""
-    file, _ = program.session("many", texts_of("three_lamps"))
+    file, _ = program.session("many", setup_lines_of("three_lamps"))
     lines = [line for line in program.tool("trace", file, 400).splitlines() if re.match(r" *\d+  [0-9A-F]{3} ", line)]
     open_paused_example(browser, "three lamps")
     browser.script(CHANGE_FIELD, "#step-count", "50")
@@ -224,8 +224,8 @@ def check_stopwatch(browser):
 
 
 def check_going_back(browser):
-    """Checks that going back past key presses and forward again leads to the same answers and the same saved file. A new command must remove the way
-    forward."""
+    """Checks that going back past key presses and forward again leads to the same answers and the same saved file. After a new command, going forward
+    must no longer be possible."""
     open_paused_example(browser, "calculator")
     browser.click("#run")
     for legend in "12":

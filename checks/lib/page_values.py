@@ -5,7 +5,7 @@ bench's answers."""
 import re
 
 from driven import matches
-from page_in_browser import GET_STATUS, GET_WHOLE_STATUS, choose_example, send_lines, reopen_page, status_of, stop_time
+from page_in_browser import GET_STATUS, GET_WHOLE_STATUS, choose_example, send_lines, reopen_page, status_of, pause_running_time
 from page_names import GET_EXPLANATION, point_at
 from verdicts import eventually, verdict
 
@@ -55,8 +55,8 @@ def point_until_shown(browser, line, word, query, expected):
 
 
 def run_to_add(browser):
-    """Runs the program to ADD, the instruction after RDM. R5 is then 1, and the nibble that the program writes is 7. Also checks the texts of the
-    new session."""
+    """Runs the program to ADD, the instruction after RDM. R5 is then 1, and the nibble that the program writes is 7. Also checks texts that the page
+    shows in the new session."""
     browser.script("document.getElementById('change-place').value = 'nonsense'")
     choose_example(browser, "empty bench")
     verdict("another session resets the field for a place", browser.script("return document.getElementById('change-place').value"), "lamps")
@@ -66,7 +66,7 @@ def run_to_add(browser):
     eventually(browser, "the status names the running board and the key that pauses it", GET_STATUS, 'Running "my board". F5 pauses it.')
     point_until_shown(browser, line_of("INC R5"), "R5", GET_EXPLANATION, "R5: the lower half of P2.")
     eventually(browser, "a register has no value while the program is running", GET_EXPLANATION, "R5: the lower half of P2.")
-    stop_time(browser)
+    pause_running_time(browser)
     send_lines(browser, "reset")
     send_lines(browser, "poke ram.0.0x12 0")
     send_lines(browser, "run 11")
@@ -117,7 +117,7 @@ def check_line_values(browser):
 
 
 def check_watched(browser):
-    """Checks that watched names, expressions and conditions show their values, which change with the machine, and that a wrong expression is
+    """Checks that watched names, expressions and conditions show their values, which change with the machine, and that an invalid expression is
     reported."""
     browser.type_into("#watched-field", "count = R16" + ENTER)
     eventually(browser, "a wrong watch expression is reported", "return document.querySelector('#watched-status').textContent",
@@ -139,9 +139,9 @@ MOVE_FOCUS = "document.activeElement.blur(); document.querySelector(arguments[0]
 
 
 def check_last_change(browser):
-    """Checks that a cell's tooltip reports its last change and what made it, and that going back to the change leads there."""
+    """Checks that a cell's tooltip reports the cell's last change and its cause, and that the user can go back to this change."""
     if browser.script("return document.getElementById('run').textContent") == "Pause":
-        stop_time(browser)
+        pause_running_time(browser)
     send_lines(browser, "run 100\npoke ram.0.0x13 5\nrun 7")
     browser.script(MOVE_FOCUS, ".ram button[title$='SRC byte 13']")
     eventually(browser, "the tooltip reports the line that changed the cell last", GET_CHANGE_TIP,
@@ -175,8 +175,8 @@ def check_heat_map(browser):
     send_lines(browser, "reset")
     send_lines(browser, "poke ram.0.0x12 3")
     send_lines(browser, "run 100")
-    get_names = "return [...document.querySelectorAll('.cell-names:not([hidden])')].map((line) => line.textContent)"
-    eventually(browser, "the nibble has its name from the source", get_names, ["2 digit"])
+    names_script = "return [...document.querySelectorAll('.cell-names:not([hidden])')].map((line) => line.textContent)"
+    eventually(browser, "the nibble has its name from the source", names_script, ["2 digit"])
     browser.script(CHOOSE_OPTION, "heat", "often")
     browser.script(CHOOSE_OPTION, "heat-cycles", "some")
     eventually(browser, "a wrong number of cycles is rejected with a message", GET_HEAT_STATUS, re.compile("^Enter a number of cycles"))

@@ -8,7 +8,7 @@ import re
 import subprocess
 import time
 
-from page_in_browser import GET_NOTICE, GET_STATUS, choose_example, send_lines, choose_from_file_menu, show_text, stop_time, until_ready
+from page_in_browser import GET_NOTICE, GET_STATUS, choose_example, send_lines, choose_from_file_menu, show_text, pause_running_time, until_ready
 from picture import write_picture
 from verdicts import eventually, verdict
 
@@ -136,7 +136,7 @@ def check_click_moves_cursor(browser):
 def check_saved_recording(browser, folder, mcs4):
     """Checks that the saved recording equals, byte for byte, the output of mcs4 wave for the saved session."""
     choose_example(browser, "calculator")
-    stop_time(browser)
+    pause_running_time(browser)
     session = folder / "waves.mcs"
     session.write_bytes(save_file(browser, folder, "#save-session-button", "calculator.mcs"))
     board, program = TOP / "examples/calculator/board.toml", TOP / "examples/calculator/calculator.asm"
@@ -168,7 +168,7 @@ def check_saved_recording(browser, folder, mcs4):
 def check_past_cycles(browser):
     """Checks that the cycles before a pause can be recorded. The page runs these cycles again, with the key presses in them."""
     choose_example(browser, "calculator")
-    stop_time(browser)
+    pause_running_time(browser)
     send_lines(browser, "run 300\npress 0 0\nrun 5000\nrelease 0 0\nrun 3000")
     verdict("the status after recording the cycles before the stop", record(browser, 8200, "before"), "8,200 cycles recorded, 88.560 ms.")
     browser.script(CHOOSE_LINES, ["key.7", "pc"])
@@ -192,7 +192,7 @@ def check_live_recording(browser, folder, mcs4):
     """Checks that the page records a running machine while keys are pressed. The recording before and after the key press must be the output of
     `mcs4 wave` for a copy of the earlier session."""
     choose_example(browser, "calculator")
-    stop_time(browser)
+    pause_running_time(browser)
     session = folder / "live.mcs"
     session.write_bytes(save_file(browser, folder, "#save-session-button", "calculator.mcs"))
     browser.script(FILL_FIELDS, {"trigger": "", "behind": "500"})
@@ -224,9 +224,9 @@ def check_live_recording(browser, folder, mcs4):
     verdict("the live recording up to the key press is the output of mcs4 wave",
             describe_difference([change for change in changes_after(saved_bytes, 0) if change[0] <= down],
                        [change for change in changes_after(expected, 0) if change[0] <= down]), "")
-    key_script = f"run {down}\npress 0 0\nrun {up - down}\nrelease 0 0\n" if down <= 100000 else ""
-    if key_script and up - down <= 100000:
-        subprocess.run([mcs4, "open", session], input=key_script, text=True, stdout=subprocess.PIPE, check=True)
+    key_lines = f"run {down}\npress 0 0\nrun {up - down}\nrelease 0 0\n" if down <= 100000 else ""
+    if key_lines and up - down <= 100000:
+        subprocess.run([mcs4, "open", session], input=key_lines, text=True, stdout=subprocess.PIPE, check=True)
         expected_after_key = output_of_wave(mcs4, "--board", board, session, str(int(count) - up), *names)
         # Skip the first cycle: if the recording begins inside an instruction, the counter already points to the next instruction.
         verdict("the live recording after the key release is the output of mcs4 wave", describe_difference([change for change in changes_after(saved_bytes, up) if change[0] > 1],
@@ -260,7 +260,7 @@ def check_triggers(browser):
     """Checks that a recording with a trigger has cycles before and after the trigger, and that the trigger pauses time on request."""
     choose_example(browser, "stopwatch")
     send_lines(browser, "test 0")
-    stop_time(browser)
+    pause_running_time(browser)
     browser.script(FILL_FIELDS, {"trigger": "lamp15 rises", "behind": "1000"})
     browser.script("document.getElementById('stops-time').checked = true")
     verdict("the status before the trigger", record(browser, 3000, "live"), "Records as soon as the machine runs. Waiting for lamp15 rises.")
@@ -289,7 +289,7 @@ def check_triggers(browser):
 
 def check_value_search(browser):
     """Checks that a value can be searched for by keyboard in both directions, and that a missing value is reported."""
-    get_search_status = "return document.getElementById('wave-search-status').textContent"
+    search_status_script = "return document.getElementById('wave-search-status').textContent"
     choose_example(browser, "stopwatch")
     send_lines(browser, "test 0")
     browser.script(CHOOSE_LINES, ["r3"])
@@ -310,15 +310,16 @@ def check_value_search(browser):
                          ("@nowhere", "The program of this recording has no label nowhere.")):
         browser.script(FILL_FIELDS, {"wave-search": query})
         browser.click("#find-after")
-        eventually(browser, f"the message about the search for {query}", get_search_status, re.compile(f"^{re.escape(message)}"))
+        eventually(browser, f"the message about the search for {query}", search_status_script, re.compile(f"^{re.escape(message)}"))
     browser.script(FILL_FIELDS, {"wave-search": "lamp0 = 1"})
     browser.script(FOCUS_CANVAS)
     browser.keys([END], 1, 1)
     browser.click("#find-after")
-    eventually(browser, "a value that is not found is reported", get_search_status, "lamp0 = 1: not after cycle 30,000 of this recording.")
+    eventually(browser, "a value that is not found is reported", search_status_script, "lamp0 = 1: not after cycle 30,000 of this recording.")
 
 
-# The point in the middle of a row's height, in the window. The arguments are the distance in pixels from the canvas's left edge, and the row.
+# Returns the point at half the height of a row, in window coordinates. The arguments are the distance in pixels from the canvas's left edge, and the
+# row.
 GET_ROW_CENTRE = """
 const { left, top } = document.getElementById("wave-canvas").getBoundingClientRect();
 return [Math.round(left + arguments[0]), Math.round(top + 26 * (1.35 + arguments[1]))]"""
@@ -334,7 +335,7 @@ return new Promise((done) => {
     };
   };
 })"""
-GET_MEASURED = "const shown = document.getElementById('wave-measure'); return shown.hidden ? '' : shown.textContent"
+GET_MEASUREMENT = "const shown = document.getElementById('wave-measure'); return shown.hidden ? '' : shown.textContent"
 
 
 def act_at_row(browser, x, row, *actions, kind="mouse"):
@@ -375,10 +376,10 @@ def check_pointer_actions(browser):
     eventually(browser, "the selected rows", GET_NAMES, "lamp13 lamp14 lamp15")
     width = browser.script("return document.getElementById('wave-canvas').clientWidth")
     act_at_row(browser, 150 + (width - 150) * 0.5, 2)
-    eventually(browser, "the measurement under the pointer", GET_MEASURED,
+    eventually(browser, "the measurement under the pointer", GET_MEASUREMENT,
                re.compile(r"^[01] for 926 cycles, 10\.001 ms; period 1,852 cycles, 20\.002 ms, 50\.00 Hz$"))
     act_at_row(browser, 40, 2)
-    eventually(browser, "no measurement at the names", GET_MEASURED, "")
+    eventually(browser, "no measurement at the names", GET_MEASUREMENT, "")
     cycles_before = cycles_between(browser, 250, 350)
     turn_wheel(browser, 250, 2, -100)
     cycles_now = cycles_between(browser, 250, 350)
@@ -427,7 +428,7 @@ def check_pictures(browser, folder):
 
 
 def check_rejected_recordings(browser):
-    """Checks that wrong numbers of cycles and a file without lines are rejected, that a recording can be cancelled, and that another session shows
+    """Checks that invalid numbers of cycles and a file without lines are rejected, that a recording can be cancelled, and that another session shows
     no recording."""
     for text in ("0", "10000001", "many", ""):
         verdict(f"{text or 'nothing'} cycles are rejected with a message", record(browser, text), "Enter a number of cycles, from 1 to 10,000,000.")
@@ -442,7 +443,7 @@ def check_rejected_recordings(browser):
     browser.script("document.getElementById('cancel').click()")
     verdict("a recording can be cancelled", browser.until(GET_SCOPE_STATUS, re.compile(".")), re.compile("cancelled, and nothing was recorded|10,000,000 cycles recorded"))
     choose_example(browser, "empty bench")
-    stop_time(browser)
+    pause_running_time(browser)
     verdict("another session shows no recording", browser.script("return document.getElementById('waves').hidden"), True)
     verdict("the status after recording without a program", record(browser, 10), re.compile("^10 cycles recorded"))
     verdict("no notice is shown", browser.script(GET_NOTICE), "")

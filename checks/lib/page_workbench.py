@@ -3,7 +3,7 @@ page remembers the layout, and can reset it. Also about what a new user sees, an
 
 import re
 
-from page_in_browser import ENTER, ESCAPE, GET_STATUS, choose_example, reopen_page, show_text, stop_time, until_ready
+from page_in_browser import ENTER, ESCAPE, GET_STATUS, choose_example, reopen_page, show_text, pause_running_time, until_ready
 from verdicts import eventually, verdict
 
 HOME, UP, RIGHT, LEFT, F1 = "\ue011", "\ue013", "\ue014", "\ue012", "\ue031"
@@ -170,7 +170,7 @@ def check_first_glance(browser, page, set_size):
     # On a busy machine, the status first reports that the tab was busy.
     eventually(browser, f"at most {MAX_WORDS} words are visible", COUNT_WORDS.replace("return words", f"return words <= {MAX_WORDS}"), True)
     verdict("the controls below 24 pixels", browser.script(FIND_SMALL_CONTROLS, 24), [])
-    stop_time(browser)
+    pause_running_time(browser)
     show_text(browser, "waves")
     browser.script("document.getElementById('record-where').value = 'before'")
     browser.click("#record")
@@ -204,8 +204,8 @@ GET_HELP_WIDTH = "return document.getElementById('help').getBoundingClientRect()
 
 
 def check_details(browser, set_size):
-    """Checks that details of the layout are right. For example, all settings of twenty keys are visible, displays have different colours in the
-    gallery, and an empty bench has one offer."""
+    """Checks details of the layout. For example, all settings of twenty keys must be visible, and displays must have different colours in the list of
+    examples. An empty bench must show only the offer of a board."""
     set_size(browser, 1440, 900)
     choose_example(browser, "calculator")
     show_text(browser, "wiring")
@@ -265,7 +265,7 @@ def position_of_word(browser, word):
 
 def check_watch_rows(browser):
     """Checks that the rows of four watched values have 24 pixels each."""
-    stop_time(browser)
+    pause_running_time(browser)
     for expression in ("count = R5", "R6", "acc", "P2"):
         browser.type_into("#watched-field", expression + ENTER)
     eventually(browser, "the number of watched values", COUNT_WATCHES, 4)
@@ -293,8 +293,8 @@ def check_click_count(browser, task, max_clicks, perform):
     """Checks that a new user's task needs at most `max_clicks` clicks. Typing does not count."""
     browser.script(COUNT_CLICKS)
     perform(browser)
-    clicks = browser.script("return window.clicks")
-    verdict(f"{task} takes {max_clicks} clicks at most", 0 < clicks <= max_clicks or clicks, True)
+    click_count = browser.script("return window.clicks")
+    verdict(f"{task} takes {max_clicks} clicks at most", 0 < click_count <= max_clicks or click_count, True)
 
 
 def draw_board(browser):
@@ -384,7 +384,7 @@ return new Promise((done) => {
 })"""
 
 
-def check_shifts(browser, page, set_size):
+def check_layout_shifts(browser, page, set_size):
     """Checks that nothing moves after it has been painted."""
     for width, height in ((1440, 900), (390, 844)):
         set_size(browser, width, height, width < 700)

@@ -35,7 +35,7 @@ REPLACEMENTS = {
     r"\w+n't|(?:it|that|let|here|there)'s|you're": "no contraction",
 }
 BETTER_WORDS = list(REPLACEMENTS.values())
-ANY_AVOIDED = re.compile("|".join(rf"\b(?P<word{n}>{words})\b" for n, words in enumerate(REPLACEMENTS)), re.I)
+AVOIDED_WORDS = re.compile("|".join(rf"\b(?P<word{n}>{words})\b" for n, words in enumerate(REPLACEMENTS)), re.I)
 # The beginnings of the sentences that are exempt, with the reasons.
 EXCEPTIONS = {
     "places are acc,": "a list of the places",
@@ -52,11 +52,11 @@ BLOCK_BEGIN = r"\s*(?:\||- |\d+\. )|#"
 
 def blocks_of(text):
     """Yields paragraphs, list items, cells and headings, each with the number of its first line, without code blocks."""
-    block, first, is_in_code = [], 1, False
+    block, first_number, is_in_code = [], 1, False
     for number, line in enumerate([*text.splitlines(), ""], 1):
         is_fence = line.startswith("```")
         if block and (not line.strip() or is_fence or re.match(BLOCK_BEGIN, line)):
-            yield first, " ".join(block)
+            yield first_number, " ".join(block)
             block = []
         is_in_code ^= is_fence
         if is_in_code or is_fence or (line.startswith("    ") and not block and not re.match(BLOCK_BEGIN, line)):
@@ -64,7 +64,7 @@ def blocks_of(text):
         if line.startswith("|"):
             yield from ((number, cell.strip()) for cell in line.strip("|").split("|"))
         elif line.strip():
-            first = first if block else number
+            first_number = first_number if block else number
             block.append(line.strip() if block else re.sub(r"^(?:- |\d+\. |#+ )", "", line.strip()))
 
 
@@ -84,6 +84,6 @@ def errors_of(text):
         word_count = len(re.findall(r"\w[\w'/-]*", sentence))
         if word_count > MAX_WORDS:
             yield number, f"a sentence of {word_count} words, with a limit of {MAX_WORDS}: {sentence[:60]}.."
-        for match in ANY_AVOIDED.finditer(sentence):
+        for match in AVOIDED_WORDS.finditer(sentence):
             context = sentence[max(0, match.start() - 20):match.end() + 20]
             yield number, f"\"{match[0]}\" in \"{context}\": write {BETTER_WORDS[int(match.lastgroup.removeprefix('word'))]}"

@@ -21,7 +21,7 @@ from board4004 import ADDRESS_COUNT, CODES, TWO_WORDS, Board
 
 # A comparison, in the words of a question: `in` or `out`, the list, the index, the part, the minimum and the maximum.
 Comparison = tuple[str, str, int, str, int, int]
-# The condition that the next cycle makes one of these mistakes: `mistake`, then their names.
+# The condition that the next cycle makes one of these mistakes: the word `mistake`, and the names of the mistakes.
 Mistakes = tuple[str, ...]
 # A row of conditions, which is met when all its conditions are met.
 Row = list[Comparison | Mistakes]
@@ -145,10 +145,10 @@ def cell_value(board: Board, name: str, index: int) -> int:
 # The maximum number of open calls, which is the number of the processor's return addresses.
 MAX_OPEN_CALLS = 3
 # The instructions that access a RAM chip: its nibbles, its status nibbles and its port.
-RAM_INSTRUCTIONS = {"WRM", "RDM", "ADM", "SBM", "WMP", *(f"{way}{k}" for way in ("WR", "RD") for k in range(4))}
+RAM_INSTRUCTIONS = {"WRM", "RDM", "ADM", "SBM", "WMP", *(f"{prefix}{k}" for prefix in ("WR", "RD") for k in range(4))}
 MISTAKES = ("code", "call", "return", "ram", "rom", "rdr", "wrr")
 # The attributes that the search adds to a board: the number of open calls, the stopwatch and its cycles, the marks and the number of marks seen. The
-# last one has the limits of the inputs.
+# last attribute has the limits of the inputs.
 CALLS, STOPWATCH, ELAPSED, MARK_SEQUENCE, SEEN, LIMITS = "calls", "stopwatch", "elapsed", "mark_sequence", "seen", "limits"
 
 
@@ -213,9 +213,9 @@ def marks_seen(board: Board) -> int:
     return getattr(board, SEEN, 0)
 
 
-def set_marks_seen(board: Board, seen: int) -> None:
+def set_marks_seen(board: Board, seen_count: int) -> None:
     """Sets the number of marks seen."""
-    setattr(board, SEEN, seen)
+    setattr(board, SEEN, seen_count)
 
 
 def value_with(board: Board, keys_down: Iterable[Key]) -> int:
@@ -327,8 +327,8 @@ def is_late(board: Board, within: int | None) -> bool:
 def failure_condition(question: Question) -> Condition:
     """Returns a function that returns true if the question's property fails. It fails if a row of `nevers` is met, the stopwatch exceeds its limit, or
     a row of `opens` is met before its marks were seen."""
-    is_bad = condition_of(question.nevers)
-    return lambda board: is_bad(board) or is_late(board, question.within) or is_early(board)
+    is_failure = condition_of(question.nevers)
+    return lambda board: is_failure(board) or is_late(board, question.within) or is_early(board)
 
 
 # ---- the inputs that a question allows
@@ -430,7 +430,7 @@ def load_state(board: Board, state: tuple) -> None:
         chips.ram[bank], chips.status[bank] = bytearray(characters), list(map(bytearray, status))
 
 
-def run_to_next_state(board: Board, levels: Levels, is_bad: Condition, pause: int) -> tuple[int, bool]:
+def run_to_next_state(board: Board, levels: Levels, is_failure: Condition, pause: int) -> tuple[int, bool]:
     """Executes one cycle with these levels of keys and TEST, and then continues to the next state, or until the property fails. Returns the number
     of cycles, and true if the property failed after the last one."""
     board.chips.pressed_keys, board.test = set(levels[0]), levels[1]
@@ -440,7 +440,7 @@ def run_to_next_state(board: Board, levels: Levels, is_bad: Condition, pause: in
             # The state repeats, so nothing changes any more.
             return cycles - 1, False
         run_cycle(board)
-        if is_bad(board):
+        if is_failure(board):
             return cycles, True
         if is_reading(board) or board.pc == start_address and state_of(board) == start_state:
             return cycles, False
@@ -465,8 +465,8 @@ def power_on(question: Question) -> Board:
 
 def search(question: Question) -> SearchResult:
     """Searches for a failure of the question's property, and returns the result."""
-    board, is_bad = power_on(question), failure_condition(question)
-    if is_bad(board):
+    board, is_failure = power_on(question), failure_condition(question)
+    if is_failure(board):
         return SearchResult("may fail", 1)
     if question.max_states < 1:
         return SearchResult("too many", 1)
@@ -475,7 +475,7 @@ def search(question: Question) -> SearchResult:
         load_state(board, state)
         for value, levels in sorted(values_read(board).items()):
             load_state(board, state)
-            if run_to_next_state(board, levels, is_bad, question.pause)[1]:
+            if run_to_next_state(board, levels, is_failure, question.pause)[1]:
                 return SearchResult("may fail", len(states), [*values_leading_to(origins, index), value])
             new_state = state_of(board)
             if new_state not in known_states:
@@ -498,16 +498,16 @@ def values_leading_to(origins: list[tuple[int, int]], index: int) -> list[int]:
 
 def is_met_when_driven(question: Question, rng: random.Random, cycles: int) -> bool:
     """Returns true if the property fails within a number of cycles when keys and TEST are set to random allowed levels before each cycle."""
-    board, is_bad = power_on(question), failure_condition(question)
+    board, is_failure = power_on(question), failure_condition(question)
     keys, test_levels = allowed_keys(board), allowed_test_levels(board)
     for _cycle in range(cycles):
-        if is_bad(board):
+        if is_failure(board):
             return True
         keys_down = [key for key in keys if rng.random() < 0.1]
         board.chips.pressed_keys = set(rng.sample(keys_down, min(len(keys_down), max_keys_down(board))))
         board.test = rng.choice(test_levels)
         run_cycle(board)
-    return is_bad(board)
+    return is_failure(board)
 
 
 # ---- replaying a counterexample
@@ -522,21 +522,22 @@ def commands(levels: Levels, previous: Levels) -> list[str]:
 def replay_lines(question: Question, path: list[int]) -> tuple[list[str], str]:
     """Returns the session lines that replay a counterexample up to the cycle in which the property fails, and a description of the error, or "" if
     there is none."""
-    board, is_bad, levels_before = power_on(question), failure_condition(question), LEVELS_AT_POWER_ON
-    lines, has_failed = [*itertools.chain(*question.texts()), "reset"], is_bad(board)
+    board, is_failure, levels_before = power_on(question), failure_condition(question), LEVELS_AT_POWER_ON
+    lines, has_failed = [*itertools.chain(*question.texts()), "reset"], is_failure(board)
     for index, value in enumerate(path):
-        readable = values_read(board)
-        if has_failed or value not in readable:
-            return lines, f"value {index + 1} of the way {path}: " + ("it is met before" if has_failed else f"only {sorted(readable)} can be read at {board.pc:03X}")
-        levels = readable[value]
-        cycles, has_failed = run_to_next_state(board, levels, is_bad, question.pause)
+        readable_values = values_read(board)
+        if has_failed or value not in readable_values:
+            return lines, f"value {index + 1} of the way {path}: " + ("it is met before" if has_failed else f"only {sorted(readable_values)} can be read at {board.pc:03X}")
+        levels = readable_values[value]
+        cycles, has_failed = run_to_next_state(board, levels, is_failure, question.pause)
         lines += commands(levels, levels_before) + [f"run {part}" for part in run_lengths(cycles)]
         levels_before = levels
     return lines, "" if has_failed else f"nothing is met on the way {path}"
 
 
 def excluded_input(limits: InputLimits, lines: list[str]) -> str:
-    """Returns a description of the inputs at the first run in session lines at which the limits exclude them, or "" if there is no such run."""
+    """Finds the first `run` in session lines at which the limits do not allow the inputs. Returns a description of these inputs, or "" if there is no
+    such `run`."""
     keys_down, test = LEVELS_AT_POWER_ON
     for line in lines:
         command, *words = line.split() or [""]

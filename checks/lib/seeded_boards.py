@@ -95,7 +95,8 @@ class Program:
         self.put(address, statement + self.rng.choice([["JUN"], ["JUN"], ["BBL 3"], [f"DB 0x{self.rng.choice(INVALID_CODES):02X}"], []]))
 
     def put(self, address: int, statements: list[str]) -> None:
-        """Adds statements from an address on, as far as there is room. `^4` in a jump is the target four statements before it."""
+        """Adds statements from an address on, as far as there is room. `^5` after a jump sets its target to the first of the last five statements,
+        the jump included."""
         put: list[int] = []
         for statement in statements:
             statement, _sign, back = statement.partition(" ^")
@@ -111,7 +112,7 @@ class Program:
 
     def put_end_of_page(self, page: int) -> None:
         """Adds two or three NOPs and then a jump within a page, or a FIN, at the end of a page. Adds nothing if there is no room, or if the board
-        lacks the next page. The last instruction usually refers to the next page, because the word after it is there."""
+        lacks the next page. The last instruction usually refers to the next page, because the word after it is on that page."""
         if (page >> 8) + 1 in self.wiring.pages and {page + 0xFC, page + 0xFD, page + 0xFE, page + 0xFF, page + 0x100} <= self.free:
             name = self.rng.choice(["ISZ R3", "JCN 12", "JCN 4", "JIN P2", "FIN P2"])
             self.put(page + 0xFC, [*self.rng.randrange(2, 4) * ["NOP"], name])
@@ -143,12 +144,12 @@ class Program:
         clock, data, _chips = self.rng.choice(self.wiring.chains)
         numbers = [int(word) for word in clock[3:].split(".")]
         up, down = (f"LDM {1 << numbers[-1] | self.rng.choice([0, 1 << int(data[-1])]) | self.rng.choice([0, 4])}", "LDM 0")
-        begin = [f"FIM P{pair}, 0x{16 * numbers[0] if clock.startswith('rom') else 64 * numbers[1]:02X}", f"SRC P{pair}"]
+        selection = [f"FIM P{pair}, 0x{16 * numbers[0] if clock.startswith('rom') else 64 * numbers[1]:02X}", f"SRC P{pair}"]
         if clock.startswith("ram"):
-            begin = [f"LDM {numbers[0]}", "DCL", *begin]
+            selection = [f"LDM {numbers[0]}", "DCL", *selection]
         write = "WRR" if clock.startswith("rom") else "WMP"
         pulse = [up, write, down, write]
-        return begin + (self.rng.randrange(1, 6) * pulse if self.rng.random() < 0.5 else [*pulse, f"ISZ R{self.rng.randrange(16)} ^5"])
+        return selection + (self.rng.randrange(1, 6) * pulse if self.rng.random() < 0.5 else [*pulse, f"ISZ R{self.rng.randrange(16)} ^5"])
 
     def any_instruction(self, value: int, pair: int) -> str:
         """Returns a random instruction of any kind. The target of a jump is added later."""
@@ -160,8 +161,8 @@ class Program:
 
     def random_labels(self) -> dict[int, str]:
         """Returns labels for some of the addresses. Some of the labels look like numbers."""
-        labelled = self.rng.sample(self.begins, min(len(self.begins), self.rng.choice([0, 2, 12])))
-        return {address: NAMES[i] if i < len(NAMES) else f"l{address:03X}" for i, address in enumerate(labelled)}
+        labelled_addresses = self.rng.sample(self.begins, min(len(self.begins), self.rng.choice([0, 2, 12])))
+        return {address: NAMES[i] if i < len(NAMES) else f"l{address:03X}" for i, address in enumerate(labelled_addresses)}
 
     def target(self, address: int, name: str) -> str:
         """Returns the target of a jump as a name or a number, usually that of an instruction."""
@@ -170,11 +171,11 @@ class Program:
         page = (address + 2) % ADDRESS_COUNT >> 8 if name in ("JCN", "ISZ") else self.rng.choice(self.wiring.pages)
         candidates = [begin for begin in self.begins if begin >> 8 == page]
         # The targets up to 12 bytes before the jump, which make a short loop.
-        near = [begin for begin in candidates if address - 12 < begin <= address]
-        if name == "ISZ" and near and self.rng.random() < 0.7:
-            candidates = near
-        goal = self.rng.choice(candidates) if candidates and self.rng.random() < 0.95 else 256 * page + self.rng.randrange(256)
-        return self.names.get(goal, f"0x{goal:03X}")
+        near_targets = [begin for begin in candidates if address - 12 < begin <= address]
+        if name == "ISZ" and near_targets and self.rng.random() < 0.7:
+            candidates = near_targets
+        target_address = self.rng.choice(candidates) if candidates and self.rng.random() < 0.95 else 256 * page + self.rng.randrange(256)
+        return self.names.get(target_address, f"0x{target_address:03X}")
 
     def text(self) -> list[str]:
         """Returns the text of the program."""
@@ -192,7 +193,7 @@ class Program:
         return lines
 
 
-class Seeded:
+class SeededSession:
     """A random board and program, and random commands for a session with them."""
 
     def __init__(self, seed: int) -> None:
@@ -208,7 +209,7 @@ class Seeded:
 
     def address(self) -> int:
         """Returns an address, usually of an instruction, and often before a loop that clocks a chain, or at the end of a page."""
-        loops = [goal - 3 for goal in self.program.loops.values()]
+        loops = [target_address - 3 for target_address in self.program.loops.values()]
         if loops and self.rng.random() < 0.3:
             return self.rng.choice(loops)
         ends = [address for address in self.program.begins if address & 0xFC == 0xFC]
@@ -236,15 +237,15 @@ class Seeded:
 
     def stop_command(self, board: Board) -> str:
         """Returns a command that sets or removes a breakpoint or a watch, usually one that the program soon reaches, or at which it has stopped."""
-        ahead, visited, written = board.copy(), [board.pc], [self.ram_nibble()]
-        ahead.breaks = set()
+        board_ahead, visited, written_nibbles = board.copy(), [board.pc], [self.ram_nibble()]
+        board_ahead.breaks = set()
 
         def note_address(_done: int, address: int) -> None:
             visited.append(address)
-            written.extend([(ahead.dcl, ahead.chips.bank_src[ahead.dcl])] if ahead.rom[address] == 0xE0 else [])
+            written_nibbles.extend([(board_ahead.dcl, board_ahead.chips.bank_src[board_ahead.dcl])] if board_ahead.rom[address] == 0xE0 else [])
 
-        ahead.run(300, note_address)
-        address, (bank, src) = self.rng.choice([board.pc, self.address(), *visited[-20:]]), self.rng.choice(written)
+        board_ahead.run(300, note_address)
+        address, (bank, src) = self.rng.choice([board.pc, self.address(), *visited[-20:]]), self.rng.choice(written_nibbles)
         return self.rng.choice([f"break {address}"] * 2 + [f"unbreak {address}"] + [f"watch {bank} {src}"] * 2 + [f"unwatch {bank} {src}"])
 
     def trace_place(self) -> str:

@@ -29,8 +29,8 @@ def random_program(number):
     rng = random.Random(number)
     names = [f"n{i}" for i in range(8)]
     # The names that no line has defined so far. The remaining names are defined at the end, so that most programs are accepted.
-    undefined = list(names)
-    rng.shuffle(undefined)
+    undefined_names = list(names)
+    rng.shuffle(undefined_names)
 
     def value(maximum):
         return rng.choice([str(rng.randrange(maximum + 1)), f"0x{rng.randrange(maximum + 1):x}"])
@@ -46,26 +46,26 @@ def random_program(number):
             statement = rng.choice(["ORG 4096", "LDM 16", "DB 256", "DB", "NOP NOP", "ORG 4095", "JUN nowhere", "ORG 0", "n0 = 4096", "R1: NOP"])
         if rng.random() < 0.06:
             statement = f"ORG {rng.randrange(0, 4000)}"
-        if undefined and rng.random() < 0.15:
-            name = undefined.pop()
+        if undefined_names and rng.random() < 0.15:
+            name = undefined_names.pop()
             statement = f"{name}: {statement}" if rng.random() < 0.8 else f"{name} = {value(4095)}"
         return rng.choice(["", " ", "\t"]) + statement + rng.choice(["", "", " ; a comment", "\t;"])
 
     lines = [line() for _ in range(rng.randrange(1, 60))]
-    return lines + [f"{name}:" for name in undefined if rng.random() < 0.98]
+    return lines + [f"{name}:" for name in undefined_names if rng.random() < 0.98]
 
 
-# Lines with each kind of error. Some are always wrong, and others only in most programs.
-WRONG_LINES = ("FOO", "LDM", "NOP NOP", "1: NOP", "DB 1,, 2", "ORG 4096", "n9 = 5000", "n0: NOP", "n1 = 7", "P1 = 3", "ORG 4095", "JUN n20", "LDM 16",
+# Lines with each kind of error. Some are always invalid, and others only in most programs.
+INVALID_LINES = ("FOO", "LDM", "NOP NOP", "1: NOP", "DB 1,, 2", "ORG 4096", "n9 = 5000", "n0: NOP", "n1 = 7", "P1 = 3", "ORG 4095", "JUN n20", "LDM 16",
          "DB 256", "FIM P0, 300", "ISZ R1, 0xF00", "JCN 4, 2000", "BBL n21")
 
 
-def wrong_program(number):
-    """Returns the lines of a random program with wrong lines, with `number` as the seed. In half of the programs, only the assembler's second pass
+def program_with_errors(number):
+    """Returns the lines of a random program with invalid lines, with `number` as the seed. In half of the programs, only the assembler's second pass
     finds the errors of these lines."""
     rng = random.Random(number)
     lines = random_program(number)
-    rows = WRONG_LINES if rng.random() < 0.5 else WRONG_LINES[11:]
+    rows = INVALID_LINES if rng.random() < 0.5 else INVALID_LINES[11:]
     count = rng.choice([1, 2, 3, 5, 150])
     for _n in range(count):
         line = rng.choice(rows)

@@ -15,7 +15,7 @@ from board4004 import Board
 from second_search import (
     MISTAKES, Comparison, InputLimits, Key, Mark, Question, Row, all_keys, cell_value, elapsed_of, run_to_next_state, is_mark_shown, power_on, search,
     values_read)
-from seeded_boards import INVALID_CODES, Program, Seeded, Wiring
+from seeded_boards import INVALID_CODES, Program, SeededSession, Wiring
 
 # Most of the instructions that do not access a chip.
 CHIPLESS_INSTRUCTIONS = ["CLB", "CLC", "IAC", "CMC", "CMA", "RAL", "RAR", "TCC", "DAC", "TCS", "STC", "DAA", "KBP"]
@@ -51,12 +51,12 @@ class ReadingProgram(Program):
         """Returns instructions that clock a chain up to three times, usually with its data line at 1."""
         numbers = [int(word) for word in clock[3:].split(".")]
         pair = self.rng.randrange(8)
-        begin = [f"FIM P{pair}, 0x{16 * numbers[0] if clock.startswith('rom') else 64 * numbers[1]:02X}", f"SRC P{pair}"]
+        selection = [f"FIM P{pair}, 0x{16 * numbers[0] if clock.startswith('rom') else 64 * numbers[1]:02X}", f"SRC P{pair}"]
         if clock.startswith("ram"):
-            begin = [f"LDM {numbers[0]}", "DCL", *begin]
+            selection = [f"LDM {numbers[0]}", "DCL", *selection]
         write = "WRR" if clock.startswith("rom") else "WMP"
         data_bit = 1 << int(data[-1]) if self.rng.random() < 0.7 else 0
-        return begin + self.rng.randrange(1, 4) * [f"LDM {data_bit}", write, f"LDM {data_bit | 1 << numbers[-1]}", write]
+        return selection + self.rng.randrange(1, 4) * [f"LDM {data_bit}", write, f"LDM {data_bit | 1 << numbers[-1]}", write]
 
     def selection_phrases(self, pair: int) -> list[str]:
         """Returns instructions that select a chip, usually one with inputs."""
@@ -143,15 +143,15 @@ def random_comparison(rng: random.Random, wiring: Wiring, boards: list[dict[tupl
     """Returns a random comparison, usually of a cell that changes on a random walk. It compares the cell with one of its values on that walk, or
     with another value."""
     name, index = rng.choice(cells_of(wiring))
-    changing = [each for each in boards[0] if len({seen[each] for seen in boards}) > 1]
-    if changing and rng.random() < 0.8:
-        name, index = rng.choice(changing)
+    changing_cells = [each for each in boards[0] if len({seen[each] for seen in boards}) > 1]
+    if changing_cells and rng.random() < 0.8:
+        name, index = rng.choice(changing_cells)
     elif rng.random() < 0.1:
         name = rng.choice([*CELL_COUNTS])
         index = rng.randrange(CELL_COUNTS[name])
     numbers = [seen.get((name, index), 0) for seen in boards]
-    others = [number for number in numbers if number != numbers[0]] or numbers
-    number = rng.choice(others) if rng.random() < 0.5 else rng.randrange(256 if name == "counter" else 16)
+    other_values = [number for number in numbers if number != numbers[0]] or numbers
+    number = rng.choice(other_values) if rng.random() < 0.5 else rng.randrange(256 if name == "counter" else 16)
     if rng.random() < 0.3:
         k = rng.randrange(4)
         return rng.choice(["in", "out"]), name, index, f"line{k}", *[rng.choice([1 - (numbers[0] >> k & 1), rng.randrange(2)])] * 2
@@ -159,9 +159,9 @@ def random_comparison(rng: random.Random, wiring: Wiring, boards: list[dict[tupl
     return ("in", name, index, "whole", number, min(number + width, 255)) if rng.random() < 0.85 else ("out", name, index, "whole", 0, number)
 
 
-def at_address(seen: dict[tuple[str, int], int]) -> Row:
+def comparisons_at_address(recorded_values: dict[tuple[str, int], int]) -> Row:
     """Returns comparisons that are true when the program counter has the value in a recorded state, between two instructions."""
-    return [("in", "counter", 3, "whole", 0, 0), *(("in", "counter", n, "whole", *[seen["counter", n]] * 2) for n in (4, 5))]
+    return [("in", "counter", 3, "whole", 0, 0), *(("in", "counter", n, "whole", *[recorded_values["counter", n]] * 2) for n in (4, 5))]
 
 
 def opposite_comparison(words: Comparison) -> Comparison:
@@ -179,17 +179,17 @@ def add_stopwatch(question: Question, rng: random.Random, wiring: Wiring, boards
         condition = random_comparison(rng, wiring, boards)
         question.begins, question.ends = [[condition]], [[opposite_comparison(condition)]]
     elif kind < 0.8:
-        question.begins, question.ends = [at_address(rng.choice(boards))], [at_address(rng.choice(boards))]
+        question.begins, question.ends = [comparisons_at_address(rng.choice(boards))], [comparisons_at_address(rng.choice(boards))]
     else:
         question.begins = [[random_comparison(rng, wiring, boards)] for _row in range(rng.choice([1, 2]))]
         question.ends = [[random_comparison(rng, wiring, boards), *([("mistake", *MISTAKES)] if rng.random() < 0.2 else [])] for _row in range(rng.choice([1, 2]))]
     if rng.random() < 0.15:
         # Compare the lowest byte of the number that the stopwatch shows.
         question.ends.append([("in", "counter", 16, "whole", rng.randrange(1, 6), 255)])
-    question.within = max(0, longest_seen(question, rng) + rng.choice([-1, 0, 0, 0, 1, 3]))
+    question.within = max(0, longest_time(question, rng) + rng.choice([-1, 0, 0, 0, 1, 3]))
 
 
-def longest_seen(question: Question, rng: random.Random) -> int:
+def longest_time(question: Question, rng: random.Random) -> int:
     """Returns the longest time that the stopwatch of a question shows on several random walks."""
     shown = [0]
 
@@ -197,7 +197,7 @@ def longest_seen(question: Question, rng: random.Random) -> int:
         shown.append(elapsed_of(board))
         return False
 
-    for _way in range(TIMED_WALKS):
+    for _walk in range(TIMED_WALKS):
         board = power_on(dataclasses.replace(question, within=0))
         for _n in range(MAX_WALK_STATES):
             values = values_read(board)
@@ -252,15 +252,15 @@ def key_waiting_question(rng: random.Random, wiring: Wiring) -> Question:
 
 def marks_on_walk(question: Question, rng: random.Random) -> list[tuple[Board, list[Mark]]]:
     """Returns the machine at some states of a random walk, each with the marks that the next cycle shows."""
-    board, way = power_on(question), []
+    board, walk = power_on(question), []
     for _n in range(2 * MAX_WALK_STATES):
         values = values_read(board)
         levels = values[rng.choice(sorted(values))]
         board.chips.pressed_keys = set(levels[0])
         marks = [(level, row, column) for row, column in all_keys(board) for level in ("up", "down") if is_mark_shown(board, (level, row, column))]
-        way.append((copy.deepcopy(board), marks))
+        walk.append((copy.deepcopy(board), marks))
         run_to_next_state(board, levels, lambda _board: False, min(question.pause, 50))
-    return way
+    return walk
 
 
 def seeded_question(seed: int, max_states: int) -> Question:
@@ -268,8 +268,8 @@ def seeded_question(seed: int, max_states: int) -> Question:
     rng = random.Random(seed)
     wiring: Wiring
     if seed % 8 == 7:
-        seeded = Seeded(seed)
-        wiring, question = seeded.wiring, Question(seeded.board_text, seeded.program_text)
+        session = SeededSession(seed)
+        wiring, question = session.wiring, Question(session.board_text, session.program_text)
     elif seed % 8 == 6:
         wiring = KeyWiring(rng)
         question = key_waiting_question(rng, wiring)
@@ -325,8 +325,8 @@ def chord_question(rng: random.Random, wiring: Wiring) -> Question:
         program += [" KBP", " IAC", " JCN 12, loop"]
     else:
         lines = {int(line[-1]) for line in rng.sample(wiring.columns, rng.randrange(1, len(wiring.columns) + 1))}
-        fixed = sum(1 << k for k in range(4) if wiring.ports[1][3 - k] == "1")
-        program += [" XCH R12", f" LDM {sum(1 << line for line in lines) | fixed}", " CLC", " SUB R12", " JCN 12, loop"]
+        fixed_bits = sum(1 << k for k in range(4) if wiring.ports[1][3 - k] == "1")
+        program += [" XCH R12", f" LDM {sum(1 << line for line in lines) | fixed_bits}", " CLC", " SUB R12", " JCN 12, loop"]
     program += rng.choice([[], [], [" JCN 1, loop"], [" JCN 9, loop"]])
     nevers: list[Row] = [[("in", "register", register, "whole", number, number)]]
     return Question(wiring.text(), [*program, f" LDM {number}", f" XCH R{register}", " JUN loop"], nevers)
@@ -349,7 +349,8 @@ def random_limited_question(rng: random.Random, max_states: int) -> Question:
 
 
 def limited_question(seed: int, max_states: int) -> Question:
-    """Returns a random question with limits of the inputs. If a few attempts find one, the limits change the result of a short search."""
+    """Returns a random question with limits of the inputs. Makes a few attempts to find one for which the limits change the result of a short
+    search."""
     rng = random.Random(f"limits {seed}")
     for _attempt in range(MAX_ATTEMPTS):
         question = random_limited_question(rng, max_states)
@@ -360,16 +361,16 @@ def limited_question(seed: int, max_states: int) -> Question:
 
 
 def lines_in_random_order(question: Question, rng: random.Random) -> list[str]:
-    """Returns the lines of a question, with the lines of its limits at random places outside the texts. One of these lines is repeated. If there is a
-    `together` line, another one with another number precedes it, because only the last one counts."""
+    """Returns the lines of a question, with the lines of its limits at random positions outside the texts. One of these lines is repeated. If there
+    is a `together` line, another one with another number precedes it, because only the last one counts."""
     limits = question.limits.lines()
     together = [line for line in limits if line.startswith("together")]
-    others = [line for line in limits if line not in together]
+    other_values = [line for line in limits if line not in together]
     parts = without_limits(question).parts()
-    for line in [*others, *rng.sample(others, min(len(others), 1))]:
+    for line in [*other_values, *rng.sample(other_values, min(len(other_values), 1))]:
         parts.insert(rng.randrange(len(parts)), [line])
     for line in together:
-        place = rng.randrange(len(parts))
-        parts.insert(place, [line])
-        parts.insert(rng.randrange(place + 1), [f"together {rng.randrange(256)}"])
+        position = rng.randrange(len(parts))
+        parts.insert(position, [line])
+        parts.insert(rng.randrange(position + 1), [f"together {rng.randrange(256)}"])
     return [line for part in parts for line in part]

@@ -108,7 +108,7 @@ class State:
     carry: int = 0
     registers: bytearray = dataclasses.field(default_factory=lambda: bytearray(16))
     counter: int = 0
-    returns: list = dataclasses.field(default_factory=lambda: [0, 0, 0])
+    return_addresses: list = dataclasses.field(default_factory=lambda: [0, 0, 0])
     bank: int = 0
     rom_source: int = 0
     bank_sources: bytearray = dataclasses.field(default_factory=lambda: bytearray(8))
@@ -125,7 +125,7 @@ class State:
         encoded = number(self.seq, 4) + (b"\x02" if version == 2 else b"") + self.board.bytes()
         encoded += self.rom + self.ram + self.status + self.ram_ports + self.rom_ports
         encoded += bytes([self.accumulator, self.carry]) + self.registers
-        encoded += b"".join(number(address, 2) for address in [self.counter, *self.returns])
+        encoded += b"".join(number(address, 2) for address in [self.counter, *self.return_addresses])
         encoded += bytes([self.bank, self.rom_source]) + self.bank_sources + bytes([self.owed])
         encoded += b"".join(self.chains) + self.keys + bytes([self.test])
         encoded += bytes([len(self.breakpoints)]) + b"".join(number(address, 2) for address in self.breakpoints)
@@ -136,7 +136,7 @@ class State:
     def regs_answer(self):
         """Returns the answer to `regs`."""
         return (f"acc {self.accumulator:X} cy {self.carry} pc {self.counter:03X} owed {self.owed} dcl {self.bank} test {self.test} "
-                f"r {''.join(f'{register:X}' for register in self.registers)} ret {' '.join(f'{address:03X}' for address in self.returns)}")
+                f"r {''.join(f'{register:X}' for register in self.registers)} ret {' '.join(f'{address:03X}' for address in self.return_addresses)}")
 
     def cycle(self):
         """Executes one cycle, with the few instructions that the checks use."""
@@ -161,15 +161,15 @@ class State:
     def run(self, cycles):
         """Runs a number of cycles, or up to a breakpoint. Returns the part of the answer with the number of cycles and the reason for the stop."""
         start = self.loop_key()
-        done = skipped = 0
-        while done + skipped < cycles:
+        done_cycles = skipped = 0
+        while done_cycles + skipped < cycles:
             self.cycle()
-            done += 1
+            done_cycles += 1
             if not self.owed and self.counter in self.breakpoints:
-                return f" ran {done} break"
+                return f" ran {done_cycles} break"
             if self.loop_key() == start and skipped == 0:
                 # The program loops, so whole iterations are skipped.
-                skipped = (cycles - done) // done * done
+                skipped = (cycles - done_cycles) // done_cycles * done_cycles
         return f" ran {cycles} end"
 
     def loop_key(self):
@@ -186,9 +186,9 @@ class State:
         return " ran 2 end"
 
     def reset(self):
-        """Performs a power cycle. ROM, keys, TEST, breakpoints, watches and wiring stay."""
+        """Performs a power cycle. ROM, keys, TEST, breakpoints, watches and wiring are kept."""
         new = State()
-        for part in ("ram", "status", "ram_ports", "rom_ports", "accumulator", "carry", "registers", "counter", "returns", "bank", "rom_source",
+        for part in ("ram", "status", "ram_ports", "rom_ports", "accumulator", "carry", "registers", "counter", "return_addresses", "bank", "rom_source",
                      "bank_sources", "owed"):
             setattr(self, part, getattr(new, part))
         self.chains = [bytearray(len(chain)) for chain in self.chains]
@@ -311,7 +311,7 @@ def file_with_snapshot(snapshot):
 
 
 def put_record(file, offset, record):
-    """Writes a record to a log, and the end of the log after it."""
+    """Writes a record to a log, followed by the byte that marks the end of the log."""
     file[offset:offset + 3 + len(record) + 1] = b"\x01" + number(len(record), 2) + record + b"\x00"
 
 

@@ -118,7 +118,7 @@ def read_state(snapshot):
     for part, count in (("ram", 2048), ("status", 512), ("ram_ports", 32), ("rom_ports", 16)):
         setattr(state, part, reader.numbers(count, 15))
     state.accumulator, state.carry, state.registers = reader.number(15), reader.number(1), reader.numbers(16, 15)
-    state.counter, *state.returns = [reader.number(4095) for _n in range(4)]
+    state.counter, *state.return_addresses = [reader.number(4095) for _n in range(4)]
     state.bank, state.rom_source, state.bank_sources, state.owed = reader.number(7), reader.number(255), reader.take(8), reader.number(1)
     state.chains = [reader.numbers(10 * chips, 1) for _clock, _data, chips in board.chains]
     state.keys, state.test = reader.numbers(board.key_count(), 1), reader.number(1)
@@ -151,7 +151,7 @@ def bench_of(state):
     bench.seq, board = state.seq, bench.board
     board.wire(state.board.text())
     board.rom[:] = state.rom
-    board.acc, board.cy, board.pc, board.ret = state.accumulator, state.carry, state.counter, list(state.returns)
+    board.acc, board.cy, board.pc, board.ret = state.accumulator, state.carry, state.counter, list(state.return_addresses)
     board.r, board.dcl, board.owed, board.test = list(state.registers), state.bank, state.owed, state.test
     board.breaks, board.watches = {*state.breakpoints}, {*state.watches}
     chips = board.chips

@@ -1,11 +1,11 @@
 """Valid and invalid records of session files, written manually from docs/FORMAT.md ("Bytes of commands")."""
 
 from session_file import Board, Command, State, load, ram_line, rom_line, run, step, wire
-from session_states import LARGEST, state_with_chains
+from session_states import LARGEST_BOARD, state_with_chains
 
 NO_ROMS = b"-" * 64
-TWO_KEYS = Board({0: "0000", 1: "1i0i"}, {}, [(rom_line(0, 0), rom_line(0, 1), 1)], (0, 0, 1, [rom_line(1, 0), rom_line(1, 2)]))
-EACH_PART = Board({0: "1i0i"}, {1: 2}, [(rom_line(0, 1), rom_line(0, 3), 3)], (0, 5, 2, [rom_line(0, 2)]), [ram_line(1, 0, 3)])
+TWO_KEYS_BOARD = Board({0: "0000", 1: "1i0i"}, {}, [(rom_line(0, 0), rom_line(0, 1), 1)], (0, 0, 1, [rom_line(1, 0), rom_line(1, 2)]))
+BOARD_WITH_EACH_PART = Board({0: "1i0i"}, {1: 2}, [(rom_line(0, 1), rom_line(0, 3), 3)], (0, 5, 2, [rom_line(0, 2)]), [ram_line(1, 0, 3)])
 
 
 def part_setter(part, value):
@@ -29,14 +29,14 @@ def wire_with_record(board, record):
 
 
 # Boards with their records. The first board is empty. In the second one, the order of a port's characters matters (lines 3, 2, 1, 0). The third one
-# has each part, and the last one has the maximum of each part.
+# has every kind of part, and the last one has as many of each kind as possible.
 BOARDS = [
     wire_with_record(Board(), b"\1" + NO_ROMS + bytes(11)),
-    wire_with_record(TWO_KEYS, b"\1" + b"0000" + b"1i0i" + NO_ROMS[:56]
+    wire_with_record(TWO_KEYS_BOARD, b"\1" + b"0000" + b"1i0i" + NO_ROMS[:56]
           + bytes.fromhex("0000000000000000 01 00000000 00000100 01 01000001 02 00010000 00010200 00")),
-    wire_with_record(EACH_PART, b"\1" + b"1i0i" + NO_ROMS[:60]
+    wire_with_record(BOARD_WITH_EACH_PART, b"\1" + b"1i0i" + NO_ROMS[:60]
           + bytes.fromhex("0002000000000000 01 00000100 00000300 03 01000502 01 00000200 01 01010003")),
-    wire_with_record(LARGEST, b"\1" + b"1i0i" * 16 + bytes.fromhex("0404040404040404 04") + bytes.fromhex("00000100 00000300 08") * 4
+    wire_with_record(LARGEST_BOARD, b"\1" + b"1i0i" * 16 + bytes.fromhex("0404040404040404 04") + bytes.fromhex("00000100 00000300 08") * 4
           + bytes.fromhex("0103460a 08") + bytes.fromhex("000f0000") * 8 + bytes.fromhex("40") + bytes.fromhex("02034f00") * 64),
 ]
 # The number of bytes in the record of the largest board.
@@ -72,7 +72,7 @@ COMMANDS = [
 NEW_BOARD = b"\1" + Board().bytes()
 LOAD = bytes([2, 3, *bytes(513)])
 # Invalid records. On the largest board, a parser that does not reject them would read a command that the bench accepts.
-WRONG_RECORDS = [
+INVALID_RECORDS = [
     *(bytes(record) for record in (
         [0], [14], [3, 0], [3, 0, 0, 0], [5, 0, 0, 0], [6, 0], [7], [7, 8, 0], [7, 0, 16], [7, 1, 2], [7, 2, 0x10, 0], [7, 3, 16, 0],
         [7, 3, 0, 16], [7, 4, 8], [7, 6, 8, 0, 0], [7, 7, 0, 0, 4, 0], [8, 2], [10, 0x10, 0], [11, 0], [12], [12, 8, 0], [12, 0],
@@ -84,7 +84,7 @@ WRONG_RECORDS = [
 ]
 VALID_RECORDS = [bytes([3, 0, 0]), bytes([5, 0, 0, 0, 1]), bytes([7, 0, 15]), NEW_BOARD, LOAD]
 # Commands that exist in version 1, and commands that only version 2 has. All records are in the format of version 2.
-FIRST_COMMANDS = [wire(EACH_PART.text(), EACH_PART), wire(state_with_chains(2, 4).board.text(), state_with_chains(2, 4).board), step(),
+COMMANDS_OF_BOTH_VERSIONS = [wire(BOARD_WITH_EACH_PART.text(), BOARD_WITH_EACH_PART), wire(state_with_chains(2, 4).board.text(), state_with_chains(2, 4).board), step(),
                   command_with_record("poke pc 1", [7, 2, 0, 1], part_setter("counter", 1)), run(1)]
-LATER_COMMANDS = [wire(state_with_chains(3, 1).board.text(), state_with_chains(3, 1).board), wire(state_with_chains(1, 5).board.text(), state_with_chains(1, 5).board),
+COMMANDS_OF_VERSION_2 = [wire(state_with_chains(3, 1).board.text(), state_with_chains(3, 1).board), wire(state_with_chains(1, 5).board.text(), state_with_chains(1, 5).board),
                   command_with_record("watch 0 0", [12, 0, 0], part_setter("watches", [(0, 0)])), command_with_record("unwatch 0 0", [13, 0, 0], part_setter("watches", []))]

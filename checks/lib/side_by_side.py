@@ -6,10 +6,11 @@ gate runs, it is SHIPPED_PROGRAM. If that is empty, the checks start after the g
 
 As many checks run at the same time as there are processors, the longest first. While the gate runs, one check runs at a time, or more while
 processors are idle, and none on fewer than four processors. Checks that read what the gate builds run after it. Checks that type at a terminal run at
-the end, beside each other but beside no other check, because one of them measures time. The whole output of a check is printed when the check has
-ended. The output of the gate is printed line by line. On a terminal, a line shows what is running and the remaining time, estimated from the times of
-the last run (in the cache folder) or from the table below. As root, it installs missing packages with apt-get; otherwise the check counts as not run.
-A process that a check leaves is ended. FOLDER/summed gets the numbers of passed and failed verdicts, and FOLDER/left_out the lines 'not run: ..'.
+the end, in parallel with each other but with no other check, because one of them measures time. The whole output of a check is printed when the check
+has ended. The output of the gate is printed line by line. On a terminal, a line shows what is running and the remaining time, estimated from the
+times of the last run (in the cache folder) or from the table below. As root, it installs missing packages with apt-get; otherwise the check counts as
+not run. Processes that a check leaves running are ended. FOLDER/summed gets the numbers of passed and failed verdicts, and FOLDER/left_out the lines
+'not run: ..'.
 
 Status 0: all checks have ended, with any results. 130: interrupted. The results so far are printed.
 """
@@ -55,9 +56,9 @@ PACKAGES = {
 
 @dataclass(frozen=True)
 class Check:
-    """A script in checks/, with the commands and files that it needs, and those that only some parts of it need. Its times are the usual seconds,
-    and the seconds that each installed browser adds. Its arguments can differ by mode. It may type at a terminal, or read what the gate builds. If
-    the parts of a script run in parallel, each part is a separate check, named by `part`."""
+    """A script in checks/, with the commands and files that it needs, and the commands and files that only some of its parts need. Its times are the
+    usual seconds, and the seconds that each installed browser adds. Its arguments can differ by mode. It may type at a terminal, or read what the
+    gate builds. If the parts of a script run in parallel, each part is a separate check, named by `part`."""
 
     name: str
     needs: str = ""
@@ -65,9 +66,9 @@ class Check:
     arguments: str = ""
     long: str | None = None
     quick: str | None = None
-    at_terminal: bool = False
-    reads_built: bool = False
-    parts_need: str = ""
+    types_at_terminal: bool = False
+    reads_gate_output: bool = False
+    needs_of_parts: str = ""
     part: str = ""
     browser_seconds: int = 0
 
@@ -99,27 +100,27 @@ CHECKS = [
     Check("page", "python3 node esbuild", 20, "--half 1", quick="--only layout use --browser Chromium", part="1", browser_seconds=350),
     Check("page", "python3 node esbuild", 20, "--half 2 --scripts 100", long="--half 2 --scripts 400 --anew", part="2", browser_seconds=350),
     Check("power", "python3 cc", 240, "--seconds 240", long="--long"),
-    Check("page_source", "python3 node", 150, parts_need="tsc eslint esbuild", quick=""),
+    Check("page_source", "python3 node", 150, needs_of_parts="tsc eslint esbuild", quick=""),
     Check("prove", "python3", 150, "200", long="2000", quick="30"),
     Check("tools", "flock", 130),
     Check("explore", "node parallel", 110, "2", long="60"),
     Check("installed", "flock", 90, "tools", part="tools"),
     Check("installed", "lintian", 60, "package", part="package"),
-    Check("allocations", "cc", 60, reads_built=True),
+    Check("allocations", "cc", 60, reads_gate_output=True),
     Check("time", "python3", 60, "300 30", long="2000 200", quick="30 5"),
     Check("installed", "zsh fish", 45, "use rejected lists elsewhere upgrade kept", part="files"),
     Check("hostile", "python3", 45, quick=""),
     Check("host", "cc", 45),
     Check("debugging", "node", 45, quick=""),
-    Check("aarch64", "aarch64-linux-gnu-gcc /usr/aarch64-linux-gnu/lib/libc.a", 40, reads_built=True),
-    Check("session_prompt", "python3 node", 40, quick="", at_terminal=True),
+    Check("aarch64", "aarch64-linux-gnu-gcc /usr/aarch64-linux-gnu/lib/libc.a", 40, reads_gate_output=True),
+    Check("session_prompt", "python3 node", 40, quick="", types_at_terminal=True),
     Check("installed", "prove", 30, "testing", part="testing"),
     Check("locks", "", 30, "100", long="1000"),
-    Check("panel", "tmux node", 30, at_terminal=True),
-    Check("prompt", "python3 node", 30, quick="", at_terminal=True),
+    Check("panel", "tmux node", 30, types_at_terminal=True),
+    Check("prompt", "python3 node", 30, quick="", types_at_terminal=True),
     Check("testing", "prove", 25, quick=""),
     Check("waves", "vcd2fst sigrok-cli sox", 25),
-    Check("shipped", "", 25, quick="", reads_built=True),
+    Check("shipped", "", 25, quick="", reads_gate_output=True),
     Check("stopped", "python3", 25),
     Check("wiring", "python3", 20, "2000", long="20000", quick="200"),
     Check("editors", "node nvim", 20, quick=""),
@@ -139,7 +140,7 @@ GATE = Check("lib/gate", "rt", 3000)
 
 
 @dataclass
-class Running:
+class RunningCheck:
     """A running check: its process, the file for its output, and its start time. Its mark is a variable in the environment of all processes that the
     check starts. After its end, `processor_seconds` is its processor time, with that of the processes for which it has waited."""
 
@@ -175,14 +176,14 @@ def is_available(need):
 
 def install_packages(checks):
     """As root, installs the missing packages of these checks, each with a separate apt-get."""
-    missing = sorted({PACKAGES.get(need, need) for check in checks for need in f"{check.needs} {check.parts_need}".split() if not is_available(need)})
+    missing = sorted({PACKAGES.get(need, need) for check in checks for need in f"{check.needs} {check.needs_of_parts}".split() if not is_available(need)})
     if not missing or os.geteuid() != 0 or not shutil.which("apt-get"):
         return
     print(f"test: apt-get installs {' '.join(missing)}", flush=True)
-    quiet = {"stdin": subprocess.DEVNULL, "stdout": subprocess.DEVNULL, "stderr": subprocess.DEVNULL, "check": False}
-    subprocess.run(["apt-get", "update"], **quiet)
+    quiet_options = {"stdin": subprocess.DEVNULL, "stdout": subprocess.DEVNULL, "stderr": subprocess.DEVNULL, "check": False}
+    subprocess.run(["apt-get", "update"], **quiet_options)
     for packages in missing:
-        subprocess.run(["apt-get", "install", "-y", "--no-install-recommends", *packages.split()], **quiet)
+        subprocess.run(["apt-get", "install", "-y", "--no-install-recommends", *packages.split()], **quiet_options)
 
 
 def processes_with(mark):
@@ -256,7 +257,7 @@ class Run:
             # A check must receive the signals that this process ignores, for example in the background. `env` restores them.
             process = subprocess.Popen(["env", "--default-signal=INT,QUIT", *arguments], cwd=TOP, env=environment, stdin=subprocess.DEVNULL,
                                        stdout=file, stderr=subprocess.STDOUT)
-        self.running.append(Running(check, process, output, mark))
+        self.running.append(RunningCheck(check, process, output, mark))
         return self.running[-1]
 
     def start(self, check):
@@ -311,14 +312,14 @@ class Run:
         if len(self.running) >= self.max_running():
             return None
         for check in self.waiting:
-            if not check.at_terminal and (is_gate_over or not check.reads_built):
+            if not check.types_at_terminal and (is_gate_over or not check.reads_gate_output):
                 self.waiting.remove(check)
                 return check
-        if is_gate_over and self.waiting and all(running.check.at_terminal for running in self.running):
+        if is_gate_over and self.waiting and all(running.check.types_at_terminal for running in self.running):
             return self.waiting.pop(0)
         return None
 
-    def turn(self):
+    def update(self):
         """Ends checks that exceed their time limit, counts the checks that have ended, and starts the next one."""
         for running in list(self.running):
             if not running.is_over() and running.is_late():
@@ -342,7 +343,7 @@ class Run:
             self.gate = Gate(self.begin(GATE, [f"checks/{GATE.name}"]).output)
         install_packages(self.checks)
         while self.waiting or self.running:
-            self.turn()
+            self.update()
             self.progress()
             time.sleep(0.2)
 
@@ -354,15 +355,15 @@ class Run:
         """On a terminal, prints the progress line: the number of finished checks, the running ones, and the estimated remaining time."""
         if not sys.stdout.isatty():
             return
-        spent = {running.check.label: running.seconds() for running in self.running}
-        remaining = {check: max(self.expected_seconds[check.label] - spent.get(check.label, 0), 5)
-                     for check in [*self.checks, GATE] if check in self.waiting or check.label in spent}
+        elapsed_seconds = {running.check.label: running.seconds() for running in self.running}
+        remaining = {check: max(self.expected_seconds[check.label] - elapsed_seconds.get(check.label, 0), 5)
+                     for check in [*self.checks, GATE] if check in self.waiting or check.label in elapsed_seconds}
         check_seconds = sum(seconds for check, seconds in remaining.items() if check is not GATE) / min(self.processors, max(len(remaining), 1))
-        names = ", ".join(name for name in spent if name != GATE.label)
+        names = ", ".join(name for name in elapsed_seconds if name != GATE.label)
         gate = f"gate {self.gate.passed} of {self.gate.crates} crates, " if self.gate and not self.gate.is_over else ""
-        done = sum(check is not GATE for check in self.ended)
+        finished_count = sum(check is not GATE for check in self.ended)
         minutes = max(check_seconds, remaining.get(GATE, 0)) / 60
-        line = f"{gate}checks {done} of {len(self.checks)} done, running: {names or 'none'}, about {minutes:.0f} min left"
+        line = f"{gate}checks {finished_count} of {len(self.checks)} done, running: {names or 'none'}, about {minutes:.0f} min left"
         print(f"\r\033[K{line[: shutil.get_terminal_size().columns - 1]}", end="", flush=True)
 
     def write_totals(self):
@@ -417,9 +418,9 @@ def store_times(mode, times):
     try:
         stored = json.loads(CACHE.read_text()) if CACHE.exists() else {}
         CACHE.parent.mkdir(parents=True, exist_ok=True)
-        temporary = CACHE.with_name(f"{CACHE.name}.{os.getpid()}")
-        temporary.write_text(json.dumps({**stored, mode: {**stored.get(mode, {}), **times}}))
-        temporary.replace(CACHE)
+        temporary_file = CACHE.with_name(f"{CACHE.name}.{os.getpid()}")
+        temporary_file.write_text(json.dumps({**stored, mode: {**stored.get(mode, {}), **times}}))
+        temporary_file.replace(CACHE)
     except (OSError, ValueError, TypeError, AttributeError):
         return
 

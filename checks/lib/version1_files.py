@@ -1,7 +1,7 @@
 """Session files of version 1 with their contents. The program of commit a1f6da2, the last one that wrote version 1, wrote these files."""
 
 from session_file import SIZE, State, poke_register, run, step
-from session_states import WORKED, zeros_except
+from session_states import WORKED_BOARD, zeros_except
 
 # A range of bytes that are not zero: an offset, bytes, and how many times these are repeated. All files have the ranges of NEW_BENCH, which are the
 # snapshot of a new bench.
@@ -25,14 +25,14 @@ def file_with(ranges, boards=()):
 
 def worked_state(program, chain=(), down=(), **parts):
     """Returns a state on the worked board with a program at address 0, ones in a chain, and pressed keys."""
-    return State(board=WORKED, rom=zeros_except(4_096, dict(enumerate(program))), chains=[zeros_except(10, dict.fromkeys(chain, 1))],
+    return State(board=WORKED_BOARD, rom=zeros_except(4_096, dict(enumerate(program))), chains=[zeros_except(10, dict.fromkeys(chain, 1))],
                  keys=zeros_except(80, {8 * row + column: 1 for row, column in down}), **parts)
 
 
 READ_KEYS = {"chain": (0, 1), "down": ((0, 1), (1, 2)), "rom_source": 0x10, "bank_sources": zeros_except(8, {0: 0x10}),
              "rom_ports": zeros_except(16, {0: 3})}
-# For each file: a description of the commands in it, the active slot, the file, its state, commands to execute after opening it, and queries after
-# these with their answers.
+# For each file: a description of its commands, the active slot, the file, its state, commands to execute after opening it, and then queries with
+# their answers.
 FILES = [
     ("poke r5 9", 0, file_with([(16_400, POKE, 1)]), State(seq=1, registers=zeros_except(16, {5: 9})),
      [poke_register(5, 3)], "", ""),

@@ -86,14 +86,14 @@ function testItem(id, label, uri) {
   return Object.assign(item, { children: new Items(item) });
 }
 
-/** Returns the files below a folder that match a pattern: `**` and a name or `*.ending`. */
+// Returns the files below a folder that match a pattern of the form `**/NAME` or `**/*.EXTENSION`.
 function filesIn(folder, pattern) {
   const [, name] = /^\*\*\/(.*)$/.exec(pattern);
   const matches = (each) => (name.startsWith("*") ? each.endsWith(name.slice(1)) : each === name);
   return readdirSync(folder).sort().flatMap((each) => {
-    const whole = join(folder, each);
-    if (statSync(whole).isDirectory()) return filesIn(whole, pattern);
-    return matches(each) ? [Uri.file(whole)] : [];
+    const path = join(folder, each);
+    if (statSync(path).isDirectory()) return filesIn(path, pattern);
+    return matches(each) ? [Uri.file(path)] : [];
   });
 }
 
@@ -102,14 +102,14 @@ class Plain {
     this.given = given;
   }
 }
-const PLAIN = ["Location", "Diagnostic", "Hover", "CompletionItem", "SnippetString", "DocumentSymbol", "CodeAction", "SemanticTokensLegend",
+const PLAIN_CLASSES = ["Location", "Diagnostic", "Hover", "CompletionItem", "SnippetString", "DocumentSymbol", "CodeAction", "SemanticTokensLegend",
   "SemanticTokens", "SemanticTokensEdits", "SemanticTokensEdit", "DebugAdapterExecutable", "TextEdit", "InlayHint", "FoldingRange",
   "SelectionRange", "SignatureInformation", "ParameterInformation", "SignatureHelp", "CodeLens", "DocumentLink", "SymbolInformation",
   "CallHierarchyItem", "CallHierarchyIncomingCall", "CallHierarchyOutgoingCall", "TestMessage", "ProcessExecution", "Task", "MarkdownString"];
 
 /**
- * @param {string} folder of the workspace
- * @param {Record<string, string>} settings of the user, by their names below `mcs4`
+ * @param {string} folder the folder of the workspace
+ * @param {Record<string, string>} settings the user's settings, by their names without the prefix `mcs4.`
  */
 export function standIn(folder, settings = {}) {
   const registered = {};
@@ -133,7 +133,7 @@ export function standIn(folder, settings = {}) {
   }, { get: (own, name) => own[name] || ((selector, provider) => register(name)(provider)) });
   const root = { uri: Uri.file(folder), name: basename(folder), index: 0 };
   const vscode = {
-    ...Object.fromEntries(PLAIN.map((name) => [name, class extends Plain {}])), Uri, Position, Range, languages,
+    ...Object.fromEntries(PLAIN_CLASSES.map((name) => [name, class extends Plain {}])), Uri, Position, Range, languages,
     DiagnosticSeverity: { Error: 0, Warning: 1, Information: 2 }, CodeActionKind: { QuickFix: "quickfix" }, FoldingRangeKind: { Comment: 1 },
     TestRunProfileKind: { Run: 1, Debug: 2 }, TaskScope: { Workspace: 2 }, TaskGroup: { Test: "test" }, ViewColumn: { Beside: -2 },
     WorkspaceEdit: class { replace() {} },
@@ -188,13 +188,13 @@ export function standIn(folder, settings = {}) {
   };
   /** Creates a webview. `posted` contains the messages that it receives, and `say` sends its messages. */
   function webview() {
-    const said = eventOf();
-    const own = {
-      cspSource: "vscode-resource:", html: "", options: {}, posted: [], onDidReceiveMessage: said.event,
+    const messageEvent = eventOf();
+    const view = {
+      cspSource: "vscode-resource:", html: "", options: {}, posted: [], onDidReceiveMessage: messageEvent.event,
       asWebviewUri: ({ fsPath }) => `vscode-resource:${basename(fsPath)}`,
-      postMessage: async (message) => own.posted.push(message), say: (message) => Promise.all(said.fire(message)),
+      postMessage: async (message) => view.posted.push(message), say: (message) => Promise.all(messageEvent.fire(message)),
     };
-    return own;
+    return view;
   }
   /** Opens a text as the editor does: first with the language that package.json assigns to its name. */
   function open(name, languageId) {

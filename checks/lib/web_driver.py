@@ -1,5 +1,5 @@
-"""Drives browsers with WebDriver, a protocol over HTTP, using only Python's library: Chromium through chromedriver, and WebKit, the engine of Safari
-and of all browsers on an iPhone, through WebKitWebDriver."""
+"""Drives browsers with WebDriver, a protocol over HTTP, using only Python's standard library. Chromium is driven through chromedriver. WebKit, the
+engine of Safari and of all browsers on an iPhone, is driven through WebKitWebDriver."""
 
 import base64
 import glob
@@ -14,7 +14,7 @@ import urllib.request
 
 from driven import BEFORE_SCRIPTS, ELEMENT, BrowserDriver, DriverError
 
-# Scripts that dispatch the events of a touch, and of a click with the secondary mouse button, for drivers that cannot do these.
+# Scripts that dispatch the events of a touch, and of a click with the secondary mouse button, for drivers that cannot perform these actions.
 TOUCH_ELEMENT = """
 const [selector, time] = arguments;
 const node = document.querySelector(selector);
@@ -47,9 +47,9 @@ class WebDriver(BrowserDriver):
         try:
             with urllib.request.urlopen(request, timeout=120) as answer:
                 return json.load(answer)["value"]
-        except urllib.error.HTTPError as fault:
-            fault_value = json.load(fault)["value"]
-            raise DriverError(f"{fault_value['error']}: {fault_value['message']}".split("\n")[0]) from None
+        except urllib.error.HTTPError as http_error:
+            error_value = json.load(http_error)["value"]
+            raise DriverError(f"{error_value['error']}: {error_value['message']}".split("\n")[0]) from None
 
     def do(self, method, path, body=None):
         """Sends a request for the browser's session, and returns the value in the answer."""
@@ -134,7 +134,7 @@ class Chromium(WebDriver):
     """Chromium, which chromedriver controls."""
     name = "Chromium"
     # With these settings, Chromium stores no site data.
-    blocks_data = {"profile.default_content_setting_values.cookies": 2}
+    data_blocking_settings = {"profile.default_content_setting_values.cookies": 2}
 
     def __init__(self, folder, downloads, flags=(), **settings):
         port = free_port()
@@ -173,7 +173,7 @@ class WebKit(WebDriver):
 
     name = "WebKit"
     # WebKit has no setting that blocks site data.
-    blocks_data = None
+    data_blocking_settings = None
     # WebKit's driver has only a mouse pointer, and no touch. It opens each tab as a separate window, so a page in a background tab still counts as
     # visible.
     can_multitouch = False

@@ -4,8 +4,8 @@ import random
 
 from board_spellings import TEXT_ENDS, EQUALS, KINDS, RawValue, seeded_board, random_tables_text
 
-# Wrong values for each key, besides those in INVALID_VALUES, which are wrong for every key.
-WRONG_VALUES = {
+# Invalid values for each key, besides INVALID_VALUES, which are invalid for every key.
+INVALID_VALUES_BY_KEY = {
     "chip": [16, -1, 99], "port": ["000", "00000", "iii2", "IIII", "o000"], "bank": [8, -1], "chips": [0, 9, 5], "clock": ["chain0.0", "rom00.1"],
     "data": ["ram0.4.0", "rom0"], "chain": [4, -1], "first": [80, -1], "rows": [0, 11], "line": ["rom16.0", "chain4.0", "ram8.0.0", "led"],
     "columns": [[], ["rom0.4"], ["chain0.0"], ["ram0.0.0"]],
@@ -41,10 +41,10 @@ def add_key(rng, tables):
         table[rng.choice(UNKNOWN_KEYS)] = rng.choice([1, "a", INVALID_VALUES[0]])
 
 
-def set_wrong_value(rng, tables):
-    """Usually sets a key of one of the tables to a wrong value."""
-    if (table := random_table(rng, tables)) and (key := rng.choice([*table])) in WRONG_VALUES:
-        table[key] = rng.choice([*WRONG_VALUES[key], rng.choice(INVALID_VALUES)])
+def set_invalid_value(rng, tables):
+    """Usually sets a key of one of the tables to an invalid value."""
+    if (table := random_table(rng, tables)) and (key := rng.choice([*table])) in INVALID_VALUES_BY_KEY:
+        table[key] = rng.choice([*INVALID_VALUES_BY_KEY[key], rng.choice(INVALID_VALUES)])
 
 
 def replace_line(rng, tables):
@@ -85,7 +85,7 @@ def move_keys(rng, tables):
         tables["keys"][0][rng.choice(["chain", "first", "rows"])] = rng.choice([0, 1, 3, 9, 10, 70, 79])
 
 
-CHANGES = (remove_key, add_key, set_wrong_value, set_wrong_value, replace_line, replace_line, remove_table, repeat_table, exceed_limit, move_keys)
+CHANGES = (remove_key, add_key, set_invalid_value, set_invalid_value, replace_line, replace_line, remove_table, repeat_table, exceed_limit, move_keys)
 
 
 def spoil_text(rng, text):
@@ -108,7 +108,7 @@ def top_line(rng):
     return f"{section}{rng.choice(EQUALS)}{value}{rng.choice(TEXT_ENDS)}"
 
 
-def wrong_board(number):
+def board_with_errors(number):
     """Returns the lines of a random board's text, usually with an error in it. `number` is the seed."""
     rng = random.Random(number)
     board = seeded_board(rng)

@@ -1,4 +1,4 @@
-"""Wrong input for mcs4-prove, with the expected answers: invalid lines, rejected texts, and texts at the limits that are accepted."""
+"""Invalid and unusual input for mcs4-prove, with the expected answers: invalid lines, rejected texts, and texts at the limits that are accepted."""
 
 from __future__ import annotations
 
@@ -94,7 +94,7 @@ KEYS_QUESTION = [
     'data = "rom0.1"', "chips = 1", "[keys]", "chain = 0", "first = 0", "rows = 1", 'columns = ["rom1.0", "rom1.1"]', ".",
     "asm", " LDM 2", " WRR", " LDM 3", " WRR", " FIM P0, 0x10", " SRC P0", "loop: JCN 1, read", " LDM 1", " XCH R3", "read: RDR", " XCH R2",
     " JUN loop", "."]
-# The conditions that the program reads no key, each key, both keys, and a 1 at TEST.
+# The conditions that are true after the program has read no key, each of the keys, both keys, or a 1 at TEST.
 READS = {"none": "in register 2 whole 8 8", "first": "in register 2 line0 1 1", "second": "in register 2 line1 1 1",
          "both": "in register 2 whole 11 11", "test": "in register 3 whole 1 1"}
 ALL_READS, ALL_BUT_BOTH = {*READS}, {"none", "first", "second", "test"}

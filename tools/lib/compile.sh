@@ -9,15 +9,15 @@ libraries_of() {
 }
 
 # Records the libraries on which a crate depends. They must have been proved and built from the present sources.
-note_libraries() {
+record_libraries() {
     mkdir -p "$top/crates/$1/out"
     lines_of "$1" | crates_of_lines | grep -vxF -- "$1" | sed 's|.*|crates/&/out/rlib/&.rlib/format|' | sums_of_files > "$(libraries_of "$1")"
-    note_built "$(sum_of_crate "$1")" "$(libraries_of "$1")"
+    record_built "$(sum_of_crate "$1")" "$(libraries_of "$1")"
 }
 
 # Succeeds if the libraries on which a crate depends are those that this user has proved and built here from the present sources.
 has_libraries() {
-    is_own_note && [ -f "$(libraries_of "$1")" ] && grep -qxF -- "$(sum_of_crate "$1") $(sum_of_input < "$(libraries_of "$1")")" "$built_from" &&
+    is_own_record && [ -f "$(libraries_of "$1")" ] && grep -qxF -- "$(sum_of_crate "$1") $(sum_of_input < "$(libraries_of "$1")")" "$build_record" &&
         (cd "$top" && sha256sum --status -c "$(libraries_of "$1")")
 }
 
@@ -28,7 +28,7 @@ compile_crate() {
     shift 3
     kit=$(dirname -- "$(rt doc)")
     set -- --crate-name "$crate" "$source" --extern "std=$kit/rlibs/std.rlib" -L "dependency=$kit/rlibs" "$@"
-    for name in $(uses_of "$crate"); do set -- "$@" --extern "$name=$top/crates/$name/out/rlib/$name.rlib"; done
+    for name in $(dependencies_of "$crate"); do set -- "$@" --extern "$name=$top/crates/$name/out/rlib/$name.rlib"; done
     for rlib in "$top"/crates/*/out/rlib; do set -- "$@" -L "dependency=$rlib"; done
     (cd "$top/crates/$crate" && exec "$kit/bin/rattle" build "$@" --antt-project "$kit/rattle/logic/antt-project.json" \
         --logic-built "$kit/logic_built" --links "$crate=" --incremental out/incremental) > "$log" 2>&1 || return
@@ -41,16 +41,16 @@ compile_crate() {
 # Compiles the object file of a program that was built here, if it does not exist. Arguments: the name of the crate, and the file for the kit's
 # output. Linked as the kit links it, the object file must give the same program.
 need_object() {
-    made=$top/crates/$1/out/$1
-    if [ -f "$made.o" ]; then return; fi
+    built_program=$top/crates/$1/out/$1
+    if [ -f "$built_program.o" ]; then return; fi
     kit=$(dirname -- "$(rt doc)")
-    has_libraries "$1" && compile_crate "$1" src/main.rt "$2" --toolchain "$kit/toolchain" --backend llvm -o "$made.new.o" &&
-        "$kit/bin/rattle-link" --target x86_64-unknown-linux-gnu --toolchain "$kit/toolchain" -o "$made.new" "$made.new.o" "$kit/c/libos_c.a" \
+    has_libraries "$1" && compile_crate "$1" src/main.rt "$2" --toolchain "$kit/toolchain" --backend llvm -o "$built_program.new.o" &&
+        "$kit/bin/rattle-link" --target x86_64-unknown-linux-gnu --toolchain "$kit/toolchain" -o "$built_program.new" "$built_program.new.o" "$kit/c/libos_c.a" \
             "$kit/c/liblibc_c.a" > "$2" 2>&1 || return
-    cmp -s "$made.new" "$made" || {
+    cmp -s "$built_program.new" "$built_program" || {
         echo "it is not the program that was built" > "$2"
         return 1
     }
-    rm -f "$made.new"
-    mv "$made.new.o" "$made.o"
+    rm -f "$built_program.new"
+    mv "$built_program.new.o" "$built_program.o"
 }

@@ -32,10 +32,10 @@ while [ "$rest" != "${rest#*/}" ]; do
     rest=${rest#*/}
 done
 names=$cache/$names$rest.names
-seen=${names%.names}.seen
+stamps=${names%.names}.seen
 # A line for each program that this user has built, with the checksums of its sources and of its bytes. The file is outside the tree: a tree
 # from somebody else could contain a program and a forged file.
-built_from=$cache/built
+build_record=$cache/built
 
 # Prints the sizes and times of the cache folder, and then those of all existing files and folders that a file lists after its first line.
 file_stamps() {
@@ -46,12 +46,12 @@ file_stamps() {
 # user could have written.
 read_cache() {
     if [ -z "$cache" ] || [ ! -O "$cache" ]; then return 1; fi
-    for each in "$names" "$seen"; do
+    for each in "$names" "$stamps"; do
         if [ -h "$each" ] || [ ! -O "$each" ]; then return 1; fi
     done
     file_stamps "$names" | {
         read -r mode _
-        [ "$mode" = 700 ] && exec cmp -s - "$seen"
+        [ "$mode" = 700 ] && exec cmp -s - "$stamps"
     } || return 1
     read -r program < "$names"
     program=$top/$program
@@ -60,9 +60,9 @@ read_cache() {
 # Creates the cache folder if necessary. Fails if it would not belong to the user, so that root creates no folder in another user's home.
 make_cache() {
     if [ -z "$cache" ]; then return 1; fi
-    above=${cache%/*}
-    if [ ! -e "$above" ]; then above=${above%/*}; fi
-    [ -O "$above" ] && (umask 077 && mkdir -p -- "$cache") 2> /dev/null && [ -O "$cache" ] && [ -w "$cache" ]
+    parent=${cache%/*}
+    if [ ! -e "$parent" ]; then parent=${parent%/*}; fi
+    [ -O "$parent" ] && (umask 077 && mkdir -p -- "$cache") 2> /dev/null && [ -O "$cache" ] && [ -w "$cache" ]
 }
 
 # Writes the program that was found, and the sizes and times, to the cache. Does nothing if a file has changed in the last three seconds, because a
@@ -70,10 +70,10 @@ make_cache() {
 write_cache() {
     {
         echo "${program#"$top/"}"
-        names_of_start
-    } > "$names.$$" && file_stamps "$names.$$" | sed 1d > "$seen.$$" && cmp -s "$seen.$$" "$seen.$$.before" &&
-        awk -v now="$(date +%s)" '$4 >= now - 3 || $5 >= now - 3 { young = 1 } END { exit young || NR < 10 }' "$seen.$$" &&
-        rm -f -- "$seen" && mv -f "$names.$$" "$names" && mv -f "$seen.$$" "$seen"
+        list_start_files
+    } > "$names.$$" && file_stamps "$names.$$" | sed 1d > "$stamps.$$" && cmp -s "$stamps.$$" "$stamps.$$.before" &&
+        awk -v now="$(date +%s)" '$4 >= now - 3 || $5 >= now - 3 { young = 1 } END { exit young || NR < 10 }' "$stamps.$$" &&
+        rm -f -- "$stamps" && mv -f "$names.$$" "$names" && mv -f "$stamps.$$" "$stamps"
 }
 
 # Succeeds if a program runs on this system: without arguments it prints its usage, with status 2. Sets `output` to its output, or to the
@@ -91,8 +91,8 @@ is_installed() {
 }
 
 # The beginnings of two messages: for a program for other systems, and for a program that is for this system but does not run.
-is_for="it is for Linux on"
-does_not_run="it does not run on this system"
+other_system_text="it is for Linux on"
+not_running_text="it does not run on this system"
 
 # Succeeds if no program can be built for this system, and sets `reason` to the message. Uses only `uname`, because such a system can lack all
 # other commands.
@@ -100,14 +100,14 @@ is_other_system() {
     case "$(uname -s) $(uname -m)" in
     "Linux x86_64" | "Linux aarch64") return 1 ;;
     esac
-    reason="$is_for x86-64, and this is $(uname -s) on $(uname -m)"
+    reason="$other_system_text x86-64, and this is $(uname -s) on $(uname -m)"
 }
 
 # Succeeds if `reason` says that the program is for another system, so that no program can be built here. Commands then run on the proved module.
 is_without_program() {
     case $reason in
-    "$is_for"*) ;;
-    "$does_not_run"*) is_installed || ! command -v rt > /dev/null ;;
+    "$other_system_text"*) ;;
+    "$not_running_text"*) is_installed || ! command -v rt > /dev/null ;;
     *) return 1 ;;
     esac
 }
@@ -123,7 +123,7 @@ find_installed() {
     elif [ "$(sha256sum < "$1")" != "$(sed -n "s/^$2 //p" "$top/installed")  -" ]; then
         reason="it is damaged: its checksum is not the one in $top/installed; install it again"
     elif [ ! -e /lib64/ld-linux-x86-64.so.2 ] && ! runs_here "$1"; then
-        reason="$does_not_run, $(uname -s) on $(uname -m); install it again"
+        reason="$not_running_text, $(uname -s) on $(uname -m); install it again"
     else
         program=$1
     fi
@@ -141,7 +141,7 @@ find_by_sources() {
         reason=$(shipped_problem "$sources" "$shipped" program x86_64)
         case $reason in
         '') program=$shipped ;;
-        "$does_not_run"*)
+        "$not_running_text"*)
             if [ -f "$static" ] && [ -z "$(shipped_problem "$sources" "$static" static x86_64)" ]; then
                 program=$static
                 reason=
@@ -167,13 +167,13 @@ find_program() {
         can_cache=1
         (umask 077 && {
             echo
-            names_of_start
-        } > "$names.$$" && file_stamps "$names.$$" | sed 1d > "$seen.$$.before") 2> /dev/null || can_cache=
+            list_start_files
+        } > "$names.$$" && file_stamps "$names.$$" | sed 1d > "$stamps.$$.before") 2> /dev/null || can_cache=
     fi
     find_by_sources
     if [ -n "$can_cache" ]; then
         if [ -n "$program" ]; then (umask 077 && write_cache) 2> /dev/null || :; fi
-        rm -f -- "$names.$$" "$seen.$$" "$seen.$$.before"
+        rm -f -- "$names.$$" "$stamps.$$" "$stamps.$$.before"
     fi
 }
 

@@ -12,7 +12,7 @@ fi
 commands=$top/shipped/commands
 # The page, and the files in its folder that are not its sources (a regular expression).
 page=$top/page/fethsaim.html
-page_made='page/(from_npm/.*|fethsaim\.(html|png)|check|tsconfig\.json)'
+generated_page_files='page/(from_npm/.*|fethsaim\.(html|png)|check|tsconfig\.json)'
 
 # Prints the lines of crates.txt for a crate and for the crates of this repository that it uses, directly or not, without comments.
 lines_of() {
@@ -46,7 +46,7 @@ crates_of_lines() {
 }
 
 # Prints the names of the crates of this repository that a crate uses directly.
-uses_of() {
+dependencies_of() {
     for name in $(lines_of "$1" | sed -n "s/^$1\( [^:]*\)\{0,1\}://p"); do
         if [ -d "$top/crates/$name" ]; then echo "$name"; fi
     done
@@ -63,7 +63,7 @@ sums_of_files() {
 }
 
 # Prints the paths of code, definitions and proofs of crates. Arguments: the lines of the crates, and `f` for files or `d` for folders.
-names_of_crates() {
+list_crate_files() {
     (cd "$top" && find crates -name out -prune -o -type "$2" -print) | crates=$(echo "$1" | crates_of_lines) awk -F / '
         BEGIN {
             count = split(ENVIRON["crates"], crates, "\n")
@@ -74,7 +74,7 @@ names_of_crates() {
 }
 
 # The files that build the program for aarch64 from the crate mcs4.
-made_for_aarch64='tools/aarch64 tools/lib/aarch64.c tools/lib/compile.sh'
+aarch64_build_files='tools/aarch64 tools/lib/aarch64.c tools/lib/compile.sh'
 
 # Prints the checksum of the sources of a crate and of the crates on which it depends: their lines in crates.txt, and their code, definitions and
 # proofs. Tests and must-fail edits are not included.
@@ -82,7 +82,7 @@ sum_of_crate() {
     lines=$(lines_of "$1")
     {
         echo "$lines"
-        names_of_crates "$lines" f | sums_of_files
+        list_crate_files "$lines" f | sums_of_files
     } | sum_of_input
 }
 
@@ -91,7 +91,7 @@ sum_of_aarch64() {
     {
         echo "$1"
         # shellcheck disable=SC2086
-        printf '%s\n' $made_for_aarch64 | sums_of_files
+        printf '%s\n' $aarch64_build_files | sums_of_files
     } | sum_of_input
 }
 
@@ -102,15 +102,15 @@ packages_for_aarch64() {
 
 # Prints the paths of all files that are compared before a program is started, and of the folders in which new files could appear. A zero
 # byte ends each path.
-names_of_start() {
+list_start_files() {
     lines=$(lines_of mcs4)
     {
         # shellcheck disable=SC2086
-        printf '%s\n' crates.txt "${built#"$top/"}" "$built_from" "${shipped#"$top/"}" "${static#"$top/"}" "${aarch64#"$top/"}" "${sums#"$top/"}" \
-            tools/lib/sums.sh tools/lib/start.sh $made_for_aarch64 /lib64/ld-linux-x86-64.so.2
+        printf '%s\n' crates.txt "${built#"$top/"}" "$build_record" "${shipped#"$top/"}" "${static#"$top/"}" "${aarch64#"$top/"}" "${sums#"$top/"}" \
+            tools/lib/sums.sh tools/lib/start.sh $aarch64_build_files /lib64/ld-linux-x86-64.so.2
         echo "$lines" | crates_of_lines | sed 's|^|crates/|'
-        names_of_crates "$lines" d
-        names_of_crates "$lines" f
+        list_crate_files "$lines" d
+        list_crate_files "$lines" f
     } | tr '\n' '\000'
 }
 
@@ -121,31 +121,31 @@ shipped_sum() {
 
 # Records that a program was built here. Arguments: the checksum of its sources, and the program (by default the one of ./mcs4). If
 # that fails, a message says so, and later starts do not use the program.
-note_built() {
+record_built() {
     line="$1 $(sum_of_input < "${2:-$built}")"
     if make_cache && (umask 077 && {
-        if is_own_note; then grep -vxF -- "$line" "$built_from" | tail -n 99; fi
+        if is_own_record; then grep -vxF -- "$line" "$build_record" | tail -n 99; fi
         echo "$line"
-    } > "$built_from.$$" && mv -f -- "$built_from.$$" "$built_from") 2> /dev/null; then return; fi
+    } > "$build_record.$$" && mv -f -- "$build_record.$$" "$build_record") 2> /dev/null; then return; fi
     echo "mcs4: cannot record in ${cache:-a home folder} that this program was built here; the next start does not use it" >&2 || :
 }
 
 # Succeeds if the record of built programs belongs to this user.
-is_own_note() {
-    [ -n "$cache" ] && [ -O "$cache" ] && [ -f "$built_from" ] && [ ! -h "$built_from" ] && [ -O "$built_from" ]
+is_own_record() {
+    [ -n "$cache" ] && [ -O "$cache" ] && [ -f "$build_record" ] && [ ! -h "$build_record" ] && [ -O "$build_record" ]
 }
 
 # Succeeds if this user has built a program here from given sources. Arguments: the checksum of the sources, and the program (by default
 # the one of ./mcs4).
 is_built() {
-    [ -x "${2:-$built}" ] && is_own_note && grep -qxF -- "$1 $(sum_of_input < "${2:-$built}")" "$built_from"
+    [ -x "${2:-$built}" ] && is_own_record && grep -qxF -- "$1 $(sum_of_input < "${2:-$built}")" "$build_record"
 }
 
 # Prints the reason why a shipped program cannot be started on this system, or nothing if it can. Arguments: the checksum of the sources, the
 # program's file, its name in shipped/SUMS, and its machine, as `uname -m` names it.
 shipped_problem() {
     if [ "$(uname -s) $(uname -m)" != "Linux $4" ]; then
-        echo "$is_for $(echo "$4" | tr _ -), and this is $(uname -s) on $(uname -m)"
+        echo "$other_system_text $(echo "$4" | tr _ -), and this is $(uname -s) on $(uname -m)"
     elif [ ! -f "$2" ] || [ ! -f "$sums" ]; then
         echo "it is missing"
     elif [ "$(shipped_sum "$(echo "$3-sources" | sed 's/^program-//')")" != "$1" ]; then
@@ -153,7 +153,7 @@ shipped_problem() {
     elif [ "$(sum_of_input < "$2")" != "$(shipped_sum "$3")" ]; then
         echo "it is damaged: its checksum is not the one in shipped/SUMS"
     elif ! runs_here "$2"; then
-        echo "$does_not_run ($(echo "$output" | tail -n 1))"
+        echo "$not_running_text ($(echo "$output" | tail -n 1))"
     fi
 }
 
@@ -170,7 +170,7 @@ sum_of_module() {
 sum_of_page() {
     {
         sum_of_module
-        (cd "$top" && find page js/core js/page js/words examples tools/lib/*.txt docs/MANUAL.md -type f -print) | grep -vxE "$page_made" | sums_of_files
+        (cd "$top" && find page js/core js/page js/words examples tools/lib/*.txt docs/MANUAL.md -type f -print) | grep -vxE "$generated_page_files" | sums_of_files
     } | sum_of_input
 }
 

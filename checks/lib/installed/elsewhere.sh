@@ -7,7 +7,8 @@ prefix=$folder/place
 mkdir "$folder/bin"
 printf '#!/bin/sh\ncase $1 in -s) echo Linux ;; *) echo riscv64 ;; esac\n' > "$folder/bin/uname"
 chmod +x "$folder/bin/uname"
-# Runs a command as on that system: `uname` reports another processor, and mcs4 is the one that is installed in the folder `elsewhere`.
+# Runs a command as on a system without a native program: `uname` reports another processor, and mcs4 is the one that is installed in the folder
+# `elsewhere`.
 on_other_system() {
     env PATH="$folder/bin:$folder/elsewhere/bin:$PATH" XDG_CACHE_HOME="$folder/cache" "$@"
 }

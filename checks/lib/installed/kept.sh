@@ -1,4 +1,4 @@
-# Checks that the user's files and changed files stay after an upgrade, after runs that were stopped, and after the removal.
+# Checks that the user's files and changed files are kept by upgrades, by interrupted runs, and by the removal.
 # shellcheck shell=sh disable=SC2154
 
 make_home
@@ -23,7 +23,7 @@ change_files() {
     for each in lib/fethsaim/examples/calculator/board.toml share/man/man1/mcs4.1 lib/fethsaim/mcs4; do echo "# $1" >> "$prefix/$each"; done
 }
 change_files changed
-# Adds a file of the user with the name of a file that a new version installs.
+# Adds a file of the user that has the same name as a file that a new version installs.
 grep -v ' lib/fethsaim/tools/lib/face.txt$' "$library_folder/installed" > "$folder/list"
 cp "$folder/list" "$library_folder/installed"
 echo mine > "$library_folder/tools/lib/face.txt"
@@ -77,23 +77,24 @@ wait "$served"
 verdict "$(echo seq | "$library_folder/shipped/mcs4" open "$library_folder/served.mcs" | tail -n 1)" "seq 2" "a session that was served during ./install"
 rm "$library_folder/served.mcs"
 
-# --- interrupted, and repeated
+# --- interrupted runs, and the runs after them
 
 # Creates the folders that an interrupted run leaves, with the number of a process that has ended. The folder `old` exists if the run had
 # already exchanged lib/fethsaim.
-ended=$(sh -c 'echo $$')
-mkdir "$prefix/lib/.fethsaim.$ended" "$prefix/lib/.fethsaim.9$ended" "$prefix/lib/.fethsaim.${ended}9"
-mv "$library_folder" "$prefix/lib/.fethsaim.$ended/old"
-mkdir "$prefix/lib/.fethsaim.9$ended/lib"
-echo mine > "$prefix/lib/.fethsaim.${ended}9/mine"
+ended_process=$(sh -c 'echo $$')
+mkdir "$prefix/lib/.fethsaim.$ended_process" "$prefix/lib/.fethsaim.9$ended_process" "$prefix/lib/.fethsaim.${ended_process}9"
+mv "$library_folder" "$prefix/lib/.fethsaim.$ended_process/old"
+mkdir "$prefix/lib/.fethsaim.9$ended_process/lib"
+echo mine > "$prefix/lib/.fethsaim.${ended_process}9/mine"
 ./install --prefix "$prefix" > "$folder/output"
-verdict "$(ls -A "$prefix/lib" | tr '\n' ' ')" ".fethsaim.${ended}9 fethsaim " "the files of an interrupted run are removed, but no files of the user"
+verdict "$(ls -A "$prefix/lib" | tr '\n' ' ')" ".fethsaim.${ended_process}9 fethsaim " "the files of an interrupted run are removed, but no files of the user"
 verdict "$(print_user_files)" "$(cat "$folder/user_files")" "the user's files after an interrupted run"
-rm -rf "$prefix/lib/.fethsaim.${ended}9"
+rm -rf "$prefix/lib/.fethsaim.${ended_process}9"
 mkdir "$prefix/lib/.fethsaim.$$"
 check_unchanged "install: another ./install is running here, as process $$; wait until it ends, or remove $prefix/lib/.fethsaim.$$; nothing was changed" 1 ./install --prefix "$prefix"
 rmdir "$prefix/lib/.fethsaim.$$"
-# Stops ./install at many different moments. Then mcs4 must work or be missing, the next run must repair everything, and the user's files must stay.
+# Stops ./install at many different moments. After each stop, mcs4 must work or be missing, the next run must repair everything, and the user's files
+# must be kept.
 stop_count=12
 while [ "$stop_count" -gt 0 ]; do
     stop_count=$((stop_count - 1))
@@ -119,7 +120,7 @@ verdict "$(outcome "$prefix/bin/mcs4" new "$folder/temporary/damaged.mcs")" "mcs
 status 126" "an installed program that is damaged"
 cp "$folder/whole" "$library_folder/shipped/mcs4"
 
-# Checks that removal leaves the user's files, and names them, and that it removes the folders that ./install has made.
+# Checks that the removal keeps the user's files and prints their names, and that it removes the folders that ./install has created.
 echo mine >> "$prefix/share/man/man1/mcs4-wave.1"
 verdict "$(outcome ./install --uninstall --prefix "$prefix" | LC_ALL=C sort)" "$(LC_ALL=C sort << END
 mcs4 was removed from $prefix

@@ -1,5 +1,5 @@
-# Checks failed runs of ./install, which must change nothing: wrong arguments, the user's own files in the way, no permission, and a full file system.
-# Also checks the other messages of ./install.
+# Checks failed runs of ./install, which must change nothing: wrong arguments, existing files of the user with the same names, no permission, and a
+# full file system. Also checks the other messages of ./install.
 # shellcheck shell=sh disable=SC2154
 
 make_home

@@ -43,15 +43,15 @@ if command -v man > /dev/null; then
 fi
 cat > "$folder/complete" <<'complete'
 . "$1/share/bash-completion/completions/mcs4"
-try() { COMP_WORDS=("$@"); COMP_CWORD=$(($# - 1)); _mcs4; echo "$*: ${COMPREPLY[*]}"; }
-try mcs4 co
-try mcs4 cover --
-try mcs4 cover ''
-try mcs4 rom ''
-try mcs4 rom load --h
-try mcs4 help wa
-try mcs4 open s
-try mcs4 none --
+print_completions() { COMP_WORDS=("$@"); COMP_CWORD=$(($# - 1)); _mcs4; echo "$*: ${COMPREPLY[*]}"; }
+print_completions mcs4 co
+print_completions mcs4 cover --
+print_completions mcs4 cover ''
+print_completions mcs4 rom ''
+print_completions mcs4 rom load --h
+print_completions mcs4 help wa
+print_completions mcs4 open s
+print_completions mcs4 none --
 complete
 if command -v bash > /dev/null; then
     verdict "$(bash "$folder/complete" "$prefix")" "mcs4 co: cover

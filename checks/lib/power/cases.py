@@ -1,5 +1,5 @@
-"""The trials of checks/power: the file systems, the cases, the wrong programs, and the combinations of these that a run of the check tries. A case
-prepares a file system for a session, and has the arguments with which the program is then started.
+"""The trials of checks/power: the file systems, the cases, the deliberately faulty programs, and the combinations of these that a run of the check
+tries. A case prepares a file system for a session, and has the arguments with which the program is then started.
 """
 
 from __future__ import annotations
@@ -11,9 +11,9 @@ from typing import NamedTuple
 
 class FileSystem(NamedTuple):
     """A file system. `size` is the size of its disk in MiB, and `package` the Debian package of the command that creates it. `options` are the mount
-    options besides noatime, and `frequent_commit_options` make it commit every second. `modules` are its kernel modules. `whole_blocks` is true if
-    the file system needs each block of 4 KiB to be written completely or not at all. `shows_stale` is true if unwritten parts of a file can contain
-    old data of the disk."""
+    options besides noatime, and `frequent_commit_options` make it commit every second. `modules` are its kernel modules. `atomic_blocks` is true if
+    the file system needs each block of 4 KiB to be written completely or not at all. `shows_stale_data` is true if unwritten parts of a file can
+    contain old data of the disk."""
     name: str
     size: int
     make_command: tuple[str, ...]
@@ -22,8 +22,8 @@ class FileSystem(NamedTuple):
     options: str
     frequent_commit_options: str
     modules: tuple[str, ...]
-    whole_blocks: bool = False
-    shows_stale: bool = False
+    atomic_blocks: bool = False
+    shows_stale_data: bool = False
 
 
 MAKE_EXT = ("mkfs.ext4", "-q", "-F", "-N", "1024", "-E", "nodiscard,lazy_itable_init=0,lazy_journal_init=0")
@@ -38,7 +38,7 @@ def ext(name: str, options: str = "", *arguments: str) -> FileSystem:
 
 def btrfs(name: str, options: str = "") -> FileSystem:
     """Returns a btrfs file system with this name and these mount options."""
-    return FileSystem(name, 128, MAKE_BTRFS, "btrfs-progs", "btrfs", options, "commit=1", ("btrfs",), whole_blocks=True)
+    return FileSystem(name, 128, MAKE_BTRFS, "btrfs-progs", "btrfs", options, "commit=1", ("btrfs",), atomic_blocks=True)
 
 
 FILE_SYSTEMS = {kind.name: kind for kind in (
@@ -51,10 +51,10 @@ FILE_SYSTEMS = {kind.name: kind for kind in (
     FileSystem("xfs", 300, MAKE_XFS, "xfsprogs", "xfs", "", "", ("xfs",)),
     btrfs("btrfs"),
     btrfs("btrfs-nocow", "nodatacow"),
-    FileSystem("vfat", 32, ("mkfs.vfat",), "dosfstools", "vfat", "", "", ("vfat", "nls_cp437", "nls_ascii"), shows_stale=True),
-    FileSystem("exfat", 32, ("mkfs.exfat",), "exfatprogs", "exfat", "", "", ("exfat", "nls_utf8"), shows_stale=True),
+    FileSystem("vfat", 32, ("mkfs.vfat",), "dosfstools", "vfat", "", "", ("vfat", "nls_cp437", "nls_ascii"), shows_stale_data=True),
+    FileSystem("exfat", 32, ("mkfs.exfat",), "exfatprogs", "exfat", "", "", ("exfat", "nls_utf8"), shows_stale_data=True),
     # Linux before 6.5 does not always flush the disk when a file on this file system is synced.
-    ext("ext4-nojournal", "", "-O", "^has_journal")._replace(frequent_commit_options="", shows_stale=True),
+    ext("ext4-nojournal", "", "-O", "^has_journal")._replace(frequent_commit_options="", shows_stale_data=True),
     # Without barriers the file system loses acknowledged data, which the check must detect.
     ext("ext4-nobarrier", "nobarrier"),
 )}
@@ -110,8 +110,8 @@ OPEN_CASES = ("linked", "copied", "moved", "replaced", "long-copied", "long-move
 
 # --- the trials of a run of the check
 
-# The number of the last command that is sent to the session of a case with `gets_all_commands`. Then the numbers of commands that are sent to a
-# session that is already durable or is opened again, and to any other session.
+# ALL_COMMANDS is the number of the last command that is sent in a case with `gets_all_commands`. MORE_COMMANDS are sent to a session that is already
+# durable or is opened again, and FEW_COMMANDS to any other session.
 ALL_COMMANDS, MORE_COMMANDS, FEW_COMMANDS = 110, 24, 12
 
 
@@ -152,7 +152,7 @@ FAULTY_TRIALS = (
 def cases_of(kind: str) -> list[str]:
     """Returns the names of the cases of NEW_CASES and OPEN_CASES for a kind of file system. Omits `new-link` for the kinds that show stale data,
     because FAT has no links."""
-    return [*NEW_CASES, *([] if FILE_SYSTEMS[kind].shows_stale else ["new-link"]), *OPEN_CASES]
+    return [*NEW_CASES, *([] if FILE_SYSTEMS[kind].shows_stale_data else ["new-link"]), *OPEN_CASES]
 
 
 def long_trials() -> list[Trial]:

@@ -82,21 +82,21 @@ class Disk:
 
 
 class Connection:
-    """QEMU's connection to one of the disks: the handshake that names the disk, and the requests. `leave` is called when the connection ends."""
+    """QEMU's connection to one of the disks: the handshake that names the disk, and the requests. `on_end` is called when the connection ends."""
 
-    def __init__(self, disks: dict[str, Disk], channel: socket.socket, leave: Callable[[socket.socket], None]) -> None:
-        self.disks, self.channel, self.leave = disks, channel, leave
+    def __init__(self, disks: dict[str, Disk], channel: socket.socket, on_end: Callable[[socket.socket], None]) -> None:
+        self.disks, self.channel, self.on_end = disks, channel, on_end
         self.input = bytearray()
         self.disk: Disk | None = None
         self.has_begun = False
-        self.waiting: list[tuple[str, int, int]] = []
+        self.unanswered: list[tuple[str, int, int]] = []
         channel.sendall(struct.pack(">QQH", MAGIC, OPTION_MAGIC, FIXED_NEWSTYLE_NO_ZEROES))
 
     def serve_input(self) -> None:
         """Reads the data that has arrived, and serves the complete options and requests in it."""
         data = self.channel.recv(1 << 20)
         if not data:
-            self.leave(self.channel)
+            self.on_end(self.channel)
             return
         self.input += data
         while self.disk is None and self.serve_option():
@@ -129,7 +129,7 @@ class Connection:
             self.disk = disk if option == GO else None
         elif option == ABORT:
             self.reply(option, ACKNOWLEDGED)
-            self.leave(self.channel)
+            self.on_end(self.channel)
             return False
         else:
             self.reply(option, UNSUPPORTED)
@@ -151,13 +151,13 @@ class Connection:
             disk.count += 1
             disk.add_event("write", disk.count, offset, data)
             disk.write(offset, data)
-            self.wait("wrote", handle, disk)
+            self.queue_answer("wrote", handle, disk)
         elif kind == FLUSH:
             disk.count += 1
             disk.add_event("flush", disk.count)
-            self.wait("flushed", handle, disk)
+            self.queue_answer("flushed", handle, disk)
         elif kind == DISCONNECT:
-            self.leave(self.channel)
+            self.on_end(self.channel)
             return False
         else:
             raise PowerCheckError(f"QEMU asks the disk for a request of kind {kind}")
@@ -168,16 +168,16 @@ class Connection:
         self.channel.setblocking(True)
         self.channel.sendall(struct.pack(">IIQ", REQUEST_ANSWER, 0, handle) + data)
 
-    def wait(self, kind: str, handle: int, disk: Disk) -> None:
-        """Adds a write or a flush to the requests to answer. Answers one of these immediately, unless the disk is late. `kind` is the event of the
-        answer."""
-        self.waiting.append((kind, disk.count, handle))
+    def queue_answer(self, kind: str, handle: int, disk: Disk) -> None:
+        """Adds a write or a flush to the unanswered requests. Unless the disk is late, answers one of these immediately. `kind` is the kind of the
+        event for the answer."""
+        self.unanswered.append((kind, disk.count, handle))
         if not disk.is_late:
             self.answer_random_request()
 
     def answer_random_request(self) -> None:
-        """Answers one of the waiting requests, chosen at random."""
+        """Answers one of the unanswered requests, chosen at random."""
         assert self.disk is not None
-        kind, number, handle = self.waiting.pop(self.disk.rng.randrange(len(self.waiting)))
+        kind, number, handle = self.unanswered.pop(self.disk.rng.randrange(len(self.unanswered)))
         self.disk.add_event(kind, number)
         self.answer(handle)

@@ -18,9 +18,9 @@ from power.disk import Disk, Event
 
 SECTOR, BLOCK = 512, 4096
 # After each write and each flush, PARTS random images are drawn for each pending write, for at most MAX_PENDING pending writes.
-PARTS, MAX_PENDING = 12, 4
+IMAGES_PER_WRITE, MAX_PENDING = 12, 4
 # The phase "beginning" has this number of events, from the first answer on.
-BEGINNING = 20
+BEGINNING_EVENTS = 20
 
 # The phase of a cut: before the program's first answer, soon after it, while a snapshot is written, or at any other time.
 Phase = Literal["opening", "beginning", "snapshot", "serving"]
@@ -61,14 +61,14 @@ class Image:
 class History:
     """The events on a disk while a session was served on it."""
 
-    def __init__(self, events: list[Event], initial_commands: int, is_durable: bool, snapshots: set[int], whole_blocks: bool,
+    def __init__(self, events: list[Event], initial_commands: int, is_durable: bool, snapshots: set[int], atomic_blocks: bool,
                  rng: random.Random) -> None:
         """`initial_commands` is the number of commands in the session at the beginning. `is_durable` is true if the session was durable then.
-        `snapshots` has the numbers of the commands at which a snapshot is written. If `whole_blocks` is true, no block of 4,096 bytes is half
+        `snapshots` has the numbers of the commands at which a snapshot is written. If `atomic_blocks` is true, no block of 4,096 bytes is half
         written."""
         self.events, self.first, self.snapshots, self.rng = events, initial_commands, snapshots, rng
         self.start = initial_commands if is_durable else None
-        self.whole_blocks = whole_blocks
+        self.atomic_blocks = atomic_blocks
         durable_at = self.durable_at()
         never = len(events) + 1
         self.writes = {event.number: event for event in events if event.kind == "write"}
@@ -128,19 +128,20 @@ class History:
             return "opening"
         if sent != answered and sent in self.snapshots:
             return "snapshot"
-        return "beginning" if event_number < first_answer + BEGINNING else "serving"
+        return "beginning" if event_number < first_answer + BEGINNING_EVENTS else "serving"
 
     def selections_after(self, event: Event, pending: list[int]) -> list[tuple[str, dict[int, Part]]]:
-        """Returns some of the ways in which the pending writes can be on the disk after an event: for each its name, and the part of each write."""
+        """Returns some of the states in which the pending writes can be on the disk after an event. Each has a name, and the part of each write that
+        is on the disk."""
         selections: list[tuple[str, dict[int, Part]]] = [("none", {}), ("all", dict.fromkeys(pending))]
         if event.kind in ("write", "flushed"):
-            selections += [("some", self.random_parts(pending)) for _ in range(PARTS * min(len(pending), MAX_PENDING))]
+            selections += [("some", self.random_parts(pending)) for _ in range(IMAGES_PER_WRITE * min(len(pending), MAX_PENDING))]
         return selections
 
     def random_parts(self, pending: list[int]) -> dict[int, Part]:
-        """Returns random parts of these writes: all, none, or some of the sectors or blocks of each one. Omits the writes without a part on the
-        disk."""
-        unit = BLOCK if self.whole_blocks else self.rng.choice((SECTOR, BLOCK))
+        """Returns random parts of these writes: all, none, or some of the sectors or blocks of each one. Omits the writes that did not reach the disk
+        at all."""
+        unit = BLOCK if self.atomic_blocks else self.rng.choice((SECTOR, BLOCK))
         parts: dict[int, Part] = {}
         for write in pending:
             choice = self.rng.randrange(3)
@@ -151,8 +152,8 @@ class History:
         return parts
 
     def draw(self, images: list[Image], count: int) -> list[Image]:
-        """Returns at most `count` of these images, in chronological order. Each phase has the same number of images, or more if another phase has too
-        few."""
+        """Returns at most `count` of these images, in chronological order. Takes the same number of images from each phase, and more if another phase
+        has too few."""
         groups = sorted(([image for image in images if image.phase == phase] for phase in PHASES), key=len)
         chosen_images: list[Image] = []
         for index, group in enumerate(groups):

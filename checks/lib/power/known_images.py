@@ -11,9 +11,9 @@ A, B, C = b"a" * SECTOR, b"b" * SECTOR, b"c" * SECTOR
 OLD = bytes(SECTOR)
 
 
-def history_of(events: list[Event], whole_blocks: bool = False, seed: int = 0, initial_commands: int = 0) -> History:
+def history_of(events: list[Event], atomic_blocks: bool = False, seed: int = 0, initial_commands: int = 0) -> History:
     """Returns the history of these events, with a session that was not durable before them."""
-    return History(events, initial_commands, False, set(), whole_blocks, random.Random(seed))
+    return History(events, initial_commands, False, set(), atomic_blocks, random.Random(seed))
 
 
 def write_event(number: int, offset: int, data: bytes) -> Event:
@@ -27,7 +27,8 @@ def event_of(kind: str, number: int) -> Event:
 
 
 def images_of(events: History, size: int) -> list[tuple[bytes, Image]]:
-    """Returns all images of a history, each after the first `size` bytes of a disk that has it. Before the history, the disk has only zeros."""
+    """Returns all images of a history, each as a pair: the first `size` bytes of a disk with this image, and the image. Before the history, the disk
+    has only zeros."""
     disk = Disk(BLOCK)
     builder = Builder(disk, events)
     images = []
@@ -41,7 +42,7 @@ def images_of(events: History, size: int) -> list[tuple[bytes, Image]]:
     return images
 
 
-def durable_after_flush() -> bool:
+def check_durable_after_flush() -> bool:
     """Checks that a write is durable after the answer to a flush that arrived after the write was answered. A write that was answered later waits for
     the next flush."""
     first_events = [write_event(1, 0, A), event_of("wrote", 1), write_event(2, SECTOR, B), event_of("flush", 3), event_of("wrote", 2), event_of("flushed", 3)]
@@ -50,20 +51,20 @@ def durable_after_flush() -> bool:
     return is_at_the_end and history_of(first_events).durable_at() == {1: 6} and history_of(first_events + later_events).durable_at() == {1: 6, 2: 9}
 
 
-def new_or_old_sectors() -> bool:
+def check_new_or_old_sectors() -> bool:
     """Checks that each sector of a write without an answered flush is either old or new."""
     images = [pair for seed in range(20) for pair in images_of(history_of([write_event(1, 0, A + B)], seed=seed), 2 * SECTOR)]
-    torn = {A + OLD, OLD + B}
-    return {data for data, _ in images} == {OLD + OLD, A + B, *torn} and all(image.is_torn for data, image in images if data in torn)
+    torn_contents = {A + OLD, OLD + B}
+    return {data for data, _ in images} == {OLD + OLD, A + B, *torn_contents} and all(image.is_torn for data, image in images if data in torn_contents)
 
 
-def whole_blocks() -> bool:
-    """Checks that no block is torn if blocks are written whole."""
-    images = images_of(history_of([write_event(1, 0, A + B)], whole_blocks=True), 2 * SECTOR)
+def check_atomic_blocks() -> bool:
+    """Checks that no block is torn if blocks are written atomically."""
+    images = images_of(history_of([write_event(1, 0, A + B)], atomic_blocks=True), 2 * SECTOR)
     return {data for data, _ in images} == {OLD + OLD, A + B}
 
 
-def writes_at_one_place() -> bool:
+def check_writes_at_one_place() -> bool:
     """Checks two writes to the same sector. An image has the later write, or only the earlier one. When both are durable, it has the later one."""
     events = [write_event(1, 0, A), event_of("wrote", 1), write_event(2, 0, B), event_of("wrote", 2)]
     pending_images = images_of(history_of(events), SECTOR)
@@ -72,9 +73,9 @@ def writes_at_one_place() -> bool:
     return {data for data, _ in pending_images} == {OLD, A, B} and contents_with_both == {B} and last_image.durable == 2 and not last_image.parts
 
 
-def command_bounds() -> bool:
-    """Checks the bounds of the number of commands: the commands acknowledged before the cut, and the commands sent before it. Before the first
-    answer, there is no lower bound."""
+def check_command_bounds() -> bool:
+    """Checks the bounds of the number of commands: at least the commands acknowledged before the cut, and at most the commands sent before it. Before
+    the first answer, there is no lower bound."""
     events = history_of([write_event(1, 0, A), event_of("answered", 0), event_of("sent", 1), write_event(2, 0, B), event_of("wrote", 2), event_of("flush", 3),
                     event_of("flushed", 3), event_of("answered", 1)])
     bounds_by_image = {(image.durable, len(image.parts)): (image.min_commands, image.max_commands)
@@ -82,13 +83,13 @@ def command_bounds() -> bool:
     return bounds_by_image == {(0, 0): (0, 0), (0, 1): (0, 0), (0, 2): (0, 1), (1, 0): (1, 1), (1, 1): (1, 1)}
 
 
-def command_bounds_of_copy() -> bool:
+def check_command_bounds_of_copy() -> bool:
     """Checks that a copied session has its commands even before its first answer."""
     images = history_of([write_event(1, 0, A), event_of("answered", 7)], initial_commands=7).all_images()
     return {(image.min_commands, image.max_commands) for image in images if image.selection != "some"} == {(7, 7)}
 
 
-def permanent_images() -> bool:
+def check_permanent_images() -> bool:
     """Checks that an image can be written permanently, and then another one, regardless of the first."""
     events = history_of([write_event(1, 0, A), event_of("wrote", 1), event_of("flush", 2), event_of("flushed", 2), write_event(3, 0, B)])
     disk = Disk(BLOCK)
@@ -102,7 +103,8 @@ def permanent_images() -> bool:
     return is_old and disk.bytes[:SECTOR] == B and disk.undo is None
 
 
-CHECKS = (durable_after_flush, new_or_old_sectors, whole_blocks, writes_at_one_place, command_bounds, command_bounds_of_copy, permanent_images)
+CHECKS = (check_durable_after_flush, check_new_or_old_sectors, check_atomic_blocks, check_writes_at_one_place, check_command_bounds,
+          check_command_bounds_of_copy, check_permanent_images)
 
 
 def error_messages() -> list[str]:

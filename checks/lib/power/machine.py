@@ -50,7 +50,7 @@ class Kernel(NamedTuple):
         """The kernel's release, as `uname -r` prints it."""
         return self.image.name.removeprefix("vmlinuz-")
 
-    def has(self, module: str) -> bool:
+    def has_module(self, module: str) -> bool:
         """Returns true if the kernel has a module, loadable or built in."""
         built_in = self.modules / "modules.builtin"
         return module in self.module_files() or (built_in.exists() and f"/{module}.ko\n" in built_in.read_text())
@@ -205,7 +205,7 @@ class Machine:
     def serve(self, seconds: float) -> None:
         """Waits for data for at most this number of seconds, and serves it. If disks have held back answers, waits only ANSWER_DELAY, and then sends
         one of them for each disk. Raises PowerCheckError if QEMU has ended."""
-        busy_connections = [connection for connection in self.connections if connection.waiting]
+        busy_connections = [connection for connection in self.connections if connection.unanswered]
         ready = self.selector.select(ANSWER_DELAY if busy_connections else seconds)
         for key, _ in ready:
             if isinstance(key.data, str):

@@ -1,5 +1,5 @@
-/* A library with wrong implementations of the calls that sync a file. The program is started with this library loaded before the C library
-   (LD_PRELOAD). The environment variable WRONG selects one of these errors:
+/* A library with deliberately faulty implementations of the calls that sync a file. The program is started with this library loaded before the C
+   library (LD_PRELOAD). The environment variable WRONG selects one of these errors:
 
      no sync             a sync of data does nothing
      no first sync       the sync of a record or of a snapshot does nothing; the sync of its commit byte or selector is done

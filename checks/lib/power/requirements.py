@@ -78,7 +78,7 @@ def fetch_kernel() -> int:
     return status
 
 
-def missing_space(folder: pathlib.Path, disk: int) -> str:
+def missing_space_message(folder: pathlib.Path, disk: int) -> str:
     """Returns a message if there is too little memory for a machine with a disk of this size in bytes, or too little space for its images; otherwise
     ""."""
     needed = MEMORY * MEGA + 3 * disk

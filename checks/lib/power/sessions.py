@@ -11,8 +11,8 @@ from power.cases import VERSION_1_FILE, VERSION_1_COMMANDS, SERVED_FILE, SERVED_
 from power.disk import PowerCheckError
 from session_file import LENGTH_BYTES, SLOTS, read
 
-ROMS = 16
-BOARD = "wire\n" + "".join(f'[[rom]]\nchip = {chip}\nport = "0000"\n' for chip in range(ROMS)) + "[[ram]]\nbank = 0\nchips = 4\n."
+ROM_COUNT = 16
+BOARD = "wire\n" + "".join(f'[[rom]]\nchip = {chip}\nport = "0000"\n' for chip in range(ROM_COUNT)) + "[[ram]]\nbank = 0\nchips = 4\n."
 # A program that counts in all nibbles of bank 0, so each run leaves a different state.
 PROGRAM = """asm
 again:  FIM P0, 0x00
@@ -26,13 +26,13 @@ next:   SRC P0
         JUN again
 ."""
 # Queries about everything on a board: registers and chips, RAM, ROM.
-QUERIES = "state\nram 0\n" + "".join(f"list {256 * chip} 256\n" for chip in range(ROMS))
+QUERIES = "state\nram 0\n" + "".join(f"list {256 * chip} 256\n" for chip in range(ROM_COUNT))
 # The number of short commands at the beginning. Their cycles fill the log. The later commands are long, so that their bytes fill the log.
 SHORT_COMMANDS = 48
 # The number of lines in a long text, and the number of bytes in each of them.
-LINES, BYTES_OF_LINE = 37, 100
+LINES, BYTES_PER_LINE = 37, 100
 # The offset of the version in a state, and version 2. A state of version 1 has something else at this offset.
-VERSION_PLACE, VERSION_2 = 4, 2
+VERSION_OFFSET, VERSION_2 = 4, 2
 
 
 def commands(count: int) -> list[str]:
@@ -41,7 +41,7 @@ def commands(count: int) -> list[str]:
     all_commands = [BOARD, PROGRAM]
     for number in range(len(all_commands), count):
         if number >= SHORT_COMMANDS and number % 4:
-            line = "DB " + ",".join([str(number % 10)] * BYTES_OF_LINE) + "\n"
+            line = "DB " + ",".join([str(number % 10)] * BYTES_PER_LINE) + "\n"
             all_commands.append("asm\nORG 0x100\n" + line * LINES + ".")
         elif number % 8 == 7:
             all_commands.append(f"poke ram.0.{number % 256} {number % 16}")
@@ -57,15 +57,15 @@ def as_version_1(data: bytes) -> bytes:
     start = slot + LENGTH_BYTES
     length = int.from_bytes(data[slot:start], "big")
     state = data[start:start + length]
-    assert state[VERSION_PLACE] == VERSION_2 and state[-1] == 0
-    state_1 = state[:VERSION_PLACE] + state[VERSION_PLACE + 1:-1]
-    return data[:slot] + len(state_1).to_bytes(LENGTH_BYTES, "big") + state_1 + bytes(2) + data[start + length:]
+    assert state[VERSION_OFFSET] == VERSION_2 and state[-1] == 0
+    version_1_state = state[:VERSION_OFFSET] + state[VERSION_OFFSET + 1:-1]
+    return data[:slot] + len(version_1_state).to_bytes(LENGTH_BYTES, "big") + version_1_state + bytes(2) + data[start + length:]
 
 
 def has_version_1(data: bytes) -> bool:
     """Returns true if a file contains a session of version 1."""
     parsed = read(data)
-    return parsed is not None and parsed[0][VERSION_PLACE] != VERSION_2
+    return parsed is not None and parsed[0][VERSION_OFFSET] != VERSION_2
 
 
 def digest(answers: bytes) -> str:

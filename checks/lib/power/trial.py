@@ -28,7 +28,8 @@ MEGA = 1 << 20
 # A shell line that starts another writer on the file system, so that the file system commits between the writes of the program.
 START_OTHER_WRITER = "(cd /; n=/mnt/noise; while :; do echo noise >> $n/a; mv $n/a $n/b; sleep 0.3; mv $n/b $n/a; done) & busy=$!"
 # Shell lines. START_PROGRAM starts the program with its serial line as input and output, and reports if the program ends unexpectedly.
-# STOP_AND_UNMOUNT ends all processes that use the file system, and unmounts it, with a second attempt because a process can live for a moment longer.
+# STOP_AND_UNMOUNT ends all processes that use the file system, and unmounts it, with a second attempt because an ended process can keep the file
+# system in use for a moment.
 START_PROGRAM = "{{ {wrong} mcs4 {arguments} <&3 >&3; reported=$?; [ -e /tmp/end ] || echo ended with status $reported >&3; }} &"
 STOP_AND_UNMOUNT = "cd /; : > /tmp/end; kill $busy; killall mcs4; wait; rm /tmp/end; umount /mnt || { sleep 1; umount /mnt; }"
 # The allowed results if the power is cut before the first answer of `new`, on a file system that shows only written data.
@@ -77,10 +78,10 @@ class Stage:
 class Runner:
     """A machine with two disks, on which trials run. Images are written to `disk`. The machine copies the session files that it finds to `out`."""
 
-    def __init__(self, machine: Machine, sessions: Sessions, keep: pathlib.Path, show_command: str, seed: int) -> None:
-        """Images with errors are stored in `keep`. `show_command` is the command line that examines a stored image again, without the name of the
-        image."""
-        self.machine, self.sessions, self.keep, self.show_command = machine, sessions, keep, show_command
+    def __init__(self, machine: Machine, sessions: Sessions, image_folder: pathlib.Path, show_command: str, seed: int) -> None:
+        """Images with errors are stored in `image_folder`. `show_command` is the command line that examines a stored image again, without the name of
+        the image."""
+        self.machine, self.sessions, self.image_folder, self.show_command = machine, sessions, image_folder, show_command
         self.disk, self.out = machine.disks["disk"], machine.disks["out"]
         self.rng = random.Random(seed)
         self.junk = random.Random(1).randbytes(MEGA)
@@ -99,12 +100,12 @@ class Runner:
             builder = Builder(self.disk, history)
             images = history.draw(history.all_images(), stage.images)
             with self.examining():
-                examined = [self.examine(builder, kind, trial, case, image) for image in images]
-            results = self.report_results(trial, generation, history, examined, builder, time.monotonic() - start_time)
+                examined_images = [self.examine(builder, kind, trial, case, image) for image in images]
+            results = self.report_results(trial, generation, history, examined_images, builder, time.monotonic() - start_time)
             outcome.add(results)
             if results.error_count or generation == trial.generations:
                 break
-            next_image = self.choose_next_disk(trial, generation, examined)
+            next_image = self.choose_next_disk(trial, generation, examined_images)
             builder.write_permanently(next_image.image)
             stage = self.next_stage(case, next_image.contents, max(15, trial.images // 4))
         return outcome
@@ -122,7 +123,7 @@ class Runner:
         self.machine.run_successfully(f"blockdev --flushbufs /dev/vda; mount -t {kind.type} -o {options} /dev/vda /mnt")
 
     def create_file_system(self, kind: FileSystem, trial: Trial, case: Case) -> None:
-        """Creates a new file system, whose free blocks contain other bytes than zeros, and runs the synced shell commands of the case on it."""
+        """Creates a new file system, whose free blocks contain bytes other than zeros, and runs the synced shell commands of the case on it."""
         size = kind.size * MEGA
         blank = Disk(size)
         for offset in range(0, size, MEGA):
@@ -156,7 +157,7 @@ class Runner:
         self.machine.run_successfully(STOP_AND_UNMOUNT)
         self.disk.undo_writes()
         snapshots = set() if case.name.startswith("carried") else self.sessions.snapshots
-        return History(events, stage.first, stage.is_durable, snapshots, kind.whole_blocks, self.rng)
+        return History(events, stage.first, stage.is_durable, snapshots, kind.atomic_blocks, self.rng)
 
     def serve(self, events: list[Event], stage: Stage) -> None:
         """Sends the commands of a session, one after another, and adds the events `sent` and `answered` to `events`."""
@@ -173,7 +174,7 @@ class Runner:
             events.append(Event("sent", number))
             self.machine.program.send(command)
 
-    # --- looking at images
+    # --- examining images
 
     def examine(self, builder: Builder, kind: FileSystem, trial: Trial, case: Case, image: Image) -> ExaminedImage:
         """Writes an image to the disk, lets the machine examine it, and returns the result. Then undoes the writes."""
@@ -201,51 +202,52 @@ class Runner:
             raise PowerCheckError(f"the machine cannot examine disks: {end}; its last lines:\n{self.machine.last_lines()}")
 
     @staticmethod
-    def verdict(trial: Trial, examined: ExaminedImage) -> str:
+    def verdict(trial: Trial, examined_image: ExaminedImage) -> str:
         """Returns `good` if an image has the required contents, a note if it has other contents that are allowed, or "" for an error."""
         kind, case = FILE_SYSTEMS[trial.kind], CASES[trial.case]
-        image, contents = examined.image, examined.contents
+        image, contents = examined_image.image, examined_image.contents
         if contents == "not mounted" and image.is_torn:
             return "not mounted, with a torn block"
         if image.min_commands is None:
-            is_good = contents in ALLOWED_BEFORE_NEW if case.arguments.startswith("new") and not kind.shows_stale else contents != "not mounted"
+            is_good = contents in ALLOWED_BEFORE_NEW if case.arguments.startswith("new") and not kind.shows_stale_data else contents != "not mounted"
             return f"before the first answer {contents}" if is_good else ""
         return "good" if isinstance(contents, int) and image.min_commands <= contents <= image.max_commands else ""
 
-    def report_results(self, trial: Trial, generation: int, history: History, examined: list[ExaminedImage], builder: Builder, seconds: float) -> Outcome:
+    def report_results(self, trial: Trial, generation: int, history: History, examined_images: list[ExaminedImage], builder: Builder,
+                       seconds: float) -> Outcome:
         """Prints the results for the images of a history, and stores some of the images with errors. Returns the number of images, the number of
         errors, and the first error."""
         notes: collections.Counter[str] = collections.Counter()
-        with_errors = []
-        for examined_image in examined:
+        images_with_errors = []
+        for examined_image in examined_images:
             verdict = self.verdict(trial, examined_image)
             if verdict:
                 notes[verdict] += 1
             else:
-                with_errors.append(examined_image)
-        phases = collections.Counter(examined_image.image.phase for examined_image in examined)
+                images_with_errors.append(examined_image)
+        phases = collections.Counter(examined_image.image.phase for examined_image in examined_images)
         name = f"{trial.name}{f', opened again ({generation})' if generation else ''}"
         print(f"{name}: {history.count('sent')} commands, {history.count('write')} writes, {history.count('flush')} flushes; "
-              f"{len(examined)} images ({', '.join(f'{number} {phase}' for phase, number in phases.items())}), {len(with_errors)} errors; "
+              f"{len(examined_images)} images ({', '.join(f'{number} {phase}' for phase, number in phases.items())}), {len(images_with_errors)} errors; "
               f"{seconds:.1f} s", flush=True)
         del notes["good"]
         if notes:
             print("    " + "; ".join(f"{number} {note}" for note, number in sorted(notes.items())), flush=True)
-        messages = [self.error_message(examined_image, len(history.events)) for examined_image in with_errors[:MAX_REPORTED]]
-        for message, examined_image in zip(messages, with_errors):
+        messages = [self.error_message(examined_image, len(history.events)) for examined_image in images_with_errors[:MAX_REPORTED]]
+        for message, examined_image in zip(messages, images_with_errors):
             if not trial.wrong:
                 print(f"ERROR in {name}: {message}", flush=True)
                 if examined_image.contents == "not mounted":
                     print(f"    the machine's last lines:\n{self.machine.last_lines()}", flush=True)
                 self.store_image(trial, generation, builder, examined_image.image)
-        return Outcome(len(examined), len(with_errors), messages[0] if messages else "")
+        return Outcome(len(examined_images), len(images_with_errors), messages[0] if messages else "")
 
     @staticmethod
-    def error_message(examined: ExaminedImage, event_count: int) -> str:
+    def error_message(examined_image: ExaminedImage, event_count: int) -> str:
         """Returns the message about an image with an error. `event_count` is the number of all events in its history."""
-        image = examined.image
+        image = examined_image.image
         acknowledged = "nothing" if image.min_commands is None else f"command {image.min_commands}"
-        contents = f"{examined.contents} commands" if isinstance(examined.contents, int) else examined.contents
+        contents = f"{examined_image.contents} commands" if isinstance(examined_image.contents, int) else examined_image.contents
         range_end = f" to {image.last}" if image.last > image.first else ""
         return (f"cut at {image.first}{range_end} of {event_count} ({image.phase}): {acknowledged} acknowledged{' in the end' * bool(range_end)}, "
                 f"command {image.max_commands} sent, found: {contents}; {image.durable} writes durable, of {len(image.parts)} others {image.selection}")
@@ -259,8 +261,8 @@ class Runner:
         if self.stored_count == MAX_STORED:
             return
         self.stored_count += 1
-        self.keep.mkdir(parents=True, exist_ok=True)
-        name = self.keep / f"{trial.kind}-{trial.case}-{generation}-{image.first}.image"
+        self.image_folder.mkdir(parents=True, exist_ok=True)
+        name = self.image_folder / f"{trial.kind}-{trial.case}-{generation}-{image.first}.image"
         builder.undo_all()
         builder.build(image)
         name.write_bytes(self.disk.bytes[:kind.size * MEGA])
@@ -271,7 +273,7 @@ class Runner:
         print(f"    examine it again: {self.show_command} --show {name}", flush=True)
 
     def examine_stored(self, name: pathlib.Path) -> bool:
-        """Prints the contents of a stored image. Returns true if they are right."""
+        """Prints the contents of a stored image. Returns true if they are as required."""
         description = json.loads(name.with_suffix(".json").read_text())
         kind, image = FILE_SYSTEMS[description["kind"]], name.read_bytes()
         self.disk.bytes[:len(image)] = image
@@ -282,16 +284,16 @@ class Runner:
         print(f"{name}: {description['file']} on {kind.name}: {min_commands} commands acknowledged, {max_commands} sent, found: {contents}")
         return is_good
 
-    def choose_next_disk(self, trial: Trial, generation: int, examined: list[ExaminedImage]) -> ExaminedImage:
+    def choose_next_disk(self, trial: Trial, generation: int, examined_images: list[ExaminedImage]) -> ExaminedImage:
         """Returns the image that becomes the disk of the next generation. Alternates between an image that was cut while a snapshot was
         written and one that was cut while the session was opened, if there are any. For a session of version 1, prefers one that still has
         version 1. For the first generation of a new session, prefers a blank file."""
         case = CASES[trial.case]
         is_carried = case.name.startswith("carried")
         preferred_phase: Phase = "opening" if is_carried or generation % 2 else "snapshot"
-        valid = [candidate for candidate in examined if self.verdict(trial, candidate) == "good"]
+        valid = [candidate for candidate in examined_images if self.verdict(trial, candidate) == "good"]
         if case.arguments.startswith("new") and generation == 0:
-            valid = [candidate for candidate in examined if candidate.contents == "blank"] or valid
+            valid = [candidate for candidate in examined_images if candidate.contents == "blank"] or valid
         if not valid:
             raise PowerCheckError(f"{trial.name}: no image holds a session")
 

@@ -1,5 +1,5 @@
 # Checks that mcs4 test reports each error in texts of tests with its file and line, and runs no test. Also checks errors in the tested programs, and
-# wrong programs that MCS4 names.
+# values of MCS4 that do not name the bench.
 # shellcheck shell=sh
 
 printf 'test t\n run 5\n' > "$folder/one.test"

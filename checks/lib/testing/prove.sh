@@ -1,17 +1,17 @@
-# Checks the verdicts of mcs4 prove, and that its counterexamples fail as tests of mcs4 test. Also checks wrong provers and Ctrl-C.
-# shellcheck shell=sh disable=SC2034
+# Checks the verdicts of mcs4 prove, and that its counterexamples fail as tests of mcs4 test. Also checks provers that fail, and Ctrl-C. shellcheck
+# shell=sh disable=SC2034
 
 export MCS4_PROVE="${MCS4_PROVE:-$(. tools/lib/start.sh && find_prover && echo "$program")}"
 if [ -z "$MCS4_PROVE" ]; then
     unset MCS4_PROVE
     echo "not run: mcs4 prove, in checks/testing (its program: tools/build mcs4_prove)"
 else
-    # Prints the remark about each property that the text states, and the exit status. Omits the properties that every program gets, which begin with
-    # "no".
+    # Prints the remark about each property in the text, and the exit status. Omits the properties that are added for every program, whose names begin
+    # with "no".
     remarks() {
         sed -n '/ok [0-9]* - no /d; s/^\(not \)\{0,1\}ok .*# //p; /^status/p' "$@"
     }
-    of_every_program() {
+    remarks_for_every_program() {
         sed -n 's/^\(not \)\{0,1\}ok [0-9]* - \(no .*\)/\1\2/p'
     }
     # Proves the properties of the die: it shows only its six patterns, and changes them at least every 15 cycles.
@@ -50,7 +50,7 @@ status 0" "all properties are proved"
     verdict "$(outcome ./mcs4 prove examples/die.txt examples/die.txt "$folder/faces.props" --most 12 | remarks)" \
         "TODO not decided: more than 12 states; --most allows more
 status 3" "a limit on the states that is one too small"
-    # Puts a wrong pattern into the die's program. The printed test must fail on this program, and pass on the right one.
+    # Puts a wrong pattern into the die's program. The printed test must fail on this program, and pass on the original one.
     sed 's/DB 8, 1, 9, 3, 11, 7/DB 8, 1, 9, 2, 11, 7/' examples/die.txt > "$folder/wrong.txt"
     verdict "$(cmp -s examples/die.txt "$folder/wrong.txt" && echo the same)" "" "a program with a wrong pattern"
     verdict "$(outcome ./mcs4 prove "$folder/wrong.txt" "$folder/wrong.txt" "$folder/faces.props" > "$folder/out"; remarks "$folder/out")" \
@@ -62,7 +62,7 @@ $(outcome ./mcs4 test examples/die.txt examples/die.txt "$folder/found.test" | s
 status 1
 ok 1
 status 0" "the test of a wrong pattern"
-    # Checks a property that only inputs that the text excludes can break.
+    # Checks a property that only forbidden inputs can break: the text of the properties excludes these inputs.
     printf 'press THROW\nheld at most 1\nnever lamps ***.***\n' > "$folder/held.props"
     verdict "$(outcome ./mcs4 prove examples/die.txt examples/die.txt "$folder/held.props" | remarks)" \
         "TODO not decided: so far, only inputs that the text excludes break it (1 step)
@@ -115,7 +115,7 @@ fourth: RDR
 back:   BBL 0
 END
     echo "press WALK" > "$folder/none.props"
-    verdict "$(outcome ./mcs4 prove "$folder/wrong.toml" "$folder/wrong.asm" "$folder/none.props" > "$folder/out"; of_every_program < "$folder/out"; sed -n 's/^      expect //p; /^status/p' "$folder/out")" \
+    verdict "$(outcome ./mcs4 prove "$folder/wrong.toml" "$folder/wrong.asm" "$folder/none.props" > "$folder/out"; remarks_for_every_program < "$folder/out"; sed -n 's/^      expect //p; /^status/p' "$folder/out")" \
         "not no code outside the instruction table # broken, 2 steps
 not no fourth nested call # broken, 1 step
 not no BBL without a call # broken, 1 step
@@ -131,15 +131,15 @@ not @fourth
 not @here
 status 1" "a program with mistakes"
     # Checks provers that give an invalid counterexample, run out of memory, reject the question, are missing, or do not end.
-    prover_that() {
+    make_prover() {
         printf '#!/bin/sh\ncat > /dev/null\n%s\n' "$1" > "$folder/prover"
         chmod +x "$folder/prover"
     }
-    prover_that 'echo may fail 0 0'
+    make_prover 'echo may fail 0 0'
     verdict "$(outcome env MCS4_PROVE="$folder/prover" ./mcs4 prove examples/die.txt examples/die.txt "$folder/faces.props" | remarks)" \
         "TODO not decided: the bench does not confirm the counterexample that was found
 status 3" "an invalid counterexample"
-    # Checks that mcs4 prove asks again with the limits of the text. The prover here decides only questions with these limits.
+    # Checks that mcs4 prove asks again with the limits on the inputs that the text states. The prover here decides only questions with these limits.
     printf '#!/bin/sh\nif [ "$(grep -c -x -e only -e "press 0 0" -e test -e "together 1")" = 3 ]; then echo holds 7; else echo gave up; fi\n' \
         > "$folder/prover"
     chmod +x "$folder/prover"
@@ -148,16 +148,16 @@ status 3" "an invalid counterexample"
         'proved for the inputs of "press" (7 states)
 never reached, for the inputs of "press" (7 states)
 status 1' "the inputs that a text allows"
-    prover_that 'echo no 90; exit 3'
+    make_prover 'echo no 90; exit 3'
     verdict "$(outcome env MCS4_PROVE="$folder/prover" ./mcs4 prove examples/die.txt examples/die.txt "$folder/faces.props" | remarks)" \
         "TODO not decided: memory is full
 status 3" "no memory"
-    prover_that 'echo no 25; exit 3'
+    make_prover 'echo no 25; exit 3'
     check_rejected 1 "prove: the prover ended without an answer: no 25" \
         env MCS4_PROVE="$folder/prover" ./mcs4 prove examples/die.txt examples/die.txt "$folder/faces.props"
     check_rejected 1 "prove: MCS4_PROVE names $folder/none, which is not there; unset it, or name another program" \
         env MCS4_PROVE="$folder/none" ./mcs4 prove examples/die.txt examples/die.txt "$folder/faces.props"
-    prover_that "exec sleep 61.$$"
+    make_prover "exec sleep 61.$$"
     MCS4_PROVE="$folder/prover" timeout -s INT 30 node js/node/mcs4.cjs prove examples/die.txt examples/die.txt "$folder/faces.props" &
     prove_process=$!
     while ! pgrep -f "^sleep 61.$$\$" > /dev/null && kill -0 "$prove_process" 2> /dev/null; do sleep 0.1; done

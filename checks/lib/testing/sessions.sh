@@ -22,7 +22,7 @@ label             at          own  own %     calls with calls    longest
 x                 002           7   77.8
 y                 000           2   22.2
 status 0" "the cycles of a test that ends within an instruction"
-# A call after which the return addresses are the same as before counts, too. The oldest of the three open calls began in cycle 6.
+# A call counts even if it leaves the return addresses unchanged. The oldest of the three open calls began in cycle 6.
 printf 'here: JMS here\n' > "$folder/odd.asm"
 verdict "$(outcome ./mcs4 profile $three/board.toml "$folder/odd.asm" "$folder/odd.test" | sed -n '4p; $p')" "here              000           9  100.0         5          3          3
 status 0" "calls that change no return address"
@@ -32,8 +32,8 @@ printf 'break 0x014\nbreak 0x016\nbreak 0x005\nwatch 0 0\nwatch 7 0xFF\n' | cont
 for words in "cover --session SESSION 5000 $three/three_lamps.asm" "profile --session SESSION 5000 $three/three_lamps.asm" \
     "trace SESSION 1200" "wave SESSION 3000 lamps pc"; do
     before=${words%%SESSION*}
-    behind=${words#*SESSION}
-    verdict "$(outcome ./mcs4 $before"$folder/stopped.mcs"$behind)" "$(outcome ./mcs4 $before"$folder/free.mcs"$behind)" "a session with breakpoints and watches: $words"
+    after=${words#*SESSION}
+    verdict "$(outcome ./mcs4 $before"$folder/stopped.mcs"$after)" "$(outcome ./mcs4 $before"$folder/free.mcs"$after)" "a session with breakpoints and watches: $words"
 done
 # Checks that a read-only session can be read.
 chmod 755 "$whole" "$folder"
@@ -44,9 +44,9 @@ if [ "$(id -u)" -eq 0 ]; then reader="$(command -v setpriv) --reuid=65534 --regi
 for words in "trace SESSION 3" "trace --source $three/three_lamps.asm SESSION 3" "trace --last 2 SESSION 1000" "wave SESSION 3" "wave --lines SESSION" \
     "cover --session SESSION 3 $three/three_lamps.asm" "profile --session SESSION 3 $three/three_lamps.asm"; do
     before=${words%%SESSION*}
-    behind=${words#*SESSION}
+    after=${words#*SESSION}
     # shellcheck disable=SC2086
-    verdict "$(outcome env TMPDIR="$folder/anyone" $reader ./mcs4 $before"$folder/stopped.mcs"$behind)" "$(outcome ./mcs4 $before"$folder/stopped.mcs"$behind)" "a read-only session: $words"
+    verdict "$(outcome env TMPDIR="$folder/anyone" $reader ./mcs4 $before"$folder/stopped.mcs"$after)" "$(outcome ./mcs4 $before"$folder/stopped.mcs"$after)" "a read-only session: $words"
 done
 
 # Creates a program that ends before it has answered, and uses it in place of the native program.

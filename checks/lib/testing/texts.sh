@@ -1,5 +1,5 @@
-# Checks that mcs4 test reads several texts of tests, pipes in place of files, comments after a line, and microseconds. Also checks boards with a
-# display and other lamps.
+# Checks that mcs4 test reads several texts of tests, pipes instead of files, comments at the end of a line, and times in microseconds. Also checks
+# boards with a display and other lamps.
 # shellcheck shell=sh
 
 # Checks that a saved state is known only in its own text.

@@ -57,8 +57,8 @@ for words in "trace::10" "wave::10" "back:" "import:" "listing:" "explain:" "res
 usage: mcs4 $tool
 status 2" "$tool with an empty argument"
 done
-# Checks that the right command is suggested for a mistyped one, with and without `help`. The mistyped commands have capitals, or letters that are
-# wrong, missing, extra or exchanged.
+# Checks that the correct command is suggested for a mistyped command, with and without `help`. The mistyped commands have capitals, or letters that
+# are wrong, missing, extra or exchanged.
 for pair in TEST:test tesst1:test tset:test tes:test testt:test tast:test lisitng:listing hlep:help opne:open ls:lsp; do
     word=${pair%:*}
     check_rejected 2 "mcs4: there is no command $word; did you mean ${pair#*:}? mcs4 help lists the commands" ./mcs4 "$word"
@@ -67,7 +67,8 @@ done
 for word in frobnicate tt -x; do
     check_rejected 2 "mcs4: there is no command $word; mcs4 help lists the commands" ./mcs4 "$word"
 done
-# Checks options: they can be anywhere, and `--` ends them. A missing value and an extra one are errors. For a mistyped option, one is suggested.
+# Checks options: they can be anywhere, and `--` ends them. A missing value and an extra value are errors. For a mistyped option, the correct option
+# is suggested.
 verdict "$(outcome ./mcs4 listing $lock/lock.asm --names)" "$(outcome ./mcs4 listing --names $lock/lock.asm)" "an option after the arguments"
 verdict "$(outcome ./mcs4 listing --folder $lock --labels)" "$(outcome ./mcs4 listing -C $lock --labels)" "a long option and a short one"
 verdict "$(outcome ./mcs4 listing "-C$lock" --labels)" "$(outcome ./mcs4 listing "--folder=$lock" --labels)" "options with their values"

@@ -70,35 +70,35 @@ mkdir "$folder/no_node"
 for each in sh sed awk cat env grep tr cut sort uname sha256sum stat xargs find readlink dirname mkdir rm date cmp head tail id ls mv tee wc; do
     if command -v $each > /dev/null; then ln -s "$(command -v $each)" "$folder/no_node/$each"; fi
 done
-without_node() { PATH=$folder/no_node outcome ./mcs4 "$@"; }
-verdict "$(without_node version)" "$(outcome ./mcs4 version)" "mcs4 version without Node"
+run_without_node() { PATH=$folder/no_node outcome ./mcs4 "$@"; }
+verdict "$(run_without_node version)" "$(outcome ./mcs4 version)" "mcs4 version without Node"
 case $(./mcs4 version) in
 *"none so far"*) echo "not run: mcs4 new without Node, in checks/tools (the program in shipped/ is not of these sources)" ;;
 *)
     # Starts the program once, so that the message that each user sees only once does not appear later.
     ./mcs4 open "$folder/none.mcs" < /dev/null > "$folder/printed" 2>&1 || :
-    verdict "$(echo seq | without_node new "$folder/plain.mcs")" "session 0
+    verdict "$(echo seq | run_without_node new "$folder/plain.mcs")" "session 0
 seq 0
 status 0" "mcs4 new without Node"
     ;;
 esac
-verdict "$(without_node help | sed 1q)" "usage:" "mcs4 help without Node"
-verdict "$(without_node help listing)" "$(cat shipped/commands/help/listing.txt)
+verdict "$(run_without_node help | sed 1q)" "usage:" "mcs4 help without Node"
+verdict "$(run_without_node help listing)" "$(cat shipped/commands/help/listing.txt)
 status 0" "mcs4 help listing without Node"
-verdict "$(without_node listing $lock/lock.asm)" "mcs4: listing needs Node 18 or later, which is not installed; on Debian: apt-get install nodejs
+verdict "$(run_without_node listing $lock/lock.asm)" "mcs4: listing needs Node 18 or later, which is not installed; on Debian: apt-get install nodejs
 status 1" "mcs4 listing without Node"
-for word in --help -h; do verdict "$(without_node listing $word)" "$(without_node help listing)" "mcs4 listing $word without Node"; done
+for word in --help -h; do verdict "$(run_without_node listing $word)" "$(run_without_node help listing)" "mcs4 listing $word without Node"; done
 for words in "frob" "help frob" "frob x"; do
     # shellcheck disable=SC2086
-    verdict "$(without_node $words)" "mcs4: there is no command frob; mcs4 help lists the commands
+    verdict "$(run_without_node $words)" "mcs4: there is no command frob; mcs4 help lists the commands
 status 2" "mcs4 $words without Node"
 done
 for words in "help listing x" "version x"; do
     # shellcheck disable=SC2086
-    verdict "$(without_node $words)" "mcs4: 'x' is one argument too many
+    verdict "$(run_without_node $words)" "mcs4: 'x' is one argument too many
 status 2" "mcs4 $words without Node"
 done
-verdict "$(without_node open -x.mcs)" "mcs4: there is no option -x.mcs; for a file of this name, write ./-x.mcs
+verdict "$(run_without_node open -x.mcs)" "mcs4: there is no option -x.mcs; for a file of this name, write ./-x.mcs
 status 2" "mcs4 open -x.mcs without Node"
 
 # Replaces Node with a script that behaves like Node 12 of 2019, which has no modules whose names begin with `node:`.

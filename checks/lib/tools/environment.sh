@@ -1,5 +1,5 @@
-# Checks that environment variables with the same name as a variable inside a tool have no effect. No tool may print anything else, or write or remove
-# a file, because of such a variable.
+# Checks that environment variables with the same name as a variable inside a tool have no effect. Such a variable must not change what a tool prints,
+# writes or removes.
 # shellcheck shell=sh
 
 new_session session < $calculator/quotient.txt

@@ -2,9 +2,9 @@
 # shellcheck shell=sh
 
 esc=$(printf '\033')
-controls="${esc}]0;PWNED$(printf '\007')${esc}[2J$(printf '\302\233')31m$(printf '\177')"
+control_characters="${esc}]0;PWNED$(printf '\007')${esc}[2J$(printf '\302\233')31m$(printf '\177')"
 shown='\x1B'
-# Creates a script that runs a command in a pseudo-terminal, and prints what the command writes there.
+# Creates a script that runs a command in a pseudo-terminal and prints the command's output.
 cat > "$folder/terminal.py" <<'program'
 import os, pty, subprocess, sys
 own, end = pty.openpty()
@@ -22,18 +22,18 @@ sys.stdout.buffer.write(output.replace(b"\r\n", b"\n"))
 program
 
 # Puts control characters everywhere in the texts: in comments, a title, the name of a key, a test, labels, and names of files.
-mkdir "$folder/$controls"
-{ printf '# title: %s\n' "$controls" && sed "s/^# row 0: 1 /# row 0: 1$controls /; s/^# lamp 0: locked/&$controls/" $lock/board.toml; } > "$folder/board.toml"
-sed "s/^        JUN start/        JUN start ; $controls/" $lock/lock.asm > "$folder/lock.asm"
-printf ' LDM 1 ; %s\nb%sad: NOP\n' "$controls" "$controls" > "$folder/bad.asm"
-printf 'test bad\nrun 100 ms # %s\nexpect lamps ... # %s\n' "$controls" "$controls" > "$folder/odd.test"
-printf '# %s\ntest good\nrun 100 # %s\n' "$controls" "$controls" > "$folder/good.test"
-{ printf '# title: %s\n# lamp 0: go%s\n' "$controls" "$controls" && grep -v '^# lamp ' $calculator/board.toml; } > "$folder/display.toml"
-cp "$folder/lock.asm" "$folder/$controls/p.asm"
+mkdir "$folder/$control_characters"
+{ printf '# title: %s\n' "$control_characters" && sed "s/^# row 0: 1 /# row 0: 1$control_characters /; s/^# lamp 0: locked/&$control_characters/" $lock/board.toml; } > "$folder/board.toml"
+sed "s/^        JUN start/        JUN start ; $control_characters/" $lock/lock.asm > "$folder/lock.asm"
+printf ' LDM 1 ; %s\nb%sad: NOP\n' "$control_characters" "$control_characters" > "$folder/bad.asm"
+printf 'test bad\nrun 100 ms # %s\nexpect lamps ... # %s\n' "$control_characters" "$control_characters" > "$folder/odd.test"
+printf '# %s\ntest good\nrun 100 # %s\n' "$control_characters" "$control_characters" > "$folder/good.test"
+{ printf '# title: %s\n# lamp 0: go%s\n' "$control_characters" "$control_characters" && grep -v '^# lamp ' $calculator/board.toml; } > "$folder/display.toml"
+cp "$folder/lock.asm" "$folder/$control_characters/p.asm"
 ./mcs4 script "$folder/board.toml" "$folder/lock.asm" | sed '/^run /,$d' | new_session odd
 printf 'session 0\nno 10\n' > "$folder/no.answers"
-printf 'bogus %s\n' "$controls" > "$folder/bogus"
-sed "s/^name .*/name $controls/" examples/a_fault_to_find.mcsp > "$folder/odd.mcsp"
+printf 'bogus %s\n' "$control_characters" > "$folder/bogus"
+sed "s/^name .*/name $control_characters/" examples/a_fault_to_find.mcsp > "$folder/odd.mcsp"
 {
     sed 1,2d "$folder/odd.mcsp" > "$folder/rest"
     printf 'fethsaim project 1\ncksum %s\n' "$(cksum < "$folder/rest" | cut -d ' ' -f 1)"
@@ -44,34 +44,34 @@ cat > "$folder/commands" <<commands
 1 y test $folder/board.toml $folder/lock.asm $folder/odd.test
 0 n test $folder/board.toml $folder/lock.asm $folder/good.test
 1 y test $folder/board.toml $folder/bad.asm $folder/good.test
-1 y test $folder/board.toml $folder/lock.asm $folder/$controls/none.test
+1 y test $folder/board.toml $folder/lock.asm $folder/$control_characters/none.test
 1 y cover $folder/board.toml $folder/lock.asm $folder/odd.test
 0 y cover $folder/board.toml $folder/lock.asm $folder/good.test
 1 y profile $folder/board.toml $folder/lock.asm $folder/odd.test
 0 n trace --source $folder/lock.asm $folder/odd.mcs 1
-1 y keys $folder/board.toml $controls
+1 y keys $folder/board.toml $control_characters
 0 n script $folder/board.toml $folder/lock.asm
 1 y script $folder/board.toml $folder/bad.asm
 0 y listing $folder/lock.asm
 1 y listing $folder/bad.asm
-1 y listing $folder/none$controls
+1 y listing $folder/none$control_characters
 0 y import $folder/lock.asm
 1 y import $folder/bad.asm
-1 y import $folder/none$controls
+1 y import $folder/none$control_characters
 1 y names $folder/bad.asm
-1 y rom load $folder/none$controls
-1 y back $folder/none$controls
-2 y back $folder/odd.mcs $controls
-1 y wave $folder/odd.mcs 5 line$controls
-1 y project split $folder/none$controls $folder/none
+1 y rom load $folder/none$control_characters
+1 y back $folder/none$control_characters
+2 y back $folder/odd.mcs $control_characters
+1 y wave $folder/odd.mcs 5 line$control_characters
+1 y project split $folder/none$control_characters $folder/none
 0 n project split $folder/named.mcsp $folder/none
-1 y project join $folder/$controls $folder/none.mcsp
-2 y project $controls
-1 y cycles --source $folder/none$controls $folder/odd.mcs
-1 y display $folder/none$controls
+1 y project join $folder/$control_characters $folder/none.mcsp
+2 y project $control_characters
+1 y cycles --source $folder/none$control_characters $folder/odd.mcs
+1 y display $folder/none$control_characters
 1 y explain $folder/bogus
 commands
-raw="[$(printf '\001')-$(printf '\010')$(printf '\013')-$(printf '\037\177')]\|$(printf '\302\233')"
+raw_pattern="[$(printf '\001')-$(printf '\010')$(printf '\013')-$(printf '\037\177')]\|$(printf '\302\233')"
 answers=$folder/answers
 while read -r expected is_shown words; do
     tool=${words%% *}
@@ -79,11 +79,11 @@ while read -r expected is_shown words; do
     status=0
     # shellcheck disable=SC2086
     ./mcs4 $words < "$answers" > "$folder/output" 2> "$folder/errors" || status=$?
-    verdict "$status; $(LC_ALL=C grep -ac "$raw" "$folder/errors")" "$expected; 0" "standard error of $words"
+    verdict "$status; $(LC_ALL=C grep -ac "$raw_pattern" "$folder/errors")" "$expected; 0" "standard error of $words"
     case $tool in
     # Output that is not for a terminal must contain the original bytes.
-    import | listing) if [ "$expected" -eq 0 ]; then verdict "$(LC_ALL=C grep -acF "$controls" "$folder/output")" 1 "a file of $words"; fi ;;
-    *) verdict "$(LC_ALL=C grep -ac "$raw" "$folder/output")" 0 "standard output of $words" ;;
+    import | listing) if [ "$expected" -eq 0 ]; then verdict "$(LC_ALL=C grep -acF "$control_characters" "$folder/output")" 1 "a file of $words"; fi ;;
+    *) verdict "$(LC_ALL=C grep -ac "$raw_pattern" "$folder/output")" 0 "standard output of $words" ;;
     esac
     rm -rf "$folder/none"
     if ! command -v python3 > /dev/null; then continue; fi
@@ -91,9 +91,9 @@ while read -r expected is_shown words; do
     python3 "$folder/terminal.py" ./mcs4 $words < "$answers" > "$folder/terminal"
     rm -rf "$folder/none"
     if LC_ALL=C grep -qaF "$shown" "$folder/terminal"; then is=y; else is=n; fi
-    verdict "$is, $(LC_ALL=C grep -ac "$raw" "$folder/terminal") raw" "$is_shown, 0 raw" "a terminal with $words"
+    verdict "$is, $(LC_ALL=C grep -ac "$raw_pattern" "$folder/terminal") raw" "$is_shown, 0 raw" "a terminal with $words"
 done < "$folder/commands"
 # Checks that this check would find unescaped characters: `cat` prints them as they are.
 if command -v python3 > /dev/null; then
-    verdict "$(python3 "$folder/terminal.py" cat "$folder/bogus" | LC_ALL=C grep -ac "$raw")" 1 "a terminal with cat"
+    verdict "$(python3 "$folder/terminal.py" cat "$folder/bogus" | LC_ALL=C grep -ac "$raw_pattern")" 1 "a terminal with cat"
 fi

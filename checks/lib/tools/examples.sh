@@ -1,4 +1,4 @@
-# Checks that the scripts of the examples have the right answers, and that the calculator shows the right numbers. (checks/calculator tries random
+# Checks that the scripts of the examples have the correct answers, and that the calculator shows the correct numbers. (checks/calculator tries random
 # calculations.)
 # shellcheck shell=sh
 

@@ -27,7 +27,7 @@ check_rejected_sources "explain --source PROGRAM $folder/ran.mcs $folder/wrong.t
 check_rejected 2 "explain: SCRIPT is missing
 usage: mcs4 explain [--source PROGRAM SESSION] SCRIPT < ANSWERS" ./mcs4 explain --source "$folder/source.asm" "$folder/ran.mcs"
 
-# Tries rejected lines, wrong lines of programs, and boards in which the wrong part depends on other parts, or other parts depend on it.
+# Tries rejected lines, invalid lines of programs, and boards in which the invalid part depends on other parts, or other parts depend on it.
 cat > "$folder/explain.txt" <<'script'
 wire
 [keys]
@@ -144,14 +144,14 @@ status 1"
 check_explain 'poke r1 1\nwatch 0 0\n' 'session 0\nok 1\nok' "line 2 was not answered
     watch 0 0
 status 1"
-not_fitting="explain: these are not the answers to this script: line"
-check_explain 'press 0 0\n' 'session 0\nok 1 ran 10 end\n' "$not_fitting 2 of the answers, \`ok 1 ran 10 end\`, does not answer line 1 of the script, \`press 0 0\`
+wrong_answers_message="explain: these are not the answers to this script: line"
+check_explain 'press 0 0\n' 'session 0\nok 1 ran 10 end\n' "$wrong_answers_message 2 of the answers, \`ok 1 ran 10 end\`, does not answer line 1 of the script, \`press 0 0\`
 status 1"
-check_explain 'run 5\n' 'session 0\nok 1\n' "$not_fitting 2 of the answers, \`ok 1\`, does not answer line 1 of the script, \`run 5\`
+check_explain 'run 5\n' 'session 0\nok 1\n' "$wrong_answers_message 2 of the answers, \`ok 1\`, does not answer line 1 of the script, \`run 5\`
 status 1"
-check_explain 'reset\nreset\n' 'session 0\nok 9\nok 3\n' "$not_fitting 2 of the answers, \`ok 9\`, does not answer line 1 of the script, \`reset\`: 0 commands were accepted before it
+check_explain 'reset\nreset\n' 'session 0\nok 9\nok 3\n' "$wrong_answers_message 2 of the answers, \`ok 9\`, does not answer line 1 of the script, \`reset\`: 0 commands were accepted before it
 status 1"
-check_explain 'watches\nreset\n' 'session 0\nwatches -\njunk\n' "$not_fitting 3 of the answers, \`junk\`, does not answer line 2 of the script, \`reset\`
+check_explain 'watches\nreset\n' 'session 0\nwatches -\njunk\n' "$wrong_answers_message 3 of the answers, \`junk\`, does not answer line 2 of the script, \`reset\`
 status 1"
 {
     printf 'wire\nrom = [{ chip = 0, port = "0000" }]\n.\nasm\n NOP\n NOP ; \303\244\n.\nasm\n NOP\n ORG 0x3FF\n FIM P0, 0\n.\nasm\n; '

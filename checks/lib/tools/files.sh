@@ -1,33 +1,33 @@
-# Checks that tools report a lack of space for temporary files, wrong files, and sessions in use. Also checks that a signal ends a tool, and leaves no
-# files or processes.
+# Checks that tools report a lack of space for temporary files, invalid files, and sessions in use. Also checks that a signal ends a tool, and leaves
+# no files or processes.
 # shellcheck shell=sh
 
 new_session session < $calculator/quotient.txt
 
 # Checks that tools report a folder for temporary files that is full.
-small=$folder/small
-mkdir "$small"
-if mount -t tmpfs -o size=64k tmpfs "$small" 2> /dev/null; then
-    trap 'umount "$small" 2> /dev/null || :' EXIT
+small_disk=$folder/small
+mkdir "$small_disk"
+if mount -t tmpfs -o size=64k tmpfs "$small_disk" 2> /dev/null; then
+    trap 'umount "$small_disk" 2> /dev/null || :' EXIT
     for words in "script $lock/board.toml $lock/lock.asm" "listing $lock/lock.asm" "keys $lock/board.toml 1" "test $lock/board.toml $lock/lock.asm $lock/lock.test" \
         "cover $lock/board.toml $lock/lock.asm $lock/lock.test" "trace $folder/session.mcs 3" "wave $folder/session.mcs 3" \
         "resume $calculator/quotient.txt $folder/session.mcs" "back $folder/session.mcs"; do
-        verdict "$(TMPDIR=$small outcome ./mcs4 $words | tail -n 2)" "${words%% *}: $small has no room for temporary files; make some, or name another place: TMPDIR
+        verdict "$(TMPDIR=$small_disk outcome ./mcs4 $words | tail -n 2)" "${words%% *}: $small_disk has no room for temporary files; make some, or name another place: TMPDIR
 status 1" "no room for the temporary files of $words"
     done
     # A process that the tool has started can end a moment later, so several attempts are made.
-    for turn in 1 2 3 4 5 6 7 8 9 10; do if umount "$small" 2> /dev/null; then break; fi; sleep 0.5; done
+    for turn in 1 2 3 4 5 6 7 8 9 10; do if umount "$small_disk" 2> /dev/null; then break; fi; sleep 0.5; done
 else
     echo "not run: a full folder for temporary files (a file system cannot be mounted here)"
 fi
 
-# Runs a command with wrong files: an empty file, a folder, a missing file, a file of 100 MB, a link to itself, and a name that is too long.
+# Runs a command with invalid files: an empty file, a folder, a missing file, a file of 100 MB, a link to itself, and a name that is too long.
 # Arguments: the maximum size of a file in bytes, and the command, to which the file and `last_word` are appended.
 : > "$folder/empty"
 ln -s loop "$folder/loop"
 longest=$(printf '%256s' | tr ' ' x)
 dd if=/dev/null of="$folder/huge" bs=1 seek=100000000 2> /dev/null
-check_wrong_files() {
+check_invalid_files() {
     max_bytes=$1
     shift
     for file in empty none huge . loop $longest; do
@@ -46,16 +46,16 @@ status 1" "$* with $file"
 }
 printf 'reset\nseq\n' > "$folder/two.txt"
 last_word=
-check_wrong_files 1048576 ./mcs4 rom load
-check_wrong_files 16777216 ./mcs4 listing
-check_wrong_files 16777216 ./mcs4 explain
-check_wrong_files 1048576 ./mcs4 resume "$folder/two.txt"
-check_wrong_files 1048576 ./mcs4 panel $lock/board.toml
+check_invalid_files 1048576 ./mcs4 rom load
+check_invalid_files 16777216 ./mcs4 listing
+check_invalid_files 16777216 ./mcs4 explain
+check_invalid_files 1048576 ./mcs4 resume "$folder/two.txt"
+check_invalid_files 1048576 ./mcs4 panel $lock/board.toml
 last_word="$folder/session.mcs"
-check_wrong_files 16777216 ./mcs4 resume
-check_wrong_files 16777216 ./mcs4 panel
+check_invalid_files 16777216 ./mcs4 resume
+check_invalid_files 16777216 ./mcs4 panel
 last_word=10
-check_wrong_files 1048576 ./mcs4 trace
+check_invalid_files 1048576 ./mcs4 trace
 check_rejected 1 "cover: cannot read $folder/loop: too many symbolic links" ./mcs4 cover --lcov "$folder/lcov" $lock/board.toml $lock/lock.asm "$folder/loop"
 check_rejected 1 "project: cannot read $folder/loop: too many symbolic links" ./mcs4 project join "$folder/loop" "$folder/joined.mcsp"
 check_rejected 1 "project: there is no folder $folder/none" ./mcs4 project join "$folder/none" "$folder/joined.mcsp"

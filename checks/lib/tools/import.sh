@@ -1,4 +1,4 @@
-# Checks that mcs4 import converts programs in the spelling of Intel and of AS, and reports what it cannot convert.
+# Checks that mcs4 import converts programs in the syntax of Intel's assembler and of AS, and reports what it cannot convert.
 # shellcheck shell=sh
 
 # Prints the ROM contents of a program.
@@ -71,7 +71,7 @@ status 0" "an imported program"
 verdict "$(./mcs4 import - < "$folder/intel.src")" "$(cat "$folder/imported")" "a program imported from standard input"
 verdict "$(outcome ./mcs4 import "$folder/imported" | sed 's/ *;.*//' | tr -d ' ' | sed '/^$/d')" "$(sed 's/ *;.*//' "$folder/imported" | tr -d ' ' | sed '/^$/d; s/,12,/,12,/')
 status0" "an imported program, imported again"
-# Compares the output with bytes that were assembled manually. The programs have the style of Intel's first manuals. One clears a RAM register in a
+# Compares the output with bytes that were assembled manually. The programs are in the style of Intel's first manuals. One clears a RAM register in a
 # loop, one adds two numbers of sixteen decimal digits in a loop, and one computes the AND of two registers.
 cat > "$folder/clear.src" <<'source'
 / CLEAR RAM REGISTER 0 OF CHIP 0
@@ -115,7 +115,7 @@ bytes
 ./mcs4 import "$folder/clear.src" > "$folder/clear.asm"
 verdict "$(rom_of "$folder/clear.asm" | awk '{ print $2; if (substr($0, 8, 1) != " ") print $3 }' | head -n 39 | tr '\n' ' ')" "$(tr '\n' ' ' < "$folder/clear.bytes")" "the bytes of programs in Intel's style, assembled manually"
 verdict "$(sed -n 's/.*; //p' "$folder/clear.asm" | grep -v '^AND-2')" "$(sed -n 's/.*\/ //p' "$folder/clear.src")" "the comments of imported programs"
-# Checks that the examples have the same bytes in Intel's spelling as in the bench's spelling.
+# Checks that the examples assemble to the same bytes in Intel's syntax as in the bench's syntax.
 for example in examples/*/*.asm; do
     sed 's/;/ \//; t spelled; :spelled
         s/^\([A-Za-z_][A-Za-z0-9_]*\) *= *0x\([0-9A-Fa-f]*\)/\1 EQU 0\2H/; s/^\([A-Za-z_][A-Za-z0-9_]*\) *= */\1 EQU /; s/^\([A-Za-z_][A-Za-z0-9_]*\):/\1,/
@@ -126,7 +126,7 @@ for example in examples/*/*.asm; do
     verdict "$(rom_of "$folder/example.asm" | cksum)" "$(rom_of "$example" | cksum)" "the bytes of $example in Intel's spelling"
     verdict "$(grep -c , "$folder/example.src" | awk '{ print ($1 > 3) }')" 1 "$example has another spelling"
 done
-# Checks that the other tools print a hint if a line has Intel's or AS's spelling.
+# Checks that the other tools print a hint if a line has Intel's or AS's syntax.
 while IFS='|' read -r line words; do
     echo "$line" > "$folder/spelled.asm"
     check_rejected 1 "listing: $folder/spelled.asm: line 1: no 30: $words

@@ -5,7 +5,7 @@ check_rejected 1 "keys: cannot read none.toml: there is no such file" ./mcs4 key
 check_rejected 2 "keys: KEYS is missing
 usage: mcs4 keys [-C FOLDER] [--down CYCLES] [--up CYCLES] [--until-stop SESSION] [BOARD] KEYS" ./mcs4 keys $calculator/board.toml
 
-# Checks that on a board whose lines end with CRLF, the last key of a row has the right name.
+# Checks that on a board whose lines end with CRLF, the last key of a row has the correct name.
 printf '# row 0: a b\r\n# row 1: c\r\nrom = [{ chip = 0, port = "00ii" }]\r\nchain = [{ clock = "rom0.2", data = "rom0.3", chips = 1 }]\r\nkeys = { chain = 0, first = 0, rows = 2, columns = ["rom0.0", "rom0.1"] }\r\n' > "$folder/crlf.toml"
 verdict "$(./mcs4 keys "$folder/crlf.toml" "b c" | grep press)" "press 0 1
 press 1 0" "keys of a board with CRLF"

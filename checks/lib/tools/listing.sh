@@ -1,4 +1,4 @@
-# Checks that mcs4 listing prints the right addresses, bytes and names.
+# Checks that mcs4 listing prints the correct addresses, bytes and names.
 # shellcheck shell=sh
 
 # Compares the listing with bytes that were assembled manually. The program has lines that end with CRLF, labels on separate lines and at ORG, and a

@@ -3,22 +3,22 @@
 # `uname` that reports another machine.
 # shellcheck shell=sh
 
-other=$folder/other
-mkdir -p "$other/tree/tools" "$other/tree/page" "$other/tree/shipped" "$other/bin"
-cp -RL mcs4 js examples "$other/tree"
-cp -RL tools/lib "$other/tree/tools"
-cp page/fethsaim.html "$other/tree/page"
-cp -RL shipped/commands "$other/tree/shipped"
+other_system=$folder/other
+mkdir -p "$other_system/tree/tools" "$other_system/tree/page" "$other_system/tree/shipped" "$other_system/bin"
+cp -RL mcs4 js examples "$other_system/tree"
+cp -RL tools/lib "$other_system/tree/tools"
+cp page/fethsaim.html "$other_system/tree/page"
+cp -RL shipped/commands "$other_system/tree/shipped"
 # An installation is not writable, and neither are copies of it.
-chmod -R u+w "$other/tree"
-printf '#!/bin/sh\ncase ${1-} in -s) echo Darwin ;; *) echo arm64 ;; esac\n' > "$other/bin/uname"
-chmod +x "$other/bin/uname"
-mkdir -m 700 "$other/cache"
+chmod -R u+w "$other_system/tree"
+printf '#!/bin/sh\ncase ${1-} in -s) echo Darwin ;; *) echo arm64 ;; esac\n' > "$other_system/bin/uname"
+chmod +x "$other_system/bin/uname"
+mkdir -m 700 "$other_system/cache"
 reason="it is for Linux on x86-64, and this is Darwin on arm64"
 
 # Runs mcs4 with these arguments in the copy, as on the other machine.
 on_other_system() {
-    env -u MCS4 -u MCS4_PROVE PATH="$other/bin:$PATH" XDG_CACHE_HOME="$other/cache" "$other/tree/mcs4" "$@"
+    env -u MCS4 -u MCS4_PROVE PATH="$other_system/bin:$PATH" XDG_CACHE_HOME="$other_system/cache" "$other_system/tree/mcs4" "$@"
 }
 
 # Compares the output, errors and status of a command on the module and on the native program. Both run at the same time. Arguments: the file for the
@@ -113,16 +113,16 @@ check_same_on_module /dev/null prove $lock/board.toml $lock/lock.asm "$folder/fo
 
 # --- commands that do not work without a native program
 
-needs_program="a session file needs the native program, which cannot start: $reason. Commands without a session file run here"
+needs_program_message="a session file needs the native program, which cannot start: $reason. Commands without a session file run here"
 for words in "new $folder/new.mcs" "open $folder/session.mcs"; do
     # shellcheck disable=SC2086
-    check_rejected 1 "mcs4: $needs_program" on_other_system $words
+    check_rejected 1 "mcs4: $needs_program_message" on_other_system $words
 done
 cp "$folder/session.mcs" "$folder/before.mcs"
 for words in "back $folder/session.mcs 1" "resume $calculator/quotient.txt $folder/session.mcs" "panel $calculator/board.toml $folder/session.mcs" \
     "keys --until-stop $folder/session.mcs $calculator/board.toml 1" "debug $folder/session.mcs"; do
     # shellcheck disable=SC2086
-    check_rejected 1 "${words%% *}: $needs_program" on_other_system $words
+    check_rejected 1 "${words%% *}: $needs_program_message" on_other_system $words
 done
 verdict_of_files "$folder/session.mcs" "$folder/before.mcs" "a session is unchanged on that system"
 verdict "$(ls "$folder/new.mcs" 2> /dev/null || echo none)" none "no session file is created on that system"

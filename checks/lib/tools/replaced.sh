@@ -14,47 +14,47 @@ again: IAC
 make_board_with_buzzer
 ./mcs4 project split examples/a_fault_to_find.mcsp "$folder/taken_apart"
 # Functions that write a file, whose name is their argument: a project, a sound, a coverage record.
-writes_project() { ./mcs4 project join "$folder/taken_apart" "$1"; }
-writes_sound() { ./mcs4 wave --wav "$1" "$folder/buzzer.mcs" 100000 rom0.0; }
-writes_record() { ./mcs4 cover --lcov "$1" $lock/board.toml $lock/lock.asm $lock/lock.test > "$folder/covered"; }
+write_project() { ./mcs4 project join "$folder/taken_apart" "$1"; }
+write_sound() { ./mcs4 wave --wav "$1" "$folder/buzzer.mcs" 100000 rom0.0; }
+write_record() { ./mcs4 cover --lcov "$1" $lock/board.toml $lock/lock.asm $lock/lock.test > "$folder/covered"; }
 
 for kind in project sound record; do
     mkdir "$folder/$kind" "$folder/$kind/real"
-    complete=$folder/$kind/whole
-    "writes_$kind" "$complete"
-    verdict "$(stat -c %a "$complete")" "$(touch "$folder/usual" && stat -c %a "$folder/usual")" "the mode of a new file: $kind"
+    complete_file=$folder/$kind/whole
+    "write_$kind" "$complete_file"
+    verdict "$(stat -c %a "$complete_file")" "$(touch "$folder/usual" && stat -c %a "$folder/usual")" "the mode of a new file: $kind"
     file=$folder/$kind/file
     for mode in 600 640 664; do
-        head -c 100 "$complete" > "$file"
+        head -c 100 "$complete_file" > "$file"
         chmod "$mode" "$file"
-        "writes_$kind" "$file"
-        verdict "$(stat -c %a "$file"); $(cmp "$file" "$complete" 2>&1)" "$mode; " "the mode of a file that is replaced: $kind"
+        "write_$kind" "$file"
+        verdict "$(stat -c %a "$file"); $(cmp "$file" "$complete_file" 2>&1)" "$mode; " "the mode of a file that is replaced: $kind"
     done
     if [ "$(id -u)" -eq 0 ]; then
-        head -c 100 "$complete" > "$file"
+        head -c 100 "$complete_file" > "$file"
         chown 4321:1234 "$file"
         chmod 620 "$file"
-        "writes_$kind" "$file"
-        verdict "$(stat -c '%u:%g %a' "$file"); $(cmp "$file" "$complete" 2>&1)" "4321:1234 620; " "the owner of a file that is replaced: $kind"
+        "write_$kind" "$file"
+        verdict "$(stat -c '%u:%g %a' "$file"); $(cmp "$file" "$complete_file" 2>&1)" "4321:1234 620; " "the owner of a file that is replaced: $kind"
     fi
     # Writes through a link, a link to a link, a link to a missing file, and a link to itself.
-    head -c 100 "$complete" > "$folder/$kind/real/file"
+    head -c 100 "$complete_file" > "$folder/$kind/real/file"
     ln -s real/file "$folder/$kind/link"
     ln -s link "$folder/$kind/second"
     ln -s real/new "$folder/$kind/dangling"
     ln -s nowhere "$folder/$kind/nowhere"
     for pair in link:file second:file dangling:new; do
-        "writes_$kind" "$folder/$kind/${pair%:*}"
-        verdict "$(test -h "$folder/$kind/${pair%:*}" && cmp "$folder/$kind/real/${pair#*:}" "$complete" 2>&1 && echo followed)" followed "the ${pair%:*}: $kind"
-        head -c 100 "$complete" > "$folder/$kind/real/${pair#*:}"
+        "write_$kind" "$folder/$kind/${pair%:*}"
+        verdict "$(test -h "$folder/$kind/${pair%:*}" && cmp "$folder/$kind/real/${pair#*:}" "$complete_file" 2>&1 && echo followed)" followed "the ${pair%:*}: $kind"
+        head -c 100 "$complete_file" > "$folder/$kind/real/${pair#*:}"
     done
-    verdict "$(outcome "writes_$kind" "$folder/$kind/nowhere" | sed 's/^[a-z]*: //; s/it is a link that leads nowhere$/too many symbolic links/')" \
+    verdict "$(outcome "write_$kind" "$folder/$kind/nowhere" | sed 's/^[a-z]*: //; s/it is a link that leads nowhere$/too many symbolic links/')" \
         "cannot write $folder/$kind/nowhere: too many symbolic links
 status 1" "a link that leads nowhere: $kind"
-    head -c 100 "$complete" > "$file"
+    head -c 100 "$complete_file" > "$file"
     chmod 444 "$file"
     cp -f "$file" "$folder/before"
-    verdict "$(outcome "writes_$kind" "$file" | sed 's/^[a-z]*: //'); $(stat -c %a "$file"); $(cmp "$file" "$folder/before" 2>&1)" "cannot write $file: it is read-only
+    verdict "$(outcome "write_$kind" "$file" | sed 's/^[a-z]*: //'); $(stat -c %a "$file"); $(cmp "$file" "$folder/before" 2>&1)" "cannot write $file: it is read-only
 status 1; 444; " "a file that is read-only: $kind"
     verdict "$(find "$folder/$kind" -mindepth 1 | LC_ALL=C sort | sed "s|$folder/$kind/||" | tr '\n' ' ')" "dangling file link nowhere real real/file real/new second whole " "no other files are left: $kind"
 done

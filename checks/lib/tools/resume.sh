@@ -74,17 +74,17 @@ check_differs() {
 status 1" "a session with other $4"
     verdict_of_files "$folder/other.mcs" "$folder/copy.mcs" "a session that was not resumed: $4"
 }
-keyed='wire\nrom = [{ chip = 0, port = "0000" }, { chip = 1, port = "iiii" }]\nchain = [{ clock = "rom0.0", data = "rom0.1", chips = 1 }]\nkeys = { chain = 0, first = 0, rows = 2, columns = ["rom1.0"] }\n.\nasm\nSRC P0\nWRR\nIAC\nWRR\n.\n'
+board_with_keys='wire\nrom = [{ chip = 0, port = "0000" }, { chip = 1, port = "iiii" }]\nchain = [{ clock = "rom0.0", data = "rom0.1", chips = 1 }]\nkeys = { chain = 0, first = 0, rows = 2, columns = ["rom1.0"] }\n.\nasm\nSRC P0\nWRR\nIAC\nWRR\n.\n'
 check_differs 'poke r1 1\nwatch 0 0\npoke r2 2\n' 'poke r1 1\nwatch 1 5\n' "< watches 1.05
 > watches 0.00" watches
-check_differs "${keyed}press 0 0\npoke r1 1\n" "${keyed}press 1 0\n" "< keys 1.0
+check_differs "${board_with_keys}press 0 0\npoke r1 1\n" "${board_with_keys}press 1 0\n" "< keys 1.0
 > keys 0.0" keys
-check_differs "${keyed}poke r0 1\nstep\npoke r0 0\nreset\n" "${keyed}poke r0 2\nstep\npoke r0 0\n" "< src 20
+check_differs "${board_with_keys}poke r0 1\nstep\npoke r0 0\nreset\n" "${board_with_keys}poke r0 2\nstep\npoke r0 0\n" "< src 20
 > src 10" "SRC bytes"
-check_differs "${keyed}poke acc 8\nrun 2\npoke acc 0\nreset\n" "${keyed}poke acc 4\nrun 2\npoke acc 0\n" "< roms 0.4.0,1.0.0
+check_differs "${board_with_keys}poke acc 8\nrun 2\npoke acc 0\nreset\n" "${board_with_keys}poke acc 4\nrun 2\npoke acc 0\n" "< roms 0.4.0,1.0.0
 > roms 0.8.0,1.0.0" latches
 # Two sessions that write 2 and 3, or 1 and 3, to the port. In both, the clock rises once, but the data line is 1 or 0 at that time.
-check_differs "${keyed}poke acc 2\nrun 4\npoke acc 3\npoke acc 3\npoke acc 3\nreset\n" "${keyed}poke acc 1\nrun 2\npoke acc 3\npoke pc 3\nstep\n" \
+check_differs "${board_with_keys}poke acc 2\nrun 4\npoke acc 3\npoke acc 3\npoke acc 3\nreset\n" "${board_with_keys}poke acc 1\nrun 2\npoke acc 3\npoke pc 3\nstep\n" \
     "< chains 0000000000
 > chains 1000000000" chains
 # Checks that the bytes of the script are sent unchanged: of two carriage returns at the end of a line, the bench drops only one.

@@ -1,12 +1,12 @@
-# Checks that tools read and send texts with a byte order mark, non-ASCII letters, or long comments correctly. Also checks scripts and projects in
-# place of programs.
+# Checks that tools read and send texts with a byte order mark, non-ASCII letters, or long comments correctly. Also checks scripts and projects where
+# a program is expected.
 # shellcheck shell=sh
 
 board=$calculator/board.toml
-bytes_of_mark='\357\273\277'
-printf "$bytes_of_mark"'# title: Z\303\244hler \342\202\254 \360\237\230\200\r\n[[rom]] # "\303\244"\nchip = 0\nport = "0000"\n' > "$folder/marked.toml"
-printf "$bytes_of_mark"'; z\303\244hle\n NOP ; \344 in Latin 1\n' > "$folder/marked.asm"
-printf "$bytes_of_mark"'test t\n# \303\244\n run 5\n' > "$folder/marked.test"
+byte_order_mark='\357\273\277'
+printf "$byte_order_mark"'# title: Z\303\244hler \342\202\254 \360\237\230\200\r\n[[rom]] # "\303\244"\nchip = 0\nport = "0000"\n' > "$folder/marked.toml"
+printf "$byte_order_mark"'; z\303\244hle\n NOP ; \344 in Latin 1\n' > "$folder/marked.asm"
+printf "$byte_order_mark"'test t\n# \303\244\n run 5\n' > "$folder/marked.test"
 verdict "$(outcome ./mcs4 script "$folder/marked.toml" "$folder/marked.asm" | tr '\r' R)" "wire
 # title: Z hler     
 [[rom]] # \" \"

@@ -1,4 +1,4 @@
-# Checks that mcs4 trace prints the right instructions and effects, compared with traces that were worked out manually and with single steps.
+# Checks that mcs4 trace prints the correct instructions and effects, compared with traces that were worked out manually and with single steps.
 # shellcheck shell=sh
 
 # Checks a trace that was worked out manually. The program selects a bank, writes RAM, a status character and a port, turns on a lamp, calls a
