@@ -99,10 +99,10 @@ function programResult(file, input) {
 // Returns the answers, the exit status and the session file of a call of the page's module. The call `bench_serve` serves without settling.
 function pageResult(engine, file, input, call = "bench_serve") {
   try {
-    const { status, opened, answers } = engine.callForAnswers(call, file || engine.begin(), input);
+    const { status, openingAnswer, answers } = engine.callForAnswers(call, file || engine.begin(), input);
     const { instance } = engine;
     const size = file ? file.length : engine.size;
-    return { output: [opened, ...answers, ""].join("\n"), status, file: instance.view(instance.file, size).slice() };
+    return { output: [openingAnswer, ...answers, ""].join("\n"), status, file: instance.view(instance.file, size).slice() };
   } catch (error) {
     return { output: `${error.message}\n`, status: 3, file };
   }
@@ -207,7 +207,7 @@ const seqOf = (engine, file) => Number(answersTo(engine, file, "seq\n")[0].split
 // Serves lines in pieces, as the page does with long work, and settles after each piece. Checks that the answers are the same as in one call.
 function compareInPieces(name, engine, file, input) {
   const bytes = Uint8Array.from(file);
-  const answers = [engine.ask(file, "").opened];
+  const answers = [engine.ask(file, "").openingAnswer];
   for (let start = 0; start < input.length;) {
     const end = findInputEnd(input, start, 1 + random(200));
     answers.push(...engine.serve(bytes, input.slice(start, end), bytes).answers);

@@ -99,7 +99,7 @@ export const host = {
     const path = isAbsolute(name) ? name : resolve(folder || ".", name);
     return toSlashes(existsSync(path) ? realpathSync(path) : path);
   },
-  beside: (name, other) => toSlashes(join(dirname(other), name)),
+  resolveFrom: (name, other) => toSlashes(join(dirname(other), name)),
   read: (name) => {
     try {
       return readUserText(name);
@@ -118,7 +118,7 @@ export const host = {
   fileExists: existsSync,
   isInside: (name, folder) => !existsSync(name) || isInside(name, folder),
   open: async (name) => new SessionFile(name, await openSessionFile(name)),
-  make: async (name) => new SessionFile(name, await openProgram("new", name)),
+  create: async (name) => new SessionFile(name, await openProgram("new", name)),
   readSession: async (name) => readUnlocked(name, MAX_SESSION_BYTES),
   pause: () => new Promise((finish) => {
     setImmediate(finish);

@@ -363,11 +363,11 @@ export class NativeEngine {
     const { commands, isComplete } = this.analyse(lines);
     if (!isComplete) return this.serveIncomplete(stateIndex, lines, into);
     const session = this.sessionAt(stateIndex);
-    const opened = `session ${session.count}`;
+    const openingAnswer = `session ${session.count}`;
     const answers = this.exchange(session, lines);
     if (commands !== "") session.stateIndex = this.addState({ parent: stateIndex, commands, copy: "", count: session.count });
     this.writeIndex(into, session.stateIndex);
-    return { status: 0, opened, answers };
+    return { status: 0, openingAnswer, answers };
   }
 
   /**
@@ -379,13 +379,13 @@ export class NativeEngine {
     const { commands, isComplete } = this.analyse(lines);
     if (commands === "" && isComplete) {
       const session = this.sessionAt(stateIndex);
-      return { status: 0, opened: `session ${session.count}`, answers: this.exchange(session, lines) };
+      return { status: 0, openingAnswer: `session ${session.count}`, answers: this.exchange(session, lines) };
     }
     const session = this.startSession(stateIndex);
-    const opened = `session ${session.count}`;
+    const openingAnswer = `session ${session.count}`;
     const answers = isComplete ? this.exchange(session, lines) : session.exchangeIncomplete(lines);
     this.drop(session, isComplete);
-    return { status: 0, opened, answers };
+    return { status: 0, openingAnswer, answers };
   }
 
   /** @param {State} state */
@@ -494,13 +494,13 @@ export class NativeEngine {
    */
   serveIncomplete(stateIndex, lines, into) {
     const session = this.startSession(stateIndex);
-    const opened = `session ${session.count}`;
+    const openingAnswer = `session ${session.count}`;
     const answers = session.exchangeIncomplete(lines);
     const copy = this.makeFilePath();
     renameSync(session.file, copy);
     this.drop(session, false);
     this.writeIndex(into, this.addState({ parent: -1, commands: "", copy, count: -1 }));
-    return { status: 0, opened, answers };
+    return { status: 0, openingAnswer, answers };
   }
 
   /**

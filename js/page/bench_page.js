@@ -105,9 +105,9 @@ export class Page {
    */
   listener() {
     return {
-      frame: (frame) => this.runController.handleFrame(frame),
-      failed: (error) => this.recovery.reportFailure(error),
-      died: () => this.recovery.restart(),
+      handleFrame: (frame) => this.runController.handleFrame(frame),
+      handleFailure: (error) => this.recovery.reportFailure(error),
+      handleTermination: () => this.recovery.restart(),
     };
   }
 

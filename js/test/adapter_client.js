@@ -67,13 +67,13 @@ export function startAdapter(files = FILES, sessions = {}) {
   });
   const host = {
     nameOf: (name, folder) => (/^([A-Z]:)?\//.test(name) ? name : `${folder}/${name}`),
-    beside: (name, sibling) => sibling.replace(/[^/]*$/, name),
+    resolveFrom: (name, sibling) => sibling.replace(/[^/]*$/, name),
     read: (name) => files[name] ?? null,
     readErrorMessage: (name) => `cannot read ${name}: there is no such file`,
     fileExists: (name) => name in files || name in sessions,
     isInside: (name) => !/outside/.test(name),
     open: async (name) => sessions[name] || Promise.reject(new Error(`${name} is in use`)),
-    make: async (name) => {
+    create: async (name) => {
       sessions[name] = new FakeFile(engine.begin());
       return sessions[name];
     },

@@ -124,8 +124,8 @@ test("a timeline keeps the stops of a long past, and limits its segments and for
   for (let piece = 0; piece < 100; piece++) run(5000000);
   assert.ok(timeline.segments.length <= 48);
   assert.deepEqual(timeline.lastStop(), { segment: 0, entry: 0, cycles: 0 });
-  assert.deepEqual(timeline.before(5000001), { segment: timeline.segments.length - 3, entry: 0, cycles: 4999999 });
-  assert.equal(timeline.before(400000000), null);
-  for (let move = 0; move < 100; move++) timeline.goBack(timeline.before(1), current);
+  assert.deepEqual(timeline.momentBefore(5000001), { segment: timeline.segments.length - 3, entry: 0, cycles: 4999999 });
+  assert.equal(timeline.momentBefore(400000000), null);
+  for (let move = 0; move < 100; move++) timeline.goBack(timeline.momentBefore(1), current);
   assert.equal(timeline.future.length, MAX_FORWARD_MOVES);
 });

@@ -83,7 +83,7 @@ test("long work reports its progress, and can be cancelled", async () => {
 test("a worker that does not react to a cancellation is ended", async () => {
   const { bench, worker } = await createStartedClient();
   let deathCount = 0;
-  bench.listener.died = () => { deathCount += 1; };
+  bench.listener.handleTermination = () => { deathCount += 1; };
   const controller = new AbortController();
   const reply = bench.call("serve", ["seq\n"], { signal: controller.signal });
   controller.abort();

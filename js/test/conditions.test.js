@@ -133,7 +133,7 @@ test("conditions in tests can use values that no trace shows", () => {
   const compileForTest = (text) => compileTestCondition(text, names);
   const { condition } = compileForTest("test 1");
   assert.deepEqual([condition.places, condition.needs], [[], ["test"]]);
-  const extraValues = { test: "1", owed: "1", keys: "", cycles: 538, seen: [], printed: [] };
+  const extraValues = { test: "1", owed: "1", keys: "", cycles: 538, lampForecast: [], printed: [] };
   const bothCondition = compileForTest("r9 = 3 and (test = 1 or cycles at most 5)").condition;
   assert.deepEqual([bothCondition.places, bothCondition.needs], [["r9"], ["cycles", "test"]]);
   const results = [bothCondition.holds(["3"], extraValues), bothCondition.holds(["3"], { ...extraValues, test: "0" }),

@@ -126,8 +126,8 @@ testOnBench("a buzzer keeps its line, is deleted with it, and follows renumbered
   assert.match(applyAction(text, { kind: "chips", chain: 1, chips: 1 }).refusal,
     /The buzzer is at chain1.12: give it another line first/);
   const atPort = text.replace("chain1.12", "rom0.3");
-  assert.match(applyAction(atPort, { kind: "port", line: "rom0.3", as: "i" }).refusal, /The buzzer is at rom0.3/);
-  checkAction("horn", atPort, { kind: "port", line: "rom0.2", as: "i" });
+  assert.match(applyAction(atPort, { kind: "port", line: "rom0.3", mode: "i" }).refusal, /The buzzer is at rom0.3/);
+  checkAction("horn", atPort, { kind: "port", line: "rom0.2", mode: "i" });
   const atRam = "# buzzer ram0.1.3: horn\n[[ram]]\nbank = 0\nchips = 2\n";
   assert.equal(firstLine(checkAction("horn", atRam, { kind: "delete", part: "ram 0.1" })), "[[ram]]");
 });
@@ -229,13 +229,13 @@ for (const { name, text } of BOARDS) {
     for (const { chip, port } of board.roms) {
       for (const line of [0, 1, 2, 3]) {
         const isUsed = [...inputLines(board).values()].includes(`rom${chip}.${line}`);
-        const action = { kind: "port", line: `rom${chip}.${line}`, as: port[3 - line] === "i" ? "1" : "i" };
+        const action = { kind: "port", line: `rom${chip}.${line}`, mode: port[3 - line] === "i" ? "1" : "i" };
         const { printer } = new Face(text);
         if (isUsed) {
           assert.match(applyAction(text, action).refusal, /is wired to/);
         } else if (printer && printerLines(printer).includes(action.line)) {
           assert.match(applyAction(text, action).refusal, /The printer is at/);
-        } else assert.equal(checkAction(name, text, action).board.roms.find((rom) => rom.chip === chip).port[3 - line], action.as);
+        } else assert.equal(checkAction(name, text, action).board.roms.find((rom) => rom.chip === chip).port[3 - line], action.mode);
       }
     }
     const parts = [...board.roms.map(({ chip }) => `rom ${chip}`), ...board.chains.map((_, index) => `chain ${index}`)];

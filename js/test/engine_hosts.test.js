@@ -60,8 +60,8 @@ function stateAfter(engine, lines) {
 
 testOnBothHosts("a new session has no commands, and queries do not change it", (engine) => {
   const state = engine.begin();
-  const { status, opened, answers } = engine.ask(state, "seq\nregs\nlamps\nseq\n");
-  assert.deepEqual([status, opened, answers[0], answers[3]], [0, "session 0", "seq 0", "seq 0"]);
+  const { status, openingAnswer, answers } = engine.ask(state, "seq\nregs\nlamps\nseq\n");
+  assert.deepEqual([status, openingAnswer, answers[0], answers[3]], [0, "session 0", "seq 0", "seq 0"]);
   assert.deepEqual(state, engine.begin());
   return answers;
 });
@@ -69,8 +69,8 @@ testOnBothHosts("a new session has no commands, and queries do not change it", (
 testOnBothHosts("commands produce a new state; the previous state is unchanged", (engine) => {
   const before = stateAfter(engine, BOARD + PROGRAM);
   const after = new Uint8Array(engine.size);
-  const { opened, answers } = engine.serve(before, "run 10\nlamps\n", after);
-  assert.equal(opened, "session 2");
+  const { openingAnswer, answers } = engine.serve(before, "run 10\nlamps\n", after);
+  assert.equal(openingAnswer, "session 2");
   assert.equal(answers[0], "ok 3 ran 10 end");
   assert.deepEqual(engine.ask(before, "seq\n").answers, ["seq 2"]);
   assert.deepEqual(engine.ask(after, "seq\n").answers, ["seq 3"]);

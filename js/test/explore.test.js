@@ -487,17 +487,17 @@ test("a search ends when its time is up, it is stopped, or its worker dies; erro
   const reports = [];
   const run = (explorer, { signal } = new AbortController()) => (
     explorer.explore({}, { seconds: 0.05, seed: 1 }, signal, (report) => reports.push(report)));
-  const endingAnswers = { explore: () => [], exploreOn: () => ({ isDone: reports.length === 2 }) };
+  const endingAnswers = { explore: () => [], continueSearch: () => ({ isDone: reports.length === 2 }) };
   const endEvents = [];
   assert.deepEqual(await run(createExplorer(endingAnswers, endEvents)), { errors: [], isStopped: false });
   assert.deepEqual([reports.length, endEvents], [3, ["ended"]]);
   assert.deepEqual(await run(createExplorer({ ...endingAnswers, explore: () => ["a fault"] })), { errors: ["a fault"], isStopped: false });
-  const dyingAnswers = { ...endingAnswers, exploreOn: () => Promise.reject(new WorkerDiedError()) };
+  const dyingAnswers = { ...endingAnswers, continueSearch: () => Promise.reject(new WorkerDiedError()) };
   assert.deepEqual(await run(createExplorer(dyingAnswers)), { errors: [], isStopped: true });
   const controller = new AbortController();
   controller.signal.addEventListener("abort", () => reports.push("stopped"));
   const stoppedExplorer =
-    createExplorer({ ...endingAnswers, exploreOn: () => (controller.abort(), Promise.reject(new WorkerDiedError())) }, endEvents);
+    createExplorer({ ...endingAnswers, continueSearch: () => (controller.abort(), Promise.reject(new WorkerDiedError())) }, endEvents);
   assert.deepEqual(await run(stoppedExplorer, controller), { errors: [], isStopped: true });
   assert.equal(endEvents.length, 3);
 });

@@ -3,7 +3,7 @@ import { readFileSync } from "node:fs";
 import { test } from "node:test";
 import { readBoard } from "../core/bench/answers.js";
 import { DisplayText } from "../core/board/display_text.js";
-import { Face, findFaceErrors, moreErrors } from "../core/board/face.js";
+import { Face, findFaceErrors, moreErrorsMessage } from "../core/board/face.js";
 import { missingParts } from "../core/board/face_board.js";
 
 /** Returns the contents of a sample file: the comments of a board (`NAME.face`), or the expected description of the front panel
@@ -61,7 +61,8 @@ test("parsing a front panel takes time proportional to the length of its text", 
 });
 
 test("only the first of many errors are reported", () => {
-  assert.deepEqual([moreErrors([1, 2], 2), moreErrors([1, 2], 1), moreErrors(new Array(1020), 20)], ["", "And 1 more.", "And 1,000 more."]);
+  const messages = [moreErrorsMessage([1, 2], 2), moreErrorsMessage([1, 2], 1), moreErrorsMessage(new Array(1020), 20)];
+  assert.deepEqual(messages, ["", "And 1 more.", "And 1,000 more."]);
 });
 
 /**

@@ -21,10 +21,10 @@ test("lines are served in a file, and `ask` leaves the file unchanged", async ()
   assert.equal(engine.size, 163856);
   const file = engine.begin();
   const bytesBefore = Buffer.from(file);
-  assert.deepEqual(engine.ask(file, "poke r5 9\nseq\n"), { status: 0, opened: "session 0", answers: ["ok 1", "seq 1"] });
+  assert.deepEqual(engine.ask(file, "poke r5 9\nseq\n"), { status: 0, openingAnswer: "session 0", answers: ["ok 1", "seq 1"] });
   assert.equal(Buffer.compare(bytesBefore, file), 0);
   assert.deepEqual(engine.serve(file, "poke r5 9\n", file).answers, ["ok 1"]);
-  assert.deepEqual(engine.ask(file, "seq\n"), { status: 0, opened: "session 1", answers: ["seq 1"] });
+  assert.deepEqual(engine.ask(file, "seq\n"), { status: 0, openingAnswer: "session 1", answers: ["seq 1"] });
 });
 
 test("the buffer for answers grows if necessary", async () => {

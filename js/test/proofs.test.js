@@ -264,7 +264,7 @@ test("cancelling ends the worker at once; a silent worker is not ended", async (
   assert.deepEqual(result, { errors: [], isStopped: true });
   const { bench } = prover;
   bench.worker = createFakeWorker(engine);
-  bench.pendingRequests.set(1, { done: () => {}, fail: () => {}, progress: () => {} });
+  bench.pendingRequests.set(1, { resolve: () => {}, reject: () => {}, progress: () => {} });
   for (let round = 0; round < 50; round++) bench.pingWorker();
   assert.notEqual(bench.worker, null);
 });

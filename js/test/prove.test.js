@@ -120,7 +120,7 @@ test("comparisons have the same meaning as their condition", () => {
       for (const state of states) {
         const values = condition.places.map((place) => engine.ask(state, `trace 1 ${place}\n`).answers[0].split(" ").slice(6).join(" "));
         const owed = engine.ask(state, "regs\n").answers[0].split(" ")[7];
-        const holds = condition.holds(values, { test: "", owed, keys: "", cycles: 0, seen: [], printed: [] });
+        const holds = condition.holds(values, { test: "", owed, keys: "", cycles: 0, lampForecast: [], printed: [] });
         const isBroken = lists.some((comparisons) => comparisons.every((comparison) => isMet(state, comparison)));
         assert.equal(isBroken, holds === expected, `${text}, ${expected}: ${JSON.stringify(lists)} ${values}`);
       }

@@ -71,8 +71,8 @@ test("if a piece of long work fails or is cancelled, nothing is changed", async 
 test("the effects of lines are reported", async () => {
   const { session } = startWorkerSession();
   const of = async (lines) => {
-    const { hasChangedRom, wires } = await session.serve(lines, shouldContinue);
-    return [hasChangedRom, wires];
+    const { hasChangedRom, hasChangedBoard } = await session.serve(lines, shouldContinue);
+    return [hasChangedRom, hasChangedBoard];
   };
   assert.deepEqual(await of("step\nseq\n"), [false, false]);
   assert.deepEqual(await of("poke r5 9\n"), [true, false]);

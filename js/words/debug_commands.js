@@ -1,4 +1,4 @@
-// The help texts of the commands of `mcs4 debug`: each command's form, effect, and details. No text depends on another text.
+// The help texts of the commands of `mcs4 debug`: each command's form, effect, and details. Each text makes sense on its own.
 
 /**
  * The help of a command: its name and abbreviations, its form, its effect, and details ("" if there are none).

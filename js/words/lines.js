@@ -3,7 +3,7 @@
 import { didYouMean } from "./text.js";
 
 /**
- * The session lines in groups, each with its form and its effect. No text depends on another text.
+ * The session lines in groups, each with its form and its effect. Each text makes sense on its own.
  * @type {{ title: string, lines: [string, string][] }[]}
  */
 export const LINES_BY_GROUPS = [

@@ -1,5 +1,5 @@
 // A connection of the debug adapter protocol (DAP). It receives requests, and sends responses and events. The first request must be
-// `initialize`. The connection handles requests one after another, in the order of arrival. It handles only `cancel` at once.
+// `initialize`. The connection handles requests one after another, in the order of arrival. Only `cancel` is handled at once.
 
 import { CancelledError } from "../bench/bench_errors.js";
 import { getField } from "../server/framing.js";

@@ -336,13 +336,14 @@ export class ClientBreakpoints {
     const answers = exceptionFilters.map(({ kind, condition: text }) => {
       if (!Object.prototype.hasOwnProperty.call(KINDS, kind)) return { verified: false, message: say.noFilterMessage(kind) };
       const mistake = /** @type {MistakeKind} */ (kind);
-      const isAlways = text.trim() === "";
-      const { condition, error, column } = isAlways ? { condition: null, error: "", column: -1 } : compileCondition(text, session.names);
+      const isUnconditional = text.trim() === "";
+      const { condition, error, column } = isUnconditional ? { condition: null, error: "", column: -1 }
+        : compileCondition(text, session.names);
       commonMistakes.stoppingKinds.add(mistake);
       if (condition) commonMistakes.conditions.set(mistake, condition);
       return error ? { verified: false, message: stopsEachTime(errorInColumn(error, column)) } : { verified: true };
     });
-    // The debugger checks every instruction only in pieces of at most MAX_CYCLES_PER_CALL cycles.
+    // The debugger checks every instruction for mistakes only if a piece has at most MAX_CYCLES_PER_CALL cycles.
     if (session.maxPieceCycles >= MAX_CYCLES_PER_CALL) {
       session.maxPieceCycles = commonMistakes.stoppingKinds.size > 0 ? MAX_CYCLES_PER_CALL : MAX_PIECE_CYCLES;
     }

@@ -48,8 +48,8 @@ export class Console {
    * @param {Machine} machine
    * @param {ExpressionContext} context
    * @param {ErrorMessages} errorMessages the messages for the error numbers of the bench
-   * @param {{ breaksChanged: () => void, romChanged: () => void }} callbacks callbacks after a line has changed breakpoints or watches, and
-   *   after a line has changed ROM
+   * @param {{ handleBreakpointChange: () => void, handleRomChange: () => void }} callbacks called after a line has changed
+   *   breakpoints or watches, and after a line has changed ROM
    */
   constructor(machine, context, errorMessages, callbacks) {
     this.callbacks = callbacks;
@@ -160,21 +160,21 @@ export class Console {
     if (this.machine.isMoving) fail(say.MACHINE_IS_RUNNING);
     const target = operands.join(" ");
     /** @type {(act: () => void) => LineResult} */
-    const move = (act) => ({ text: "", changes: false, move: act });
-    if (word === "forward") return move(() => this.machine.goForward());
-    if (word === "back" && target === "") return move(() => this.machine.goBack({ kind: "instruction" }));
+    const moveResult = (act) => ({ text: "", changes: false, move: act });
+    if (word === "forward") return moveResult(() => this.machine.goForward());
+    if (word === "back" && target === "") return moveResult(() => this.machine.goBack({ kind: "instruction" }));
     if (word === "back") {
       const goal = this.readGoal(target);
-      return move(() => this.machine.goBack(goal));
+      return moveResult(() => this.machine.goBack(goal));
     }
     if (target === "") fail(say.placeSyntax(word === "until" ? say.UNTIL_SYNTAX : say.CHANGE_SYNTAX));
-    if (word === "change") return move(() => this.machine.runToGoal({ kind: "change", place: target }));
+    if (word === "change") return moveResult(() => this.machine.runToGoal({ kind: "change", place: target }));
     if (/[\s=<>!]/.test(target)) {
       const goal = this.readGoal(target);
-      return move(() => this.machine.runToGoal(goal));
+      return moveResult(() => this.machine.runToGoal(goal));
     }
     const address = findAddress(target, this.context);
-    return move(() => this.machine.runToGoal({ kind: "here", address }));
+    return moveResult(() => this.machine.runToGoal({ kind: "here", address }));
   }
 
   /**
@@ -203,7 +203,7 @@ export class Console {
     if (this.machine.isMoving && kinds.some((kind) => RUN_WORDS.has(kind))) fail(say.MACHINE_IS_RUNNING);
     if (kinds.every(isQuery)) return textResult(this.session.debugger.session.ask(lines).join("\n"));
     const result = await this.runBenchLines(lines, shouldContinue);
-    if (kinds.some((kind) => BREAKPOINT_WORDS.has(kind))) this.callbacks.breaksChanged();
+    if (kinds.some((kind) => BREAKPOINT_WORDS.has(kind))) this.callbacks.handleBreakpointChange();
     return result;
   }
 
@@ -215,7 +215,7 @@ export class Console {
    */
   async runBenchLines(lines, shouldContinue) {
     const { entries, hasChangedRom, tally, message: stopMessage } = await this.session.serve(lines, shouldContinue);
-    if (hasChangedRom) this.callbacks.romChanged();
+    if (hasChangedRom) this.callbacks.handleRomChange();
     const answers = entries.flatMap((entry) => entry.answers);
     const texts = answers.map((answer) => {
       const refusal = parseRefusal(answer);

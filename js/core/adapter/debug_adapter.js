@@ -91,8 +91,9 @@ export class DebugAdapter {
     /** The client's number of the first line and of the first column: 0 or 1. */
     this.firstLine = 1;
     this.firstColumn = 1;
-    /** True if the client supports the event `invalidated` or `memory`. */
+    /** True if the client supports the event `invalidated`. */
     this.supportsInvalidatedEvent = false;
+    /** True if the client supports the event `memory`. */
     this.supportsMemoryEvent = false;
     this.progress = new Progress((event, body) => connection.sendEvent(event, body));
     this.moves = new MoveHandlers(this);
@@ -178,10 +179,10 @@ export class DebugAdapter {
     const { session } = launchResult;
     /** @type {Machine} */
     const machine = new Machine(session, launchResult.writer, {
-      stopped: (moveEnd) => this.sendStopped(moveEnd),
+      handleStop: (moveEnd) => this.sendStopped(moveEnd),
       output: (text, category) => this.sendOutput(text, category),
       pause: this.host.pause,
-      stateChanged: () => this.sendFrontPanel(),
+      handleStateChange: () => this.sendFrontPanel(),
       startTask: (title) => this.progress.createTask(title, () => machine.pause()),
     }, launchResult.isRealTime);
     const breakpoints = new ClientBreakpoints(session);
@@ -190,7 +191,7 @@ export class DebugAdapter {
     const frontPanelText = () => machine.frontPanelText.currentText();
     const expressionContext = { session, face, instructions: this.instructions, frontPanelText };
     const debugConsole = new Console(machine, expressionContext, this.errorMessages, {
-      breaksChanged: () => breakpoints.updateOtherBreakpoints(), romChanged: () => this.reportRom(launchResult),
+      handleBreakpointChange: () => breakpoints.updateOtherBreakpoints(), handleRomChange: () => this.reportRom(launchResult),
     });
     const queryHandlers = new QueryHandlers(launchResult, new Scopes(session, face), expressionContext, this);
     this.openSession = { launchResult, machine, breakpoints, console: debugConsole, queryHandlers };
@@ -309,8 +310,8 @@ export class DebugAdapter {
 
   /** @param {import("./client_breakpoints.js").SentBreakpoint} breakpoint */
   toProtocolBreakpoint({ address, line, ...breakpoint }) {
-    const inSource = line === undefined ? {} : { line: line - 1 + this.firstLine, source: this.current.queryHandlers.source };
-    return { ...breakpoint, ...inSource, ...(address >= 0 ? { instructionReference: formatReference(address) } : {}) };
+    const sourceFields = line === undefined ? {} : { line: line - 1 + this.firstLine, source: this.current.queryHandlers.source };
+    return { ...breakpoint, ...sourceFields, ...(address >= 0 ? { instructionReference: formatReference(address) } : {}) };
   }
 
   /** @param {import("./client_breakpoints.js").SentBreakpoint} breakpoint */

@@ -25,11 +25,11 @@ import { stoppedAt } from "../../words/stops.js";
 /**
  * The callbacks of a machine.
  * @typedef {object} MachineCallbacks
- * @property {(moveEnd: MoveEnd) => void} stopped Reports the end of a move, once for each move.
+ * @property {(moveEnd: MoveEnd) => void} handleStop Reports the end of a move, once for each move.
  * @property {(text: string, category: "console" | "stdout" | "stderr") => void} output Prints a text, which ends with a line feed, under
  *   an output category of the protocol.
  * @property {() => Promise<void>} pause Yields to other tasks, between two pieces of a move.
- * @property {() => void} stateChanged Reports that the machine state has changed, so that views can update.
+ * @property {() => void} handleStateChange Reports that the machine state has changed, so that views can update.
  * @property {(title: string) => LongTask} [startTask] Creates the progress report of a move.
  */
 
@@ -175,7 +175,7 @@ export class Machine {
     } while (this.waitingTasks.length > 0);
     if (this.task) this.task.end();
     this.isMoving = false;
-    this.callbacks.stopped(moveEnd);
+    this.callbacks.handleStop(moveEnd);
   }
 
   /** Reports the lamps and displays, and saves the session. */
@@ -216,7 +216,7 @@ export class Machine {
    * @param {number} cycles the number of cycles since the start of the move
    */
   async waitForRealTime(cycles) {
-    this.callbacks.stateChanged();
+    this.callbacks.handleStateChange();
     const remainingTime = cycles * CYCLE_MS - (performance.now() - this.startTime);
     if (remainingTime > 0) await new Promise((resolve) => { setTimeout(resolve, remainingTime); });
   }
@@ -257,7 +257,7 @@ export class Machine {
     this.lastReportTime = performance.now();
     const text = this.frontPanelText.take();
     if (text) this.callbacks.output(`${text}\n`, "stdout");
-    this.callbacks.stateChanged();
+    this.callbacks.handleStateChange();
   }
 
   /**

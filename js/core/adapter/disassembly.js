@@ -1,4 +1,4 @@
-// Reads ROM for the requests `disassemble` and `readMemory`: the instructions near an address, and all bytes.
+// Reads ROM for the requests `disassemble` and `readMemory`: the instructions near an address, and the bytes at all addresses.
 
 import { readListing } from "../bench/answers.js";
 import { LAST_ADDRESS, indices } from "../bench/numbers.js";

@@ -100,8 +100,8 @@ export function evaluateExpression(text, context, base = "usual") {
 }
 
 /**
- * Returns the hover text for a word or expression: the current value, or the effect of an instruction without a value. Throws AdapterError
- * if the text is neither an instruction nor a valid expression.
+ * Returns the hover text for a word or expression: the current value, or the effect of an instruction that has no value. Throws
+ * AdapterError if the text is neither an instruction nor a valid expression.
  * @param {string} text the word or expression under the pointer
  * @param {ExpressionContext} context
  */

@@ -26,9 +26,9 @@ export class FrontPanelText {
   }
 
   /**
-   * Returns `display` with the display text and the names of the other lamps that are on. For a multiplexed display, the text contains the
-   * digits that a person perceives. Without a display, returns `lamps` with the marks of all lamps and the names of the lamps that are on.
-   * Returns "" for a board without lamps.
+   * Returns the word `display`, the display text, and the names of the other lamps that are on. For a multiplexed display, the text
+   * contains the digits that a person perceives. Without a display, returns the word `lamps`, the marks of all lamps, and the names of the
+   * lamps that are on. Returns "" for a board without lamps.
    */
   currentText() {
     const { marks } = this;
@@ -47,8 +47,8 @@ export class FrontPanelText {
   }
 
   /**
-   * Returns the current text if it has changed since the previous call; otherwise "". The first call compares it with the text at the time
-   * of the constructor.
+   * Returns the current text if it has changed since the previous call; otherwise "". The first call compares with the text at
+   * construction.
    */
   take() {
     const currentText = this.currentText();

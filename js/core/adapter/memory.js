@@ -129,8 +129,8 @@ export async function writeMemory(args, session, addressOf) {
   const { range: { bytes, place }, from } = readRequestedLocation(args, session, addressOf);
   const newBytes = decodeBase64(needText(args, "data"));
   const [first, end] = [Math.max(0, from), Math.min(bytes.length, from + newBytes.length)];
-  const isWhole = first === from && end === from + newBytes.length;
-  if (!isWhole && !optionalFlag(args, "allowPartial", false)) fail(say.OUTSIDE_OF_MEMORY);
+  const isInRange = first === from && end === from + newBytes.length;
+  if (!isInRange && !optionalFlag(args, "allowPartial", false)) fail(say.OUTSIDE_OF_MEMORY);
   const dataInRange = end > first ? newBytes.subarray(first - from, end - from) : new Uint8Array(0);
   const lines = [...dataInRange].map((byte, index) => `poke ${place(first + index)} ${byte}\n`).join("");
   const workerSession = session.debugger.session;

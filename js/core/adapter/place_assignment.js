@@ -32,7 +32,7 @@ export function evaluateNumber(text, session, startColumn = 0) {
 /**
  * Returns the bench lines that set a place to the value of an expression. Throws AdapterError if the expression has an error, or if the
  * place cannot have this value.
- * @param {string} place a place from `settablePlace`, or a key in the form `key 0 2`
+ * @param {string} place a place from `findSettablePlace`, or a key in the form `key 0 2`
  * @param {string} text the value as an expression
  * @param {DebugSession} session
  * @param {number} [startColumn] the column in the typed line at which the text starts
@@ -82,7 +82,7 @@ export function findSettablePlace(text, face) {
 /**
  * Sets a place to the value of an expression. Throws AdapterError if the expression has an error, or if the bench rejects the value.
  * @param {DebugSession} session
- * @param {string} place a place from `settablePlace`, or a key in the form `key 0 2`
+ * @param {string} place a place from `findSettablePlace`, or a key in the form `key 0 2`
  * @param {string} text the value as an expression
  */
 export async function setPlace(session, place, text) {

@@ -268,8 +268,8 @@ export class QueryHandlers {
  */
 function formatFrameName(name, isHex) {
   if (isHex === null) return name;
-  const [, label, more] = /^(.* \+ )(\d+)$/.exec(name) || [];
-  if (label) return label + formatInBase(Number(more), isHex ? "hex" : "decimal");
+  const [, label, offset] = /^(.* \+ )(\d+)$/.exec(name) || [];
+  if (label) return label + formatInBase(Number(offset), isHex ? "hex" : "decimal");
   return /^[0-9A-F]{3}$/.test(name) ? convertToBase(`0x${name}`, isHex ? "hex" : "decimal") : name;
 }
 

@@ -43,14 +43,14 @@ import { leadsOut } from "../../words/server.js";
  * The functions of the host.
  * @typedef {object} Host
  * @property {(name: string, folder: string) => string} nameOf Returns the absolute name of a file from its name relative to `folder`.
- * @property {(name: string, other: string) => string} beside Returns the absolute name of a file from its name relative to the folder that
- *   contains the file `other`.
+ * @property {(name: string, other: string) => string} resolveFrom Returns the absolute name of a file from its name relative to the
+ *   folder that contains the file `other`.
  * @property {(name: string) => string | null} read Returns the text of a file; null if the file cannot be read.
  * @property {(name: string) => string} readErrorMessage Returns the reason why a file cannot be read, as a message.
  * @property {(name: string) => boolean} fileExists Returns whether a file exists.
  * @property {(name: string, folder: string) => boolean} isInside Returns whether a file is in a folder, after symbolic links are resolved.
  * @property {(name: string) => Promise<OpenFile>} open Starts a program that opens a session file. Resolves to the open file.
- * @property {(name: string) => Promise<OpenFile>} make Starts a program that creates a session file. Resolves to the open file.
+ * @property {(name: string) => Promise<OpenFile>} create Starts a program that creates a session file. Resolves to the open file.
  * @property {(name: string) => Promise<Uint8Array>} readSession Resolves to the bytes of a session file that no other program has open.
  * @property {() => Promise<void>} pause Yields to other tasks.
  */
@@ -100,8 +100,9 @@ function findProjectFiles(name, host) {
   const { names, errors: [error] } = readProjectToml(text);
   if (!names) throw new AdapterError(`${file}, line ${error.line}: ${error.words}`, true);
   const [board, program] = [names.board, names.program].map(({ path, key, line }) => {
-    const fullName = host.beside(path, file);
-    if (!host.isInside(fullName, host.beside(".", file))) throw new AdapterError(`${file}, line ${line}: ${key}: ${leadsOut(path)}`, true);
+    const fullName = host.resolveFrom(path, file);
+    const folder = host.resolveFrom(".", file);
+    if (!host.isInside(fullName, folder)) throw new AdapterError(`${file}, line ${line}: ${key}: ${leadsOut(path)}`, true);
     return fullName;
   });
   return { board, program };
@@ -198,7 +199,7 @@ async function sessionFromFile(engine, requestedFiles, host, messages) {
   }
   // A session in memory reports the errors in the texts before the file is created.
   if (isNew) sessionFromTexts(engine, requestedFiles, host, messages);
-  const file = await (isNew ? host.make(requestedFiles.session) : host.open(requestedFiles.session));
+  const file = await (isNew ? host.create(requestedFiles.session) : host.open(requestedFiles.session));
   try {
     const session = new DebugSession(engine, { file: file.bytes, board, program: program || disassembleRom(engine, file.bytes) });
     const writer = new SessionWriter(file, session.debugger.session);
@@ -304,10 +305,10 @@ export async function launch(engine, args, host, messages) {
  */
 export async function attach(engine, args, host, messages) {
   if (optionalText(args, "session") === "") throw new AdapterError(say.ATTACH_NEEDS, true);
-  const isWritten = optionalFlag(args, "write", false);
+  const savesToFile = optionalFlag(args, "write", false);
   const requestedFiles = readRequestedFiles(args, host);
   if (!host.fileExists(requestedFiles.session)) throw new AdapterError(say.noSessionMessage(requestedFiles.session), true);
-  const loadSession = isWritten ? sessionFromFile : sessionFromCopy;
+  const loadSession = savesToFile ? sessionFromFile : sessionFromCopy;
   const openedSession = await loadSession(engine, requestedFiles, host, messages);
   return { ...createLaunchResult(openedSession, requestedFiles, args, host), isAttached: true };
 }

@@ -64,11 +64,12 @@ export async function createTestSession(engine, texts, { name, file }, pause) {
   const { errors: [error], outcomes } = await runTests(engine, texts, shouldContinue, options);
   if (error) throw new AdapterError(say.testsHaveError(error.file || error.text, error.line, error.words || ""), true);
   const outcome = outcomes.pop();
-  const run = sessions.pop();
+  const testSession = sessions.pop();
   if (!outcome) throw new AdapterError(say.noSuchTestMessage(name, file), true);
-  if (!run || (outcome.failure && !outcome.failure.file)) throw new AdapterError(failureLine(outcome).trim(), true);
-  const session = new DebugSession(engine, { file: engine.bytesOf(run.initialFile), board: texts.boardText, program: texts.programText });
-  const lines = replayLines(run);
+  if (!testSession || (outcome.failure && !outcome.failure.file)) throw new AdapterError(failureLine(outcome).trim(), true);
+  const contents = { file: engine.bytesOf(testSession.initialFile), board: texts.boardText, program: texts.programText };
+  const session = new DebugSession(engine, contents);
+  const lines = replayLines(testSession);
   if (lines !== "") await session.debugger.session.serve(lines, async () => true);
   return { session, result: outcome.failure ? failureLine(outcome).trim().slice(2) : say.testHasPassed(name) };
 }

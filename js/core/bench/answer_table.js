@@ -5,9 +5,9 @@ import table from "#answer-table";
 
 /**
  * The format of the answer to an input line. `opensText`: true if a text follows the input line. `isQuery`: true if the line does not
- * change the session. `first`: the pattern of the first answer line. `further`: the pattern of the other answer lines, null if there are
- * none. `count`: the number of these other lines, in the notation of the table.
- * @typedef {{ opensText: boolean, isQuery: boolean, first: RegExp, further: RegExp | null, count: string }} AnswerFormat
+ * change the session. `first`: the pattern of the first answer line. `continuation`: the pattern of the other answer lines, null if there
+ * are none. `count`: the number of these other lines, in the notation of the table.
+ * @typedef {{ opensText: boolean, isQuery: boolean, first: RegExp, continuation: RegExp | null, count: string }} AnswerFormat
  */
 
 /** The number of columns in a row of the table. */
@@ -22,9 +22,9 @@ const COMMAND_ANSWER = "^ok ";
  */
 export function parseAnswerTable(text) {
   const rows = text.split("\n").filter((line) => !line.startsWith("#")).map((line) => line.split("\t"));
-  return new Map(rows.filter((row) => row.length === COLUMN_COUNT).map(([word, opens, first, further, count]) => [word, {
+  return new Map(rows.filter((row) => row.length === COLUMN_COUNT).map(([word, opens, first, continuation, count]) => [word, {
     opensText: opens === "text", isQuery: !first.startsWith(COMMAND_ANSWER), first: new RegExp(first),
-    further: further === "-" ? null : new RegExp(further), count,
+    continuation: continuation === "-" ? null : new RegExp(continuation), count,
   }]));
 }
 
@@ -41,7 +41,7 @@ export function isQuery(word) {
 }
 
 /** The pattern of a listing line, a line in the answer to `list`. */
-const LISTING_LINE = /** @type {RegExp} */ (/** @type {AnswerFormat} */ (ANSWER_FORMATS.get("list")).further);
+const LISTING_LINE = /** @type {RegExp} */ (/** @type {AnswerFormat} */ (ANSWER_FORMATS.get("list")).continuation);
 
 /**
  * Returns whether an answer is a listing line.

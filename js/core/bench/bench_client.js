@@ -12,7 +12,8 @@ import { WorkerDiedError, unpackError } from "./bench_errors.js";
  * @typedef {import("./protocol.js").CallName} CallName
  *
  * The callbacks of a request that has no reply yet: for its result, its error, and its progress.
- * @typedef {{ done: (result: any) => void, fail: (error: Error) => void, progress: (done: number, total: number) => void }} PendingRequest
+ * @typedef {{ resolve: (result: any) => void, reject: (error: Error) => void,
+ *   progress: (done: number, total: number) => void }} PendingRequest
  *
  * Options of a request: a signal that cancels the request, and a callback for its progress.
  * @typedef {{ signal?: AbortSignal, progress?: (done: number, total: number) => void }} CallOptions
@@ -23,11 +24,11 @@ import { WorkerDiedError, unpackError } from "./bench_errors.js";
  *
  * Callbacks for messages without a request: a frame of a run at full speed, an error that stopped the run, and the termination of a worker
  * that stopped answering.
- * @typedef {{ frame: (frame: Frame) => void, failed: (error: Error) => void, died: () => void }} Listener
+ * @typedef {{ handleFrame: (frame: Frame) => void, handleFailure: (error: Error) => void, handleTermination: () => void }} Listener
  */
 
 /**
- * A client that can send the requests in `Part`, a subset of `Requests`: those that one module uses.
+ * A client that can send the requests in `Part`, which is the subset of `Requests` that one module uses.
  * @template Part
  * @typedef {{ call<Name extends CallName & keyof Part>(name: Name, parameters: Parameters<Requests[Name]>, options?: CallOptions):
  *   Promise<Awaited<ReturnType<Requests[Name]>>> }} Caller
@@ -50,7 +51,7 @@ export class Bench {
     this.module = module;
     this.examples = examples;
     /** @type {Listener} */
-    this.listener = { frame: () => {}, failed: () => {}, died: () => {} };
+    this.listener = { handleFrame: () => {}, handleFailure: () => {}, handleTermination: () => {} };
     /** @type {Map<number, PendingRequest>} */
     this.pendingRequests = new Map();
     /** @type {WorkerLike | null} */
@@ -94,12 +95,12 @@ export class Bench {
     this.lastRequestNumber += 1;
     const { lastRequestNumber: number } = this;
     if (signal) signal.addEventListener("abort", () => this.cancel(number));
-    return new Promise((done, fail) => {
+    return new Promise((resolve, reject) => {
       if (!this.worker) {
-        fail(new WorkerDiedError());
+        reject(new WorkerDiedError());
         return;
       }
-      this.pendingRequests.set(number, { done, fail, progress });
+      this.pendingRequests.set(number, { resolve, reject, progress });
       const spareBuffers = this.spareBuffers.splice(0);
       this.send({ kind: "request", number, call: name, parameters, spare: spareBuffers }, spareBuffers);
     });
@@ -121,8 +122,8 @@ export class Bench {
   /** @param {ToPage} message */
   handleMessage(message) {
     this.unansweredPings = 0;
-    if (message.kind === "frame") this.listener.frame(message.frame);
-    if (message.kind === "failed") this.listener.failed(unpackError(message.error));
+    if (message.kind === "frame") this.listener.handleFrame(message.frame);
+    if (message.kind === "failed") this.listener.handleFailure(unpackError(message.error));
     if (message.kind !== "reply" && message.kind !== "early" && message.kind !== "progress") return;
     const request = this.pendingRequests.get(message.number);
     if (!request) return;
@@ -133,8 +134,8 @@ export class Bench {
     // Ignore an early result while older requests wait for their replies. The request then waits for its regular reply.
     if (message.kind === "early" && message.number !== this.oldestRequest) return;
     this.pendingRequests.delete(message.number);
-    if (message.kind === "reply" && message.error) request.fail(unpackError(message.error));
-    else request.done(message.result);
+    if (message.kind === "reply" && message.error) request.reject(unpackError(message.error));
+    else request.resolve(message.result);
   }
 
   /**
@@ -171,11 +172,11 @@ export class Bench {
     else this.send({ kind: "ping" });
   }
 
-  /** Terminates a worker that does not answer or has failed, rejects its requests, and calls the listener's `died`. */
+  /** Terminates a worker that does not answer or has failed, rejects its requests, and calls the listener's `handleTermination`. */
   terminateSilentWorker() {
     if (!this.worker) return;
     this.end();
-    this.listener.died();
+    this.listener.handleTermination();
   }
 
   /** Terminates the worker and rejects its requests. */
@@ -187,6 +188,6 @@ export class Bench {
     this.unansweredPings = 0;
     const pending = [...this.pendingRequests.values()];
     this.pendingRequests.clear();
-    for (const { fail } of pending) fail(new WorkerDiedError());
+    for (const { reject } of pending) reject(new WorkerDiedError());
   }
 }

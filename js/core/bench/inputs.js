@@ -143,10 +143,10 @@ export function maxAnswerLines(input, first, count) {
  */
 export function answerLength(input, answers, from) {
   const format = ANSWER_FORMATS.get(input.kind);
-  if (!format || !format.further || !format.first.test(answers[from])) return 1;
+  if (!format || !format.continuation || !format.first.test(answers[from])) return 1;
   const max = maxAnswerLines(input, answers[from], format.count);
   let index = from + 1;
-  while (index < answers.length && index - from < max && format.further.test(answers[index])) {
+  while (index < answers.length && index - from < max && format.continuation.test(answers[index])) {
     if (format.count === "list" && !continuesListing(answers[index - 1], answers[index])) break;
     index++;
   }

@@ -55,8 +55,8 @@ export class ImageBytes {
 export function readBytes(file, from = 0) {
   if (file.length === 0) throw new ImageError(say.NO_BYTE);
   if (from + file.length > ADDRESS_COUNT) {
-    const [size, room] = [file.length, ADDRESS_COUNT - from].map((count) => count.toLocaleString("en"));
-    throw new ImageError(from === 0 ? say.tooManyBytesMessage(size, room) : say.tooManyFromMessage(size, room, hex(from, 3)));
+    const [size, maxSize] = [file.length, ADDRESS_COUNT - from].map((count) => count.toLocaleString("en"));
+    throw new ImageError(from === 0 ? say.tooManyBytesMessage(size, maxSize) : say.tooManyFromMessage(size, maxSize, hex(from, 3)));
   }
   const image = new ImageBytes(from);
   image.put(0, file);

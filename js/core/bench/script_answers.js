@@ -38,7 +38,7 @@ function canBeginAnswer({ kind, line }, answer) {
  */
 function completeLength(input, answers, from) {
   const format = ANSWER_FORMATS.get(input.kind);
-  if (!format || !format.further || parseRefusal(answers[from])) return 1;
+  if (!format || !format.continuation || parseRefusal(answers[from])) return 1;
   return format.count === "all" || format.count === "list" ? answerLength(input, answers, from)
     : maxAnswerLines(input, answers[from], format.count);
 }
@@ -52,9 +52,9 @@ function completeLength(input, answers, from) {
  */
 function findInvalidLine(input, answers, from, end) {
   const format = ANSWER_FORMATS.get(input.kind);
-  const furtherPattern = format && format.further;
+  const continuationPattern = format && format.continuation;
   for (let index = from + 1; index < Math.min(end, answers.length); index++) {
-    if (!furtherPattern || !furtherPattern.test(answers[index])) return index;
+    if (!continuationPattern || !continuationPattern.test(answers[index])) return index;
   }
   return -1;
 }

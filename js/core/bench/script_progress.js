@@ -49,7 +49,8 @@ export function findDifferingLines(actual, expected) {
   }
   const minLength = Math.min(actual.length, expected.length);
   const prefix = indices(minLength).find(differs) ?? minLength;
-  const differsAtEnd = (/** @type {number} */ back) => actual[actual.length - 1 - back] !== expected[expected.length - 1 - back];
+  const differsAtEnd = (/** @type {number} */ distance) => (
+    actual[actual.length - 1 - distance] !== expected[expected.length - 1 - distance]);
   const suffix = indices(minLength - prefix).find(differsAtEnd) ?? minLength - prefix;
   const actualLines = actual.slice(prefix, actual.length - suffix).map((line) => `< ${line}`);
   return [...actualLines, ...expected.slice(prefix, expected.length - suffix).map((line) => `> ${line}`)].slice(0, MAX_DIFFERING_LINES);
@@ -99,8 +100,8 @@ async function serveScript(engine, lines, yieldToMessages) {
  * @returns {Promise<ScriptComparison>}
  */
 export async function compareWithScript(engine, state, script, yieldToMessages) {
-  const { opened, answers: actualAnswers } = engine.ask(state, COMPARED_QUERIES);
-  const commandCount = Number(opened.slice("session ".length));
+  const { openingAnswer, answers: actualAnswers } = engine.ask(state, COMPARED_QUERIES);
+  const commandCount = Number(openingAnswer.slice("session ".length));
   const fullRun = await serveScript(engine, script, yieldToMessages);
   const { inputs, message } = matchScriptAnswers(script, ["session 0", ...fullRun.answers]);
   if (message !== "") return { lineCount: 0, message, differingLines: [] };

@@ -72,8 +72,8 @@ export function parsePorts(part) {
   return {
     srcBytes: [srcByte, ...parseItems(banks)],
     roms: parseItems(roms).map((rom) => {
-      const [chip, out, reads] = rom.split(".");
-      return { chip, out, in: reads };
+      const [chip, out, inputLevels] = rom.split(".");
+      return { chip, out, in: inputLevels };
     }),
     chains: parseItems(chains),
     keys: parseItems(keys),

@@ -355,7 +355,7 @@ export function findFaceErrors(text) {
  * @param {unknown[]} errors
  * @param {number} maxListed the maximum number of listed errors
  */
-export function moreErrors(errors, maxListed) {
+export function moreErrorsMessage(errors, maxListed) {
   return errors.length > maxListed ? say.andMore((errors.length - maxListed).toLocaleString("en")) : "";
 }
 

@@ -1,10 +1,10 @@
-// Finds the board text from which the bench has wired its current board. The comments in that text define the front panel, even if the
-// text in the editor has changed since. The page stores the text with the session, because the bench does not store it.
+// Finds the text of the board that the bench currently has. The comments in that text define the front panel, even if the text in the
+// editor has changed since. The page stores the text with the session, because the bench does not store it.
 
 import { BoardDraft } from "../drawing/board_draft.js";
 import { sentText } from "../text/sendable_text.js";
 
-/** @typedef {{ text: string, board: string }} WiredText a board text, and the bench's answer to `board` after it wired the text */
+/** @typedef {{ text: string, board: string }} WiredText a board text, and the bench's answer to `board` after `wire` with this text */
 
 /** The maximum number of stored texts. Earlier texts are stored because a move back in time can return to an earlier board. */
 const MAX_TEXTS = 4;
@@ -19,7 +19,7 @@ export function describesBoard(text, wiredText) {
 }
 
 /**
- * Returns the text of the board in the bench, with the board. The text is "" if it is unknown.
+ * Returns the bench's current board: its text ("" if unknown), and the answer to `board`.
  * @param {string[]} answers the answer to `board`
  * @param {string} text the text in the editor
  * @param {WiredText[] | undefined} storedTexts the texts that the session stores; if undefined, the text in the editor is the result

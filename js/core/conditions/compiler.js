@@ -126,8 +126,8 @@ function compilePlaceValues({ place, values, text, column }, names, dependencies
  * @param {Names} names
  * @param {Dependencies} dependencies
  */
-function compileKeyword({ words: [head, ...following] }, names, dependencies) {
-  const words = following.map(({ text }) => text);
+function compileKeyword({ words: [head, ...operands] }, names, dependencies) {
+  const words = operands.map(({ text }) => text);
   const compile = COMPILERS[head.text];
   return compile ? compile(words, names, dependencies) : compileChain(head.text, words, names, dependencies);
 }

@@ -32,9 +32,9 @@ import * as say from "../../words/conditions.js";
  * @typedef {{ face: Face, board: Board, map: Pick<SourceMap, "names" | "nameOf"> | null, watched?: Map<string, string> }} Names
  *
  * Values that `trace` does not report. `test`, `owed` (1 if a second cycle is pending) and `keys` are texts from the answer to `state`.
- * `cycles` is the number of cycles since the last mark in a test. `seen` is the answer to LAMPS_FORECAST_QUERY, for the perceived lamps.
- * `printed` are the words on the printout.
- * @typedef {{ test: string, owed: string, keys: string, cycles: number, seen: string[], printed: string[] }} ExtraValues
+ * `cycles` is the number of cycles since the last mark in a test. `lampForecast` is the answer to LAMPS_FORECAST_QUERY, for the perceived
+ * lamps. `printed` are the words on the printout.
+ * @typedef {{ test: string, owed: string, keys: string, cycles: number, lampForecast: string[], printed: string[] }} ExtraValues
  *
  * A compiled condition. `explain` returns "" if the condition is true, otherwise a message with the actual and the required values.
  * `negation` is the text of the opposite condition. `needs` lists the fields of `ExtraValues` that the condition uses. `address` is the
@@ -50,7 +50,7 @@ import * as say from "../../words/conditions.js";
  */
 
 /** @type {ExtraValues} the values that are used if a caller passes none; no second cycle of an instruction is pending */
-const DEFAULT_VALUES = { test: "", owed: "0", keys: "", cycles: 0, seen: [], printed: [] };
+const DEFAULT_VALUES = { test: "", owed: "0", keys: "", cycles: 0, lampForecast: [], printed: [] };
 
 /** @type {(names: Names) => (name: string) => boolean} returns a function that tests whether a name is a lamp name */
 const createLampNameTest = ({ face }) => (/** @type {string} */ name) => face.lampNumbers.has(name);

@@ -110,10 +110,10 @@ export function compileDisplay(words, names, dependencies) {
     lampWords === "" || number === required ? number : `${number} ${lampWords}`);
   const matches = (/** @type {string} */ actual) => actual === required;
   if (hasScannedDisplay(face)) {
-    dependencies.addNeed("seen", say.DIGITS_ARE_MULTIPLEXED);
+    dependencies.addNeed("lampForecast", say.DIGITS_ARE_MULTIPLEXED);
     const perceivedText = new PerceivedText(face, board.lamps.length);
     return createCondition({
-      subject: "display", required, matches, measure: (_, extraValues) => displayedWords(perceivedText.read(extraValues.seen)),
+      subject: "display", required, matches, measure: (_, extraValues) => displayedWords(perceivedText.read(extraValues.lampForecast)),
     });
   }
   const reader = new DisplayText(displays, [...face.lamps].map(([lamp, { text }]) => ({ lamp, text })));

@@ -49,7 +49,7 @@ const JOIN_OPERATORS = new Map([["or", "or"], ["||", "or"], ["and", "and"], ["&&
 const PORT_NAME = /^(rom\d+|ram\d+\.\d+)$/i;
 /** The node kinds that are conditions. */
 const CONDITION_KINDS = new Set(["or", "and", "not", "compare", "form", "values", "panel", "at"]);
-/** The number of numerals after the first word of a place that is written with blanks, such as `ram 0 0x12`, by this word. */
+/** The first words of places that are written with blanks, such as `ram 0 0x12`, and how many numerals follow each word. */
 const SPACED_NUMERALS = new Map([["ram", 2], ["st", 3]]);
 /** The node kinds whose text needs no parentheses: single names and numbers. */
 const SIMPLE_KINDS = new Set(["number", "name", "lamp", "key"]);
@@ -438,7 +438,7 @@ class Parser {
   /**
    * Returns the words before the next `and`, `or` or closing parenthesis.
    * @param {boolean} canBeQuoted true if the words can be quoted
-   * @param {boolean} [canBeLamps] true if the words can be lamp names, which include names such as `or`
+   * @param {boolean} [canBeLamps] true if the words can be lamp names; even `or` can be a lamp name
    */
   wordsAfter(canBeQuoted, canBeLamps = false) {
     const { scanner } = this;

@@ -119,10 +119,10 @@ function memoryPlace(text) {
 function portPlace(name) {
   const match = /^(?:(rom)(\d|1[0-5])|ram([0-7])\.([0-3]))(\.[0-3])?$/.exec(name);
   if (!match) return null;
-  const [, isRom, rom, bank, chip, line] = match;
+  const [, romWord, rom, bank, chip, line] = match;
   /** @type {(board: Board) => boolean} */
   const existsOn = (board) => (
-    isRom ? board.roms.some((romChip) => Number(romChip.chip) === Number(rom)) : hasRam(board, Number(bank), Number(chip)));
+    romWord ? board.roms.some((romChip) => Number(romChip.chip) === Number(rom)) : hasRam(board, Number(bank), Number(chip)));
   return line ? linePlace(name, existsOn) : singlePlace(name, existsOn);
 }
 

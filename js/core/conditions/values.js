@@ -20,7 +20,7 @@ import * as say from "../../words/conditions.js";
  *   string }} Value
  *
  * A value that only a test can supply because the bench does not report it.
- * @typedef {"cycles" | "seen" | "printed"} Need
+ * @typedef {"cycles" | "lampForecast" | "printed"} Need
  */
 
 /** The places that `state` reports and `trace` does not: the TEST pin, a pending second cycle, and the pressed keys. */

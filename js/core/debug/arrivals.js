@@ -185,7 +185,7 @@ export class Arrivals {
   }
 
   /**
-   * Restores the hit counts from before typed lines. Called if the lines fail, because the hits counted for them did not happen.
+   * Restores the hit counts that a caller saved before typed lines. Called if the lines fail, because their counted hits did not happen.
    * @param {number[]} counts
    */
   restoreCounts(counts) {

@@ -164,8 +164,8 @@ export class BreakpointManager {
   }
 
   /**
-   * Adds a bench breakpoint to the list. If the list already has a breakpoint at the address, enables that breakpoint. If it already has
-   * one on the line of the address, adds nothing.
+   * Adds a bench breakpoint to the list. If the list already has a breakpoint at the address, enables that breakpoint. If the list already
+   * has a breakpoint on the line of the address, adds nothing.
    * @param {number} address
    */
   addFromBench(address) {
@@ -182,7 +182,7 @@ export class BreakpointManager {
   }
 
   /**
-   * Removes a breakpoint that the bench no longer has from the list.
+   * Removes from the list a breakpoint that the bench no longer has.
    * @param {number} address
    */
   removeMissing(address) {
@@ -231,7 +231,7 @@ export class BreakpointManager {
     return this.list.findByLine(line) || this.list.findByLine(nextLine);
   }
 
-  /** Returns a message about why a new breakpoint has no effect yet; "" if no reason is known. */
+  /** Returns a message that explains why a new breakpoint has no effect yet; "" if no reason is known. */
   pendingMessage() {
     return this.mapError ? say.inactiveUntilThen(this.mapError) : "";
   }

@@ -232,8 +232,8 @@ export class BreakpointList {
 
   /**
    * Moves each breakpoint to an instruction of the program, and sets its address. Removes all but one of the breakpoints with the same
-   * address. Callers call this method after the source is assembled into ROM. Returns messages about breakpoints that moved or that no
-   * instruction follows.
+   * address. Called after the source has been assembled into ROM. Returns messages about breakpoints that moved or that no instruction
+   * follows.
    * @param {SourceMap} map
    */
   locate(map) {
@@ -267,9 +267,9 @@ export class BreakpointList {
    * @param {[number, number][]} hits pairs of a breakpoint id and its number of new hits
    */
   count(hits) {
-    for (const [id, more] of hits) {
+    for (const [id, newHits] of hits) {
       const breakpoint = this.get(id);
-      if (breakpoint) breakpoint.hits += more;
+      if (breakpoint) breakpoint.hits += newHits;
     }
   }
 
@@ -302,8 +302,8 @@ function countEqualLines(oldLines, newLines, max, isAtEnd) {
 /**
  * Returns the first and the last line that an edit replaces, counted from 1, and the number of new lines. Lines that stay equal at the
  * start and the end are excluded. Text that is inserted at the start of a line counts as new lines before this line. `isUnrelated` is true
- * if the edit replaces the whole text with an unrelated text. Texts are unrelated if both have more than two lines, and no nonblank line at
- * the start or end is equal.
+ * if the edit replaces the whole text with an unrelated text. Texts are unrelated if both have more than two lines, and share no nonblank
+ * line at the start or at the end.
  * @param {Edit} edit
  */
 function replacedLines({ from, to, text, removed = Array(to.line - from.line + 1).fill("\n"), isWhole = false }) {

@@ -146,9 +146,9 @@ export class CommonMistakes {
     const cycles = plannedLines.reduce((sum, plannedLine) => sum + plannedCycles(plannedLine), 0);
     if (plannedLines.some(({ change }) => change !== null)) this.remainingCycles = FULLY_CHECKED_CYCLES;
     this.callCount += 1;
-    const isAll = this.stoppingKinds.size > 0 && cycles <= MAX_CYCLES_PER_CALL;
+    const checksAll = this.stoppingKinds.size > 0 && cycles <= MAX_CYCLES_PER_CALL;
     const sample = this.callCount % CALLS_PER_SAMPLE === 0 ? SAMPLE_CYCLES : 0;
-    const maxCycles = isAll ? cycles : Math.min(cycles, MAX_CYCLES_PER_CALL, Math.max(this.remainingCycles, sample));
+    const maxCycles = checksAll ? cycles : Math.min(cycles, MAX_CYCLES_PER_CALL, Math.max(this.remainingCycles, sample));
     this.remainingCycles = Math.max(0, this.remainingCycles - maxCycles);
     return maxCycles;
   }

@@ -124,10 +124,10 @@ export class DataWatches {
     for (const line of lines) {
       const { cycles, address, row: next } = parseTraceLine(line);
       const valuesAfter = rowValues(next);
-      const stops = this.watches.filter((watch) => this.countChange(watch, valuesBefore, valuesAfter, events));
-      if (stops.length > 0) {
-        const [{ id, place }] = stops;
-        const [from, to] = [valuesBefore, valuesAfter].map((values) => this.formatValue(stops[0], values));
+      const stoppingWatches = this.watches.filter((watch) => this.countChange(watch, valuesBefore, valuesAfter, events));
+      if (stoppingWatches.length > 0) {
+        const [{ id, place }] = stoppingWatches;
+        const [from, to] = [valuesBefore, valuesAfter].map((values) => this.formatValue(stoppingWatches[0], values));
         Object.assign(events, { id, change: changedFrom(place.name, from, to) });
         return { cycles, address };
       }
@@ -282,7 +282,7 @@ export class SoftStopFinder {
   }
 
   /**
-   * Restores the counts from before typed lines. Called if the lines fail, because the counted events did not happen.
+   * Restores the counts that a caller saved before typed lines. Called if the lines fail, because the counted events did not happen.
    * @param {number[]} counts
    */
   restoreCounts(counts) {

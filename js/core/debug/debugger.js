@@ -79,9 +79,9 @@ import { CommonMistakes } from "./common_mistakes.js";
  *   result: (LinesResult & { snapshot: string[] }) | null, tally: Tally }} RunResult the result of a move; `result` is null if no line was
  *   executed
  *
- * The result of a move back or forward. `isDone` is false if the goal was not found. `wires` is true if the board has changed. `cycles` is
- * the distance of the move.
- * @typedef {Omit<BackSearchResult, "moment" | "present"> & { isDone: boolean, wires: boolean, cycles: number }} BackResult
+ * The result of a move back or forward. `isDone` is false if the goal was not found. `hasChangedBoard` is true if the board has changed.
+ * `cycles` is the distance of the move.
+ * @typedef {Omit<BackSearchResult, "moment" | "present"> & { isDone: boolean, hasChangedBoard: boolean, cycles: number }} BackResult
  *
  * The last change of a place: the number of cycles since the change, and the address of the instruction that made it (-1 for a typed line).
  * @typedef {Omit<BackSearchResult, "moment" | "present"> & { isFound: boolean, cycles: number, address: number }} LastChange
@@ -217,11 +217,11 @@ export class Debugger {
   /**
    * Runs for a number of cycles, including the queued key changes, up to the goal of the move or an earlier stop.
    * @param {number} cycles
-   * @param {boolean} [isHurried] true if the caller must show the lamps soon; `checkLastLines` then searches for mistakes later, if
+   * @param {boolean} [isUrgent] true if the caller must show the lamps soon; `checkLastLines` then searches for mistakes later, if
    *   mistakes do not stop the machine
    * @returns {DebugFrame}
    */
-  advance(cycles, isHurried = false) {
+  advance(cycles, isUrgent = false) {
     const { session } = this;
     const { engine, file } = session;
     let plannedLines = session.queue.plan(cycles);
@@ -229,13 +229,13 @@ export class Debugger {
     if (cyclesBeforeGoal >= 0) plannedLines = truncateLines(plannedLines, cyclesBeforeGoal);
     const events = this.arrivals.searchLines(engine, file, plannedLines);
     if (events.cycles >= 0) plannedLines = truncateLines(plannedLines, events.cycles);
-    const isLate = isHurried && this.commonMistakes.stoppingKinds.size === 0 && session.recording === null;
-    const foundMistakes = isLate ? { mistakes: [], stop: -1 } : this.commonMistakes.searchLines(plannedLines);
+    const checksLater = isUrgent && this.commonMistakes.stoppingKinds.size === 0 && session.recording === null;
+    const foundMistakes = checksLater ? { mistakes: [], stop: -1 } : this.commonMistakes.searchLines(plannedLines);
     if (foundMistakes.stop >= 0) plannedLines = truncateLines(plannedLines, foundMistakes.stop);
     const countBefore = session.count.total;
     const frame = session.advanceBy(plannedLines);
     this.arrivals.count(events);
-    this.uncheckedLines = isLate ? plannedLines : null;
+    this.uncheckedLines = checksLater ? plannedLines : null;
     const stop = this.findMistakeOrRecordingStop(frame, foundMistakes.stop) || this.findStop(frame, events, cyclesBeforeGoal);
     if (stop) this.endMove();
     const tally = { ...this.createTally(events, stop, countBefore), mistakes: [...this.takeLateMistakes(), ...foundMistakes.mistakes] };
@@ -440,7 +440,7 @@ export class Debugger {
     this.beginMove();
     const { session } = this;
     const { moment, present: knownPresent, ...report } = await this.findBackTarget(goal, shouldContinue);
-    if (!moment) return { ...report, isDone: false, wires: false, cycles: 0 };
+    if (!moment) return { ...report, isDone: false, hasChangedBoard: false, cycles: 0 };
     const present = knownPresent || await session.timeline.sessionAt(session.engine, moment, shouldContinue);
     session.timeline.goBack(moment, session);
     return { ...report, ...this.enterMoment(present) };
@@ -498,23 +498,23 @@ export class Debugger {
     const present = this.session.timeline.goForward();
     return present
       ? { ...EMPTY_SEARCH_RESULT, ...this.enterMoment(present) }
-      : { ...EMPTY_SEARCH_RESULT, isDone: false, wires: false, cycles: 0 };
+      : { ...EMPTY_SEARCH_RESULT, isDone: false, hasChangedBoard: false, cycles: 0 };
   }
 
   /**
-   * Replaces the state of the session with the state at another moment, but keeps the current breakpoints. Returns a part of the result of
-   * a move.
+   * Replaces the state of the session with the state at another moment, but keeps the current breakpoints. Returns part of the result of
+   * the move.
    * @param {Present} present
    */
   enterMoment(present) {
     const { session } = this;
     const countBefore = session.count.total;
-    const wires = session.replaceState(present);
+    const hasChangedBoard = session.replaceState(present);
     const lines = this.breakLines();
     if (lines) session.changeBreaks(lines);
     this.commonMistakes.forgetRom();
     this.startTotal = session.count.total;
-    return { isDone: true, wires, cycles: Math.abs(session.count.total - countBefore) };
+    return { isDone: true, hasChangedBoard, cycles: Math.abs(session.count.total - countBefore) };
   }
 
   // --- Values ---

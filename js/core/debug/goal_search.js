@@ -24,7 +24,7 @@ function pieceLines(watcher, cycles) {
   let lines = "";
   for (let cyclesLeft = cycles; cyclesLeft > 0; cyclesLeft -= MAX_RUN_CYCLES) {
     const runCycles = Math.min(cyclesLeft, MAX_RUN_CYCLES);
-    lines += `${watcher.before(runCycles)}run ${runCycles}\n${watcher.after}`;
+    lines += `${watcher.queriesBefore(runCycles)}run ${runCycles}\n${watcher.queriesAfter}`;
   }
   return lines;
 }
@@ -90,7 +90,8 @@ export function plannedCycles({ line, change }) {
  */
 export function cyclesToGoal(engine, file, plannedLines, watcher) {
   const lines = plannedLines.map((plannedLine) => (
-    plannedLine.change ? `${plannedLine.line}\n` : `${watcher.before(plannedCycles(plannedLine))}${plannedLine.line}\n${watcher.after}`));
+    plannedLine.change ? `${plannedLine.line}\n`
+      : `${watcher.queriesBefore(plannedCycles(plannedLine))}${plannedLine.line}\n${watcher.queriesAfter}`));
   const answers = new ForecastAnswers(engine.ask(file, watcher.setupLine + lines.join("")).answers);
   if (watcher.setupLine) answers.take();
   let doneCycles = 0;

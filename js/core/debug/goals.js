@@ -29,9 +29,9 @@ import { becomesTrue } from "./condition_search.js";
  * @typedef {{ cycles: number, isReached: boolean, end: string }} SearchResult
  *
  * The watcher of a goal. `setupLine`: a bench line to send once before all runs, "" for none. `maxRun`: returns the maximum length of the
- * next run in cycles. `before`: returns the queries before a run. `after`: the queries after a run. `take`: reads the answers to the
- * queries and to the run, and returns the result. `endsAtReturn`: true if a return from a subroutine reaches the goal.
- * @typedef {{ setupLine: string, maxRun: () => number, before: (cycles: number) => string, after: string,
+ * next run in cycles. `queriesBefore`: returns the queries before a run. `queriesAfter`: the queries after a run. `take`: reads the answers
+ * to the queries and to the run, and returns the result. `endsAtReturn`: true if a return from a subroutine reaches the goal.
+ * @typedef {{ setupLine: string, maxRun: () => number, queriesBefore: (cycles: number) => string, queriesAfter: string,
  *   take: (answers: ForecastAnswers) => SearchResult, endsAtReturn: boolean }} Watcher
  */
 
@@ -58,8 +58,8 @@ function traceWatcher(places, goal) {
   return {
     setupLine: "",
     maxRun: () => MAX_PIECE_CYCLES,
-    before: (cycles) => `trace ${cycles}${places}\n`,
-    after: "",
+    queriesBefore: (cycles) => `trace ${cycles}${places}\n`,
+    queriesAfter: "",
     take: (answers) => {
       const { lines } = answers.takeTrace();
       const run = answers.takeRun();
@@ -102,16 +102,16 @@ function conditionWatcher(condition) {
 /**
  * Returns a watcher for a return to a call depth. The depth is 0 at the start of the move. Each JMS adds 1, and each BBL subtracts 1.
  * @param {Uint8Array} codes the bytes of ROM
- * @param {number} level the depth to reach: 0 for the return from the next call, -1 for the return from the current subroutine
+ * @param {number} targetDepth the depth to reach: 0 for the return from the next call, -1 for the return from the current subroutine
  * @returns {Watcher}
  */
-function returnWatcher(codes, level) {
+function returnWatcher(codes, targetDepth) {
   let depth = 0;
   const watcher = traceWatcher(" ret", ({ cycles, address }) => {
     if (isCall(codes[address])) depth += 1;
     if (!isReturn(codes[address])) return -1;
     depth -= 1;
-    return depth <= level ? cycles + 1 : -1;
+    return depth <= targetDepth ? cycles + 1 : -1;
   });
   return { ...watcher, endsAtReturn: true };
 }
@@ -128,8 +128,8 @@ function countWatcher(count, isSecondCyclePending) {
   return {
     setupLine: "",
     maxRun: () => instructionsLeft,
-    before: (cycles) => `count ${cycles}\n`,
-    after: "regs\n",
+    queriesBefore: (cycles) => `count ${cycles}\n`,
+    queriesAfter: "regs\n",
     take: (answers) => {
       const startedCount = answers.takeCounts().reduce((sum, instruction) => sum + instruction.startCount, 0);
       const run = answers.takeRun();
@@ -157,8 +157,8 @@ function addressWatcher(engine, file, address) {
   return {
     setupLine,
     maxRun: () => MAX_PIECE_CYCLES,
-    before: () => "",
-    after: "regs\n",
+    queriesBefore: () => "",
+    queriesAfter: "regs\n",
     take: (answers) => {
       const run = answers.takeRun();
       const { counter, isSecondCyclePending } = parseCounter(answers.take());

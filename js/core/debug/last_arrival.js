@@ -159,6 +159,6 @@ export async function findLastCall(session, call, returns, shouldContinue) {
   const { lastMatch } = await searchPast(session.engine, session.timeline, finder, shouldContinue);
   const cyclesBack = session.count.total - finder.lastArrivalTotal - JMS_CYCLES;
   if (!lastMatch || cyclesBack < 0) return searchResult({ reason: "short" });
-  const moment = cyclesBack === 0 ? session.timeline.presentMoment : session.timeline.before(cyclesBack);
+  const moment = cyclesBack === 0 ? session.timeline.presentMoment : session.timeline.momentBefore(cyclesBack);
   return moment ? searchResult({ moment }) : searchResult({ reason: "short" });
 }

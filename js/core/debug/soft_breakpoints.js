@@ -80,8 +80,8 @@ export function compileNote(text, names) {
  */
 export function compileBreakpoint(breakpoint, names) {
   const { id, address, from, hits } = breakpoint;
-  const isAlways = breakpoint.condition.trim() === "";
-  const { condition, error, column } = isAlways ? { condition: null, error: "", column: -1 }
+  const isUnconditional = breakpoint.condition.trim() === "";
+  const { condition, error, column } = isUnconditional ? { condition: null, error: "", column: -1 }
     : compileCondition(breakpoint.condition, names);
   const compiledNote = breakpoint.note.trim() === "" ? null : compileNote(breakpoint.note, names);
   const errorMessage = error ? errorInColumn(error, column) : compiledNote ? compiledNote.error : "";

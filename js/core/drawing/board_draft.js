@@ -144,7 +144,7 @@ export class BoardDraft {
 
   /**
    * Returns whether the text describes the same board as an answer of the bench.
-   * @param {string[]} answers the answer to `board` after the bench has wired the text
+   * @param {string[]} answers the bench's answer to `board` after `wire` with the text
    */
   matchesAnswers(answers) {
     return this.isToml && this.boardAnswers !== null && this.boardAnswers.join("\n") === answers.join("\n");

@@ -22,7 +22,7 @@ import * as say from "../../words/drawing.js";
  * - `add`: adds a part from the shelf. `line` is the signal line of a lamp or buzzer (by default, a free line). `digits` is the number of
  *   digits of a display.
  * - `wire`: connects a signal line to an input.
- * - `port`: makes a ROM line an input (`as` is `i`), or an output that RDR reads as `0` or `1`.
+ * - `port`: makes a ROM line an input (`mode` is `i`), or an output that RDR reads as `0` or `1`.
  * - `chips`, `rows`: sets the number of chips in a chain, or the number of key rows.
  * - `column`: adds a key column.
  * - `delete`, `copy`: deletes a part, or adds a copy of the part.
@@ -31,7 +31,7 @@ import * as say from "../../words/drawing.js";
  * - `colour`: sets the lamp colour; "" for the default colour.
  *
  * @typedef {{ kind: "add", part: ShelfPart, line?: string, digits?: number } | { kind: "wire", line: string, target: string }
- *   | { kind: "port", line: string, as: string } | { kind: "chips", chain: number, chips: number } | { kind: "rows", rows: number }
+ *   | { kind: "port", line: string, mode: string } | { kind: "chips", chain: number, chips: number } | { kind: "rows", rows: number }
  *   | { kind: "column" } | { kind: "delete", part: string } | { kind: "copy", part: string }
  *   | { kind: "name", part: string, name: string } | { kind: "colour", lamp: number, colour: string }} DrawingAction
  *
@@ -250,8 +250,8 @@ function perform(editedBoard, action) {
       connectLine(editedBoard, action.line, action.target);
       return [action.target, say.lineWired(action.line, targetName(action.target))];
     case "port":
-      setLineMode(editedBoard, action.line, action.as);
-      return [action.line, say.lineIs(action.line, action.as === "i" ? say.INPUT : say.outputReadsAs(action.as))];
+      setLineMode(editedBoard, action.line, action.mode);
+      return [action.line, say.lineIs(action.line, action.mode === "i" ? say.INPUT : say.outputReadsAs(action.mode))];
     case "chips":
       return [setChips(editedBoard, action.chain, action.chips), say.chainHas(action.chain, formatQuantity(action.chips, "chip"))];
     case "rows":
@@ -299,9 +299,9 @@ export function applyAction(text, action) {
     const [part, message] = perform(editedBoard, action);
     const panelError = findNewPanelError(text, editedBoard.text);
     if (panelError) return { ...unchangedResult, refusal: panelError };
-    const alsoAdded = editedBoard.addedParts.length > 0 ? say.withAlso(say.listOf(editedBoard.addedParts)) : "";
+    const addedPartsText = editedBoard.addedParts.length > 0 ? say.withAlso(say.listOf(editedBoard.addedParts)) : "";
     const { edits, deletedChains } = editedBoard;
-    return { edits, text: editedBoard.text, part, message: `${message}${alsoAdded}.`, deletedChains, refusal: "" };
+    return { edits, text: editedBoard.text, part, message: `${message}${addedPartsText}.`, deletedChains, refusal: "" };
   } catch (error) {
     if (!(error instanceof ImpossibleAction)) throw error;
     return { ...unchangedResult, refusal: error.message };
@@ -320,7 +320,7 @@ export function reasonNotToAdd(text, part) {
 /**
  * Returns whether the page and the bench read the same board from a text. If not, the board editor cannot edit the text.
  * @param {string} text
- * @param {string[]} answers the answer to `board` after the bench has wired the text
+ * @param {string[]} answers the bench's answer to `board` after `wire` with the text
  */
 export function matchesBench(text, answers) {
   return new EditedBoard(text).draft.matchesAnswers(answers);

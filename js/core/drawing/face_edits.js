@@ -19,7 +19,7 @@ const LAMP_KINDS = new Set(
 );
 /** The kinds of front-panel lines that have a port or a port line before the colon. */
 const PORT_KINDS = ["port", "buzzer", "printer"];
-/** The entry for a lamp or key without a name or colour in a list. */
+/** The list entry for a lamp or key that has no name or colour. */
 const EMPTY_ENTRY = "_";
 
 /**

@@ -87,7 +87,7 @@ function portNameField(face, part) {
 function directionField(line, port) {
   const lineNumber = Number(line.split(".")[1]);
   const options = say.DIRECTIONS.map(([value, optionLabel]) => ({ value, label: optionLabel }));
-  return choiceField(say.lineIsA(lineNumber), port[3 - lineNumber], options, (as) => ({ kind: "port", line, as }));
+  return choiceField(say.lineIsA(lineNumber), port[3 - lineNumber], options, (mode) => ({ kind: "port", line, mode }));
 }
 
 /** @type {(part: string) => Button} returns the button that copies a part */

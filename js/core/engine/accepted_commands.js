@@ -14,7 +14,7 @@ import { readRun } from "../bench/answers.js";
 const RESET_COMMANDS = { reset: true, wire: true };
 
 /**
- * Returns the lines to send to repeat a command: the command itself, and the text after a `wire` or `asm` command.
+ * Returns the lines that repeat a command: the command itself and, for `wire` or `asm`, the text after it.
  * @param {Input} input
  */
 function repeatedLines({ line, text, kind }) {

@@ -19,7 +19,7 @@ export class BreakpointRequests {
   }
 
   /**
-   * Sets the breakpoints. Also sets each breakpoint without a condition, a hit count and a note in the bench, so that the bench itself
+   * Sets the breakpoints. A breakpoint that has no condition, no hit count and no note is also set in the bench, so that the bench itself
    * stops there. Resolves to the reply for the page, with the errors of breakpoints that cannot be compiled.
    * @param {LocatedBreakpoint[]} breakpoints
    * @param {{ board: string, program: string, watched?: string[] }} texts the texts that define the names in conditions; `watched` are the

@@ -4,9 +4,9 @@
 import { BenchRefusal, BenchTrap, OUT_OF_MEMORY } from "../bench/bench_errors.js";
 
 /**
- * The result of executing lines: the shell's exit status, the answer `session N` to the opening of the session (`opened`), and the answers
- * to the lines.
- * @typedef {{ status: number, opened: string, answers: string[] }} ServedAnswers
+ * The result of executing lines: the shell's exit status, the answer `session N` to the opening of the session (`openingAnswer`), and the
+ * answers to the lines.
+ * @typedef {{ status: number, openingAnswer: string, answers: string[] }} ServedAnswers
  *
  * A buffer in the memory of the module: its address (`offset`), and its size in bytes (`capacity`).
  * @typedef {{ offset: bigint, capacity: number }} ModuleBuffer
@@ -263,8 +263,8 @@ export class Engine {
     }
     const answers = this.decoder.decode(instance.view(instance.answers, report.count)).split("\n");
     answers.pop();
-    const [opened] = answers.splice(0, 1);
-    return { status: report.number, opened, answers };
+    const [openingAnswer] = answers.splice(0, 1);
+    return { status: report.number, openingAnswer, answers };
   }
 
   /**

@@ -22,9 +22,9 @@ import { ForecastAnswers } from "./forecast_answers.js";
  * @param {QuerySource[]} querySources
  */
 export function linesWithQueries(plannedLines, querySources) {
-  const afterChange = querySources.some(({ needsStates }) => needsStates) ? "state\n" : "";
+  const stateQuery = querySources.some(({ needsStates }) => needsStates) ? "state\n" : "";
   return plannedLines.map((plannedLine) => {
-    if (plannedLine.change) return `${plannedLine.line}\n${afterChange}`;
+    if (plannedLine.change) return `${plannedLine.line}\n${stateQuery}`;
     return `${querySources.map((source) => source.queries(plannedCycles(plannedLine))).join("")}${plannedLine.line}\n`;
   }).join("");
 }

@@ -8,8 +8,8 @@ import { joinLines } from "../bench/inputs.js";
  * @param {string[]} answers the answers to `breaks` and `watches`
  */
 function stopRemovalLines([breaks, watches]) {
-  const unwatches = readItems(watches).map((item) => item.split(".")).map(([bank, source]) => `unwatch ${bank} 0x${source}`);
-  return joinLines([...readItems(breaks).map((address) => `unbreak 0x${address}`), ...unwatches]);
+  const unwatchLines = readItems(watches).map((item) => item.split(".")).map(([bank, source]) => `unwatch ${bank} 0x${source}`);
+  return joinLines([...readItems(breaks).map((address) => `unbreak 0x${address}`), ...unwatchLines]);
 }
 
 /**

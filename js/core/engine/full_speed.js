@@ -22,7 +22,7 @@ const HIDDEN_REPORT_INTERVAL = 1000;
  * (`chipHeat`).
  * @returns {Omit<DebugFrame, "runEntries">}
  */
-function emptyFrame() {
+function createEmptyFrame() {
   return {
     cycles: 0, end: "", stop: null, tally: NO_TALLY, changesKeys: false, snapshot: [], litShares: null, buzzerLevels: null, chipHeat: null,
   };
@@ -35,7 +35,7 @@ export class FullSpeed {
     this.batchCycles = MIN_BATCH_CYCLES;
     this.lastReport = 0;
     this.runLog = new RunLog();
-    this.pendingReport = emptyFrame();
+    this.pendingReport = createEmptyFrame();
   }
 
   /**
@@ -92,7 +92,7 @@ export class FullSpeed {
   takeReport() {
     this.lastReport = performance.now();
     const { pendingReport } = this;
-    this.pendingReport = emptyFrame();
+    this.pendingReport = createEmptyFrame();
     return { ...pendingReport, runEntries: this.runLog.take() };
   }
 }

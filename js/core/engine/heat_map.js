@@ -57,7 +57,7 @@ export function nibbleGroups({ banks }) {
  * @returns {Moment}
  */
 function findStart(timeline, cycles) {
-  const moment = timeline.before(cycles);
+  const moment = timeline.momentBefore(cycles);
   if (moment) return moment;
   let { segment } = timeline.presentMoment;
   while (timeline.segments[segment].follows) segment -= 1;

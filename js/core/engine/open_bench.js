@@ -111,7 +111,7 @@ export class OpenBench {
     this.debugger.commonMistakes.forgetRom();
     // A reset clears the return addresses.
     if (this.session.count.reset !== reset) this.debugger.beginMove();
-    return { ...result, ...this.snapshotReport(snapshot, result.wires) };
+    return { ...result, ...this.snapshotReport(snapshot, result.hasChangedBoard) };
   }
 
   /**
@@ -120,7 +120,7 @@ export class OpenBench {
    */
   replyWithoutServing() {
     const report = this.snapshotReport(this.session.takeSnapshot(), false);
-    return { entries: [], firstAnswer: "", status: 0, hasChangedRom: false, wires: false, ...report };
+    return { entries: [], firstAnswer: "", status: 0, hasChangedRom: false, hasChangedBoard: false, ...report };
   }
 
   /**
@@ -161,7 +161,7 @@ export class OpenBench {
    * Returns the report on the full-speed batches since the previous report.
    * @returns {Frame}
    */
-  takeUnreported() {
+  takePendingFrame() {
     const { tally, ...result } = this.fullSpeed.takeReport();
     const lateTally = { ...NO_TALLY, mistakes: this.debugger.takeLateMistakes() };
     return { ...result, tally: joinTallies(lateTally, tally), ...this.snapshotReport(this.session.takeSnapshot(), false) };

@@ -27,10 +27,10 @@ import { sumCycles, splitIntoPieces, unitsBetween } from "./replay_units.js";
  *   | { kind: "when", condition: string, searchCondition?: import("../debug/condition_search.js").SearchCondition }
  *   | { kind: "call", call: number, returns: string[] }} BackGoal
  *
- * The result of a search of the past. If nothing was found, `moment` is null and `reason` is: the past is too short ("short"), or the board
- * does not have the place ("lacks"). For a change, the result has the changed place, the old value (`from`), the new value (`to`), and the
- * command that made the change (`line`, "" for an instruction). For an arrival, `end` is its kind: a breakpoint (with its `id`), a change,
- * or the start of the stored past. `present` is the session at `moment`, null if not known.
+ * The result of a search of the past. If nothing was found, `moment` is null, and `reason` is "short" (the past is too short) or "lacks"
+ * (the board does not have the place). For a change, the result has the changed place, the old value (`from`), the new value (`to`), and
+ * the command that made the change (`line`, "" for an instruction). For an arrival, `end` is its kind: a breakpoint (with its `id`), a
+ * change, or the start of the stored past. `present` is the session at `moment`, null if not known.
  * @typedef {{ moment: Moment | null, reason: "" | "short" | "lacks", place: string, from: string, to: string, line: string,
  *   end: "" | "break" | "change" | "beginning", id: number, present: import("./timeline.js").SessionAtMoment | null }} BackSearchResult
  *
@@ -69,7 +69,7 @@ export function searchResult(fields) {
  */
 async function findLastInstruction(engine, timeline, shouldContinue) {
   for (const cycles of [1, 2]) {
-    const moment = timeline.before(cycles);
+    const moment = timeline.momentBefore(cycles);
     if (!moment) break;
     const present = await timeline.sessionAt(engine, moment, shouldContinue);
     if (readCounter(engine.ask(present.file, "regs\n").answers[0]).owed === "0") return searchResult({ moment, present });
@@ -161,7 +161,7 @@ export async function searchPast(engine, timeline, finder, shouldContinue) {
       const { entries } = timeline.segments[to.segment - 1];
       to = { segment: to.segment - 1, entry: entries.length, cycles: 0 };
     }
-    const requestedStart = timeline.before(size, to);
+    const requestedStart = timeline.momentBefore(size, to);
     const from = requestedStart && requestedStart.segment === to.segment ? requestedStart : { segment: to.segment, entry: 0, cycles: 0 };
     finder.begin(await timeline.sessionAt(engine, from, shouldContinue));
     /** @type {BackSearchResult | null} */

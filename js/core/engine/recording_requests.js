@@ -20,15 +20,15 @@ export class RecordingRequests {
   /**
    * Resolves to a recording of the board's signal lines for the next or the last cycles. The session does not change.
    * @param {number} cycles
-   * @param {boolean} isBefore true for the last cycles, false for the next cycles
+   * @param {boolean} recordsPast true for the last cycles, false for the next cycles
    * @param {WaveTexts} texts
    */
-  record(cycles, isBefore, texts) {
+  record(cycles, recordsPast, texts) {
     const { engine, session } = this.bench;
     const recordedTexts = this.bench.recordingTexts(texts);
     /** @type {(done: number) => Promise<boolean>} */
     const shouldContinue = (done) => this.bench.shouldContinue(done, cycles);
-    if (isBefore) return recordLastCycles(engine, session.timeline, cycles, recordedTexts, shouldContinue);
+    if (recordsPast) return recordLastCycles(engine, session.timeline, cycles, recordedTexts, shouldContinue);
     return recordNextCycles(engine, session.file, cycles, recordedTexts, shouldContinue);
   }
 

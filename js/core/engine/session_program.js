@@ -13,11 +13,11 @@ import { readProgram } from "./program_check.js";
  *
  * The first difference between ROM and the program: the address, the byte in ROM (`romByte`), the source line, and the byte that this
  * line assembles to (`sourceByte`).
- * @typedef {{ address: string, romByte: string, line: number, sourceByte: string }} OtherByte
+ * @typedef {{ address: string, romByte: string, line: number, sourceByte: string }} ByteDifference
  *
  * The source text of a session's program, compared with ROM. `errors` are the errors in the text, `difference` is the first difference from
  * ROM (null for none), and `map` is the source map.
- * @typedef {{ errors: ProjectTextError[], difference: OtherByte | null, map: SourceMap }} SessionProgram
+ * @typedef {{ errors: ProjectTextError[], difference: ByteDifference | null, map: SourceMap }} SessionProgram
  */
 
 /**
@@ -25,7 +25,7 @@ import { readProgram } from "./program_check.js";
  * @param {Uint8Array} codes the bytes in ROM
  * @param {Int16Array} bytes the program bytes by address; negative for no byte
  * @param {SourceMap} map
- * @returns {OtherByte | null}
+ * @returns {ByteDifference | null}
  */
 function firstDifference(codes, bytes, map) {
   const address = bytes.findIndex((byte, index) => byte >= 0 && byte !== codes[index]);

@@ -67,9 +67,9 @@ export class SessionRequests {
   async serveTyped(lines) {
     const typedResult = { id: 0, reason: "", change: "", cutLine: "", cycles: 0, tally: NO_TALLY };
     const result = await this.bench.executeAndReport(async () => {
-      const served = await this.bench.debugger.serveTyped(lines, (done) => this.bench.shouldContinue(done, lines.length));
-      Object.assign(typedResult, served.typedResult);
-      return served.result;
+      const typedReply = await this.bench.debugger.serveTyped(lines, (done) => this.bench.shouldContinue(done, lines.length));
+      Object.assign(typedResult, typedReply.typedResult);
+      return typedReply.result;
     });
     return { ...result, typedResult };
   }

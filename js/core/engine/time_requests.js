@@ -73,7 +73,7 @@ export class TimeRequests {
    * @returns {Frame}
    */
   halt() {
-    const frame = this.bench.takeUnreported();
+    const frame = this.bench.takePendingFrame();
     this.bench.fullSpeed.stop();
     this.bench.session.timeline.stop();
     return frame;

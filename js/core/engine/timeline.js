@@ -118,10 +118,10 @@ export class Timeline {
    * @param {number} count the number of entries to use from the last stored segment
    */
   prepend(stored, count) {
-    const [first, ...more] = this.segments;
+    const [first, ...laterSegments] = this.segments;
     const restoredSegments = stored.map((segment, index) => restoreSegment(
       index === stored.length - 1 ? { ...segment, entries: segment.entries.slice(0, count) } : segment, index));
-    this.segments = [...restoredSegments, { ...first, follows: true }, ...more];
+    this.segments = [...restoredSegments, { ...first, follows: true }, ...laterSegments];
     return count;
   }
 
@@ -177,8 +177,8 @@ export class Timeline {
    */
   addMarkIfDue({ file, count }) {
     const { entries, cycles, marks } = this.lastSegment;
-    const before = marks.length > 0 ? marks[marks.length - 1].cycles : 0;
-    if (cycles - before >= MARK_INTERVAL) marks.push({ entry: entries.length, file: file.slice(), count: count.copy(), cycles });
+    const lastMarkCycles = marks.length > 0 ? marks[marks.length - 1].cycles : 0;
+    if (cycles - lastMarkCycles >= MARK_INTERVAL) marks.push({ entry: entries.length, file: file.slice(), count: count.copy(), cycles });
   }
 
   /** Removes the oldest segment without a stop, but not the last segment. If all older segments have stops, removes the oldest segment. */
@@ -216,7 +216,7 @@ export class Timeline {
    * @param {Moment} [from]
    * @returns {Moment | null}
    */
-  before(cycles, from = this.presentMoment) {
+  momentBefore(cycles, from = this.presentMoment) {
     let remainingCycles = cycles - from.cycles;
     if (remainingCycles <= 0) return { ...from, cycles: -remainingCycles };
     let { segment, entry } = from;

@@ -23,7 +23,7 @@ export class TravelRequests {
    * Sets the names that can occur in conditions.
    * @param {{ board: string, program: string, watched?: string[] }} texts
    */
-  takeNames(texts) {
+  setNames(texts) {
     this.bench.debugger.names = this.bench.collectNames(texts);
   }
 
@@ -101,7 +101,8 @@ export class TravelRequests {
  */
 function travelResult(bench, word, outcome) {
   const { session } = bench;
-  const { isDone, wires } = outcome;
-  const entries = isDone ? [{ line: `(${word})`, textLines: 0, answers: [bench.engine.ask(session.file, "").opened] }] : [];
-  return { entries, firstAnswer: "", status: 0, hasChangedRom: isDone, ...outcome, ...bench.snapshotReport(session.takeSnapshot(), wires) };
+  const { isDone, hasChangedBoard } = outcome;
+  const entries = isDone ? [{ line: `(${word})`, textLines: 0, answers: [bench.engine.ask(session.file, "").openingAnswer] }] : [];
+  const report = bench.snapshotReport(session.takeSnapshot(), hasChangedBoard);
+  return { entries, firstAnswer: "", status: 0, hasChangedRom: isDone, ...outcome, ...report };
 }

@@ -66,7 +66,7 @@ export class TrialRequests {
    * an error if no search has begun.
    * @param {number} milliseconds
    */
-  exploreOn(milliseconds) {
+  continueSearch(milliseconds) {
     if (!this.currentSearch) throw new Error("nothing is looked for");
     return this.currentSearch.runFor(milliseconds);
   }

@@ -226,7 +226,7 @@ export class WaveBuilder {
   }
 
   /**
-   * Records the keys, the TEST pin and the program counter. Callers call this method after a command, and at the end of the recording.
+   * Records the keys, the TEST pin and the program counter. Called after a command, and at the end of the recording.
    * @param {string} state the answer to `state`
    */
   takeState(state) {

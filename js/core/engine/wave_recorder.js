@@ -133,7 +133,7 @@ export async function recordNextCycles(engine, file, cycles, texts, shouldContin
  */
 function findRecordingStart(timeline, cycles) {
   let segment = timeline.segments.length - 1;
-  const requestedStart = timeline.before(cycles);
+  const requestedStart = timeline.momentBefore(cycles);
   while (timeline.segments[segment].follows && (!requestedStart || segment > requestedStart.segment)) segment -= 1;
   let moment = requestedStart || { segment, entry: 0, cycles: 0 };
   for (segment = moment.segment; segment < timeline.segments.length; segment++) {

@@ -36,8 +36,8 @@ import { MAX_SEGMENT_ENTRIES, Timeline } from "./timeline.js";
  *
  * The result of executing lines: the last inputs with their answers (`entries`), the first line of all answers (`firstAnswer`), and the
  * shell's exit status.
- * `hasChangedRom` and `wires` are true if the lines can have changed ROM or the board.
- * @typedef {{ entries: ServedInput[], firstAnswer: string, status: number, hasChangedRom: boolean, wires: boolean }} LinesResult
+ * `hasChangedRom` and `hasChangedBoard` are true if the lines can have changed ROM or the board.
+ * @typedef {{ entries: ServedInput[], firstAnswer: string, status: number, hasChangedRom: boolean, hasChangedBoard: boolean }} LinesResult
  * @typedef {LinesResult & { snapshot: string[] }} ResultAndSnapshot
  *
  * The result of running cycles. `runEntries` lists the executed lines. `end` is the answer that ended the run early, or "". `litShares`,
@@ -180,7 +180,7 @@ export class WorkerSession {
    */
   replaceState({ file, count }) {
     const statusQueries = makeStatusQueries(this.engine, file);
-    const wires = statusQueries.board.join("\n") !== this.statusQueries.board.join("\n");
+    const hasChangedBoard = statusQueries.board.join("\n") !== this.statusQueries.board.join("\n");
     this.file = file.slice();
     this.count = count.copy();
     this.statusQueries = statusQueries;
@@ -188,8 +188,8 @@ export class WorkerSession {
     this.unrecordedCommands = [];
     this.cachedRomBytes = null;
     if (this.recorder) this.recorder.stop("back");
-    if (wires) this.forgetMeters();
-    return wires;
+    if (hasChangedBoard) this.forgetMeters();
+    return hasChangedBoard;
   }
 
   /** The breakpoint addresses in the bench. */
@@ -321,7 +321,7 @@ export class WorkerSession {
       if (servedAnswers.status !== 0) break;
       if (offset < lines.length && !(await shouldContinue(offset))) throw new CancelledError();
     }
-    const statusQueries = report.wires ? makeStatusQueries(this.engine, from) : this.statusQueries;
+    const statusQueries = report.hasChangedBoard ? makeStatusQueries(this.engine, from) : this.statusQueries;
     const snapshot = takeSnapshotOf(this.engine, from, statusQueries);
     // Nothing below can fail. The session changes now.
     if (from !== this.file) [this.file, this.nextFile] = [from, this.file];
@@ -333,8 +333,8 @@ export class WorkerSession {
     if (report.acceptedCommands.length > 0) this.timeline.record([...this.unrecordedCommands.splice(0), ...report.acceptedCommands], this);
     this.timeline.stop();
     // The waiting key changes belong to the old board.
-    if (report.wires) this.queue.clear();
-    if (report.wires) this.forgetMeters();
+    if (report.hasChangedBoard) this.queue.clear();
+    if (report.hasChangedBoard) this.forgetMeters();
     if (fileBefore) this.addToRecording(fileBefore, report.acceptedCommands);
     return { ...report.result(), snapshot };
   }
@@ -379,7 +379,7 @@ class LinesReport {
     this.firstAnswer = "";
     this.status = 0;
     this.hasChangedRom = false;
-    this.wires = false;
+    this.hasChangedBoard = false;
   }
 
   /**
@@ -397,7 +397,7 @@ class LinesReport {
     this.status = status;
     this.hasChangedRom = this.hasChangedRom || inputs.some((input) => ROM_COMMANDS[input.kind]);
     // If the bench rejects a board, the current board stays.
-    this.wires = this.wires || inputs.some((input, index) => input.kind === "wire" && !answerLists[index].some(isStop));
+    this.hasChangedBoard = this.hasChangedBoard || inputs.some((input, index) => input.kind === "wire" && !answerLists[index].some(isStop));
     const from = Math.max(0, inputs.length - MAX_ENTRIES);
     const entries = inputs.slice(from).map(({ line, text }, index) => (
       { line, textLines: text.length, answers: answerLists[from + index] }));
@@ -407,7 +407,7 @@ class LinesReport {
 
   /** @returns {LinesResult} */
   result() {
-    const { entries, firstAnswer, status, hasChangedRom, wires } = this;
-    return { entries, firstAnswer, status, hasChangedRom, wires };
+    const { entries, firstAnswer, status, hasChangedRom, hasChangedBoard } = this;
+    return { entries, firstAnswer, status, hasChangedRom, hasChangedBoard };
   }
 }

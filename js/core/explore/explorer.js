@@ -33,7 +33,7 @@ export class Explorer extends TaskWorker {
       const errors = await bench.call("explore", [texts, options]);
       const end = performance.now() + 1000 * options.seconds;
       for (let isDone = errors.length > 0; !isDone && performance.now() < end;) {
-        const progress = await bench.call("exploreOn", [REPORT_INTERVAL]);
+        const progress = await bench.call("continueSearch", [REPORT_INTERVAL]);
         report(progress);
         ({ isDone } = progress);
       }

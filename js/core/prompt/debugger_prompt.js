@@ -103,7 +103,7 @@ export class Prompt {
     this.inspectCommands = new InspectCommands(this);
     this.stops = new StopCommands(this);
     this.sources = new SourceCommand(this, callbacks);
-    const consoleCalls = { breaksChanged: () => this.breakpoints.syncWithBench(), romChanged: () => {} };
+    const consoleCalls = { handleBreakpointChange: () => this.breakpoints.syncWithBench(), handleRomChange: () => {} };
     this.console = new Console(this.machine, this.expressionContext, new ErrorMessages(refusals), consoleCalls);
     this.keys = new BoardKeyNames(this.session, this.face);
     /** @type {Record<string, CommandHandler>} */
@@ -118,12 +118,12 @@ export class Prompt {
 
   makeMachine() {
     return new Machine(this.session, this.launchResult.writer, {
-      stopped: (lastStop) => {
+      handleStop: (lastStop) => {
         this.lastStop = lastStop;
       },
       output: (text, category) => this.output(text, category),
       pause: () => this.yieldToOtherTasks(),
-      stateChanged: () => {},
+      handleStateChange: () => {},
     });
   }
 

@@ -64,7 +64,7 @@ class Evaluation {
       get keys() {
         return input("keys");
       },
-      cycles: 0, seen: [], printed: [],
+      cycles: 0, lampForecast: [], printed: [],
     };
   }
 

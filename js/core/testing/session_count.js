@@ -11,7 +11,7 @@ import { TestSession } from "./test_session.js";
 /**
  * @typedef {import("../engine/engine_host.js").EngineHost} EngineHost
  * @typedef {import("../engine/engine_host.js").State} State
- * @typedef {import("../engine/session_program.js").OtherByte} OtherByte
+ * @typedef {import("../engine/session_program.js").ByteDifference} ByteDifference
  * @typedef {import("./coverage.js").Coverage} Coverage
  * @typedef {import("./test_preparation.js").ProjectTextError} ProjectTextError
  * @typedef {import("./profile.js").Profile} Profile
@@ -22,7 +22,7 @@ import { TestSession } from "./test_session.js";
  *
  * The result of `countSession`. If the program has errors (`errors`), or if a byte in ROM differs from the program (`otherByte`), the
  * session does not run, and `counts` is null.
- * @typedef {{ errors: ProjectTextError[], otherByte: OtherByte | null, counts: SessionCounts | null }} SessionCount
+ * @typedef {{ errors: ProjectTextError[], otherByte: ByteDifference | null, counts: SessionCounts | null }} SessionCount
  */
 
 /**

@@ -305,7 +305,8 @@ export class TestRun {
    * @param {number} end the time limit, in cycles from the start of the test
    */
   async runToChange(session, condition, end) {
-    if (condition.needs.includes("seen") || condition.needs.includes("printed")) return this.runWithPeriodicChecks(session, condition, end);
+    const { needs } = condition;
+    if (needs.includes("lampForecast") || needs.includes("printed")) return this.runWithPeriodicChecks(session, condition, end);
     let stop = "end";
     // A trace reports neither TEST nor `owed`. TEST does not change during a run, and the first cycle ends a pending instruction, so a
     // condition without traced places is checked after one cycle.

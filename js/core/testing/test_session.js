@@ -173,7 +173,7 @@ export class TestSession {
    * @returns {{ values: string[], extraValues: ExtraValues }}
    */
   readCondition({ places, needs }) {
-    const seen = needs.includes("seen") ? this.ask(LAMPS_FORECAST_QUERY) : [];
+    const lampForecast = needs.includes("lampForecast") ? this.ask(LAMPS_FORECAST_QUERY) : [];
     const asksKeys = needs.includes("keys");
     const trace = places.length > 0 ? `trace 1 ${places.join(" ")}\n` : "";
     const answers = new ForecastAnswers(this.ask(`${trace}regs\n${asksKeys ? "state\n" : ""}`));
@@ -181,7 +181,7 @@ export class TestSession {
     const { owed, test } = readRegisters(answers.take());
     const keys = asksKeys ? stateValue(answers.take(), "keys") : "";
     const printed = this.printout ? this.printout.words : [];
-    return { values, extraValues: { test, owed, keys, cycles: this.elapsed - this.markedCycles, seen, printed } };
+    return { values, extraValues: { test, owed, keys, cycles: this.elapsed - this.markedCycles, lampForecast, printed } };
   }
 
   /**

@@ -51,7 +51,7 @@ export class Travel {
    */
   async runToGoal(goal) {
     await this.callbacks.pause();
-    if (goal.kind === "when") await this.bench.call("takeNames", [this.callbacks.texts()]);
+    if (goal.kind === "when") await this.bench.call("setNames", [this.callbacks.texts()]);
     this.callbacks.storeGoal(goal);
     const result = await this.callbacks.change(say.SEARCHING_GOAL, (ways) => this.bench.call("runToGoal", [goal], ways));
     this.callbacks.storeGoal(null);
@@ -68,7 +68,7 @@ export class Travel {
    */
   async goBack(goal) {
     await this.callbacks.pause();
-    if (goal.kind === "when") await this.bench.call("takeNames", [this.callbacks.texts()]);
+    if (goal.kind === "when") await this.bench.call("setNames", [this.callbacks.texts()]);
     const result = await this.callbacks.change(say.REPEATING_PAST, (ways) => this.bench.call("goBack", [goal], ways));
     if (!result) return;
     const breakpoint = this.callbacks.breakpoint(result.id);

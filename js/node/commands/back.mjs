@@ -79,14 +79,14 @@ async function removeCommands(session, count) {
   const texts = new InputTexts();
   const state = await openSession(engine, texts, session);
   const bytes = engine.bytesOf(state);
-  const commandCount = Number(engine.ask(state, "seq\n").opened.slice("session ".length));
+  const commandCount = Number(engine.ask(state, "seq\n").openingAnswer.slice("session ".length));
   const offsets = findCommitOffsets(bytes);
   if (count === 0) return say.describeRemovableCommands(commandCount, offsets.length);
   if (count > offsets.length) throw new CommandError(say.logIsShorter(session, offsets.length, commandCount, count));
   const offset = offsets[offsets.length - count];
   const shortenedBytes = Uint8Array.from(bytes);
   shortenedBytes[offset] = 0;
-  const { opened: openingLine } = engine.ask(engine.stateOf(shortenedBytes), "seq\n");
+  const { openingAnswer: openingLine } = engine.ask(engine.stateOf(shortenedBytes), "seq\n");
   if (openingLine !== `session ${commandCount - count}`) throw new CommandError(say.wouldDiffer(session, commandCount - count, openingLine));
   truncateLog(session, offset);
   return openingLine;

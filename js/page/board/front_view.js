@@ -5,7 +5,7 @@ import { Brightness } from "../../core/board/brightness.js";
 import { EYE_PERSISTENCE_MS } from "../../core/time/mcs4_time.js";
 import { DisplayView } from "./display_view.js";
 import { Cell, block, button, element, makeFirstTabStop, makeOneTabStop, pressedSwitch } from "../ui/dom.js";
-import { Face, moreErrors, sortByLine } from "../../core/board/face.js";
+import { Face, moreErrorsMessage, sortByLine } from "../../core/board/face.js";
 import { missingParts } from "../../core/board/face_board.js";
 import { PressedKeys } from "../../core/board/key_place.js";
 import { LampsView } from "./lamps_view.js";
@@ -117,7 +117,7 @@ export class FrontView {
     const errors = sortByLine([...face.errors, ...missingParts(face, board)]);
     const root = block("face-faults");
     const messages = errors.slice(0, MAX_LISTED_ERRORS).map(({ line, message }) => say.lineOfBoard(line, message));
-    const footnote = moreErrors(errors, MAX_LISTED_ERRORS);
+    const footnote = moreErrorsMessage(errors, MAX_LISTED_ERRORS);
     root.replaceChildren(...[...messages, footnote].filter(Boolean).map((message) => element("li", {}, message)));
     root.hidden = errors.length === 0;
   }

@@ -10,7 +10,7 @@ import { completeBoard } from "../../core/text/board_completion.js";
 import { completeProgram } from "../../core/text/completion.js";
 import { block, button, onClick } from "../ui/dom.js";
 import { EditorView } from "./text_editor_view.js";
-import { moreErrors } from "../../core/board/face.js";
+import { moreErrorsMessage } from "../../core/board/face.js";
 import { PARTS } from "../../core/text/folding.js";
 import { LiveErrors } from "./live_errors.js";
 import { readInstructions } from "../../core/help/manual.js";
@@ -180,7 +180,7 @@ export class Editors {
   showFoundErrors(name, { errors, isComplete }) {
     const shownErrors = name === "board" ? [...errors, ...findFrontPanelErrors(this.board.text)] : errors;
     const moreNote = isComplete || errors.length < 2 ? "" : say.MAY_BE_MORE;
-    this[name].showErrors(shownErrors.slice(0, MAX_LISTED_ERRORS), moreErrors(shownErrors, MAX_LISTED_ERRORS) || moreNote);
+    this[name].showErrors(shownErrors.slice(0, MAX_LISTED_ERRORS), moreErrorsMessage(shownErrors, MAX_LISTED_ERRORS) || moreNote);
     this.calls.showErrorCount(name, shownErrors.length);
   }
 

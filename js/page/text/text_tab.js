@@ -1,7 +1,7 @@
 // The editor of the Tests tab or the Properties tab. The editor completes names of the board and the program, and shows errors while the
 // user types.
 
-import { Face, moreErrors } from "../../core/board/face.js";
+import { Face, moreErrorsMessage } from "../../core/board/face.js";
 import { button, onClick } from "../ui/dom.js";
 import { EditorView } from "./text_editor_view.js";
 import { PARTS } from "../../core/text/folding.js";
@@ -118,7 +118,7 @@ export class TextTab {
       const text = lines[line - 1] || "";
       return { number, line, from: text.length - text.trimStart().length, to: text.length, words };
     });
-    this.editor.showErrors(entries.slice(0, MAX_LISTED_ERRORS), moreErrors(entries, MAX_LISTED_ERRORS));
+    this.editor.showErrors(entries.slice(0, MAX_LISTED_ERRORS), moreErrorsMessage(entries, MAX_LISTED_ERRORS));
     this.tabCalls.showErrorCount(entries.length);
   }
 }

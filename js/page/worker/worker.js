@@ -100,7 +100,7 @@ class BenchWorker {
     this.currentRequest = number;
     this.lastReportTime = performance.now();
     // First report the run that preceded the call.
-    if (CHANGING_CALLS.has(call) && this.calls.bench.fullSpeed.isOn) this.postFrame(this.calls.bench.takeUnreported());
+    if (CHANGING_CALLS.has(call) && this.calls.bench.fullSpeed.isOn) this.postFrame(this.calls.bench.takePendingFrame());
     try {
       const result = await (/** @type {any} */ (this.calls))[call](...callArguments);
       if (pressesKey(call, callArguments)) this.sendEarly({ kind: "early", number, result });
