@@ -10,7 +10,7 @@ import { SourceMap } from "../core/machine/source_map.js";
 import { findDefinedNames } from "../core/text/assembly.js";
 import { createBoardError } from "../core/text/board_error.js";
 import { MISSING_ROM, createLineError, findMissingRoms } from "../core/text/program_errors.js";
-import { asciiCommentsText, sentText } from "../core/text/sendable_text.js";
+import { toAsciiComments, sentText } from "../core/text/sendable_text.js";
 import { boardTables } from "../core/text/text_help.js";
 import { readPageData } from "./page_parts.mjs";
 
@@ -88,7 +88,7 @@ export class RejectedTexts {
   findBoardError(text) {
     const { engine } = this;
     const error = readWiring(engine.ask(engine.begin(), `wiring\n${sentText(text, "#")}.\n`).answers[0]);
-    return error && error.line > 0 ? createBoardError(asciiCommentsText(text, "#"), error, readManual().tables, describeRefusal) : null;
+    return error && error.line > 0 ? createBoardError(toAsciiComments(text, "#"), error, readManual().tables, describeRefusal) : null;
   }
 
   /**
@@ -118,7 +118,7 @@ export class RejectedTexts {
     if (kind === "board") return line > 0 ? null : this.findBoardError(text);
     if (number === MISSING_ROM) return this.findLineWithoutRom(text);
     if (line === 0 || number < UNKNOWN_FORM) return null;
-    const lines = asciiCommentsText(text, ";").split("\n");
+    const lines = toAsciiComments(text, ";").split("\n");
     const facts = { instructions: readManual().instructions, names: findDefinedNames(lines) };
     return createLineError(lines, { line, number }, facts, describeRefusal);
   }

@@ -14,7 +14,7 @@ import { TerminalPrompt } from "./terminal_prompt.mjs";
 /**
  * Returns the callbacks of the prompt for a program and a terminal.
  * @param {SessionProcess} program
- * @param {{ print: (words: string) => void, complain: (words: string) => void }} terminal
+ * @param {{ print: (words: string) => void, printError: (words: string) => void }} terminal
  * @returns {import("../core/prompt/bench_prompt.js").SessionPromptCallbacks}
  */
 function makePromptCalls(program, terminal) {
@@ -40,7 +40,7 @@ function makePromptCalls(program, terminal) {
       return lines;
     },
     print: (words) => terminal.print(words),
-    complain: (words) => terminal.complain(words),
+    printError: (words) => terminal.printError(words),
     read: (name) => readDecodedFile(expandTilde(name), MAX_SCRIPT_BYTES).text,
     files: completePath,
     errorsOf: async (word, text, board) => {
@@ -77,7 +77,7 @@ export async function servePrompt(word, name) {
     print(`${firstLine}\n`);
     if (firstLine.startsWith("session ")) {
       const prompt = new SessionPrompt(makePromptCalls(program, {
-        print: (words) => terminal.print(words), complain: (words) => terminal.complain(words),
+        print: (words) => terminal.print(words), printError: (words) => terminal.printError(words),
       }));
       /** @type {TerminalPrompt} */
       const terminal = new TerminalPrompt(prompt, { output: process.stderr });

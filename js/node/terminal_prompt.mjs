@@ -114,7 +114,7 @@ export class TerminalPrompt {
    * Prints an error message in red. Quoted lines are not coloured.
    * @param {string} words
    */
-  complain(words) {
+  printError(words) {
     const lines = wrapMessage(escapeControls(words), this.width).split("\n");
     const paint = this.paint(RED);
     this.output.write(`${lines.map((line) => (line.startsWith(UNWRAPPED_PREFIX) ? line : paint(line))).join("\n")}\n`);

@@ -10,7 +10,7 @@ import { TextBench } from "../core/server/text_bench.js";
 import { createBoardError } from "../core/text/board_error.js";
 import { BoardReader, readBoardText } from "../core/text/board_reader.js";
 import { completeBoard } from "../core/text/board_completion.js";
-import { commentAt } from "../core/text/sendable_text.js";
+import { findCommentStart } from "../core/text/sendable_text.js";
 import { readProjectToml } from "../core/project/project_toml.js";
 import { openExample, pageModule } from "./page_session.js";
 import { boardTables, helpForBoard, tableAt } from "../core/text/text_help.js";
@@ -160,7 +160,7 @@ test("parts that the board lacks, and lines of the wrong direction, are reported
 test("the reader reports the line of each key", () => {
   const { entries } = readBoardText(`${ROM}# a comment\n`);
   assert.deepEqual(entries[0].keys.map(({ name, line, value }) => [name, line, value.inner]), [["chip", 2, 0], ["port", 3, "iii0"]]);
-  assert.equal(commentAt('a = "#" # b', "#"), 8);
+  assert.equal(findCommentStart('a = "#" # b', "#"), 8);
 });
 
 test("the keys of a board's tables are those of the manual", () => {

@@ -157,7 +157,7 @@ before(() => {
   const capture = (text) => {
     printed = text;
   };
-  const calls = { print: capture, complain: capture, pause: async () => {}, source: () => null, isInteractive: false, view: null };
+  const calls = { print: capture, printError: capture, pause: async () => {}, source: () => null, isInteractive: false, view: null };
   prompt = new Prompt(launchResult, readPageData(), calls);
 });
 

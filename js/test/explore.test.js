@@ -406,7 +406,7 @@ test("coverage is reported with the lines that were not run", () => {
   assert.equal(new Coverage(coverage.text).text, "107");
   const createInstruction = (line, address, isBranch) => ({ line, address, isBranch });
   assert.deepEqual(coverage.summarise([createInstruction(1, 0, false), createInstruction(2, 2, true), createInstruction(3, 4, true)]),
-    { run: 2, all: 3, ways: 2, allWays: 4, unexecutedLines: [3], oneWay: [] });
+    { executed: 2, total: 3, directions: 2, allDirections: 4, unexecutedLines: [3], oneDirectionLines: [] });
 });
 
 const SAVING = "test it is lit\n  press A\n  run 400\n  save lit\n\n"

@@ -27,7 +27,7 @@ async function createPrompt({ board, program } = { board: BOARD, program: PROGRA
   };
   const calls = {
     print: (words) => printed.push(...words.split("\n")),
-    complain: (words) => printed.push(`refused: ${words}`),
+    printError: (words) => printed.push(`refused: ${words}`),
     pause: async () => {},
     source: () => PROGRAM.replace("time  = 0x0C", "time  = 0x0D"),
     read: (name) => files[name] ?? assert.fail(`cannot read ${name}`),

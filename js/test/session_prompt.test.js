@@ -44,7 +44,7 @@ function createPrompt(files = {}) {
     },
     ask: async (line) => engine.ask(state, `${line}\n`).answers,
     print: (text) => output.push(...text.split("\n").map((line) => `(${line})`)),
-    complain: (text) => output.push(...text.split("\n").map((line) => `(${line})`)),
+    printError: (text) => output.push(...text.split("\n").map((line) => `(${line})`)),
     read: (name) => {
       if (files[name] === undefined) throw new Error(`cannot read ${name}: there is no such file`);
       return files[name];

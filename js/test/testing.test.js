@@ -34,7 +34,7 @@ test("tests pass, and their coverage and profile are counted", async () => {
   assert.equal(profile.total, 2159);
   assert.deepEqual(profile.rows.map(({ label, ownCycles }) => [label, ownCycles]),
     [["turn", 2084], ["next", 60], ["wait", 8], ["first", 4], ["", 3]]);
-  assert.deepEqual(profile.rows[2].calls, { times: 4, withCalls: 2092, longest: 523 });
+  assert.deepEqual(profile.rows[2].calls, { callCount: 4, cyclesWithCalls: 2092, longestCall: 523 });
 });
 
 test("a failing test reports its line and its trace, and provides the session at the failure", async () => {

@@ -64,7 +64,8 @@ function countSimulatedCycles(frame, keys) {
     assert.ok(due >= 0, `${due} at ${now}`);
     sum += due;
     assert.ok(sum <= ((now + MAX_EARLY_MS) / 1000) * CYCLES_PER_SECOND, `ahead of its time at ${now}`);
-    assert.ok(Math.abs(time.simulatedUntil - (sum + Math.max(0, time.owed)) * (1000 / CYCLES_PER_SECOND)) < 0.001, `reached at ${now}`);
+    const expectedTime = (sum + Math.max(0, time.dueCycles)) * (1000 / CYCLES_PER_SECOND);
+    assert.ok(Math.abs(time.simulatedUntil - expectedTime) < 0.001, `reached at ${now}`);
   }
   return sum;
 }

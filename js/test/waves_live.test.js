@@ -93,7 +93,7 @@ for (const [trigger, readAround, expected] of TRIGGERS) {
     const { calls, texts } = await openSession("stopwatch", "test 0\nrun 20000\n");
     texts.values = ["r3"];
     const { live, addPart } = startRecording(calls, texts, { maxCycles: 3000, cyclesAfterTrigger: 1000, trigger });
-    for (let frame = 0; frame < 200 && live.isOn; frame++) {
+    for (let frame = 0; frame < 200 && live.isRecording; frame++) {
       const answer = calls.advance(1543);
       assert.equal(answer.stop, null);
       addPart(answer);

@@ -27,7 +27,7 @@ function createWindow(cycles, width) {
 
 test("the whole recording is visible at first, and positions correspond to moments", () => {
   const view = createWindow(1000, 500);
-  assert.deepEqual([view.xAt(0), view.xAt(1000), view.cyclesAt(250)], [0, 500, 500]);
+  assert.deepEqual([view.xAt(0), view.xAt(1000), view.timeAt(250)], [0, 500, 500]);
 });
 
 test("the moment at the zoom position stays there", () => {

@@ -93,10 +93,10 @@ export function describePropertyResult(property, report) {
  * @param {Report} report
  */
 export function coverageOf({ covered, instructions }) {
-  const { run, all, ways, allWays, unexecutedLines } = new Coverage(covered).summarise(instructions);
+  const { executed, total, directions, allDirections, unexecutedLines } = new Coverage(covered).summarise(instructions);
   return {
-    instructions: { count: run, total: all, text: `${run} of ${all} instructions were run` },
-    ways: { count: ways, total: allWays, text: `${ways} of ${allWays} branch directions` },
+    instructions: { count: executed, total, text: `${executed} of ${total} instructions were run` },
+    ways: { count: directions, total: allDirections, text: `${directions} of ${allDirections} branch directions` },
     unexecutedLines,
   };
 }

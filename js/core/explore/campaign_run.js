@@ -89,11 +89,11 @@ export class CampaignRun {
 
   /** True if no property is left to check. */
   get isDone() {
-    return this.search.openProperties.length === 0 && !this.isModelOpen;
+    return this.search.openProperties.length === 0 && !this.usesModel;
   }
 
   /** True if the search still compares the display with the model's output. */
-  get isModelOpen() {
+  get usesModel() {
     return this.model !== null && this.counterexamples[this.modelIndex] === null
       && this.unconfirmedCounts[this.modelIndex] < MAX_UNCONFIRMED;
   }
@@ -126,7 +126,7 @@ export class CampaignRun {
    */
   async runFor(milliseconds) {
     const startTime = performance.now();
-    if (this.model && this.isModelOpen && (this.timeSpent.model <= this.timeSpent.search || this.search.openProperties.length === 0)) {
+    if (this.model && this.usesModel && (this.timeSpent.model <= this.timeSpent.search || this.search.openProperties.length === 0)) {
       const confirmedViolation = await this.askModel(this.model);
       this.timeSpent.model += performance.now() - startTime;
       return confirmedViolation;

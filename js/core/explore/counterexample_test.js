@@ -112,10 +112,10 @@ class TestWriter {
   /**
    * Writes an `until` line, which requires that a condition becomes true before the time of the violation.
    * @param {string} condition the condition
-   * @param {number} since the time at which the wait for the condition starts, in cycles
+   * @param {number} waitStart the time at which the wait for the condition starts, in cycles
    */
-  writeUntil(condition, since) {
-    const from = Math.max(since, this.lastChangeTime);
+  writeUntil(condition, waitStart) {
+    const from = Math.max(waitStart, this.lastChangeTime);
     this.writeRunUntil(from);
     this.lines.push(`  until ${condition} within ${Math.max(1, this.time - from)}`);
   }

@@ -53,7 +53,7 @@ export class Conditions {
   constructor(property, places) {
     const [ownCondition, ...guards] = listConditions(property).map((condition) => (
       { condition, indexes: condition ? places.findIndexes(condition.places) : [] }));
-    this.ownCondition = ownCondition;
+    this.propertyCondition = ownCondition;
     this.guardConditions = guards;
   }
 
@@ -62,14 +62,14 @@ export class Conditions {
    * @param {string[]} values the values of all places
    */
   holds(values) {
-    return evaluateCondition(this.ownCondition, values);
+    return evaluateCondition(this.propertyCondition, values);
   }
 
   /**
    * Returns for each guard whether its condition is true.
    * @param {string[]} values
    */
-  areOpen(values) {
+  evaluateGuards(values) {
     return this.guardConditions.length === 0 ? NO_GUARDS : this.guardConditions.map((guard) => evaluateCondition(guard, values));
   }
 }

@@ -62,7 +62,7 @@ const DEFAULT_PROPERTY = {
  * @param {Condition} condition
  * @returns {Pick<Property, "condition" | "address">}
  */
-function conditionOrAddress(condition) {
+function toConditionOrAddress(condition) {
   return condition.address >= 0 ? { condition: null, address: condition.address } : { condition, address: UNSET };
 }
 
@@ -85,7 +85,7 @@ const violationWhenFalse = (_, event, { time, holds }) => (event === "values" &&
  * @returns {Property}
  */
 export function neverProperty(text, condition) {
-  return { ...DEFAULT_PROPERTY, form: "never", text, ...conditionOrAddress(condition), update: violationWhenTrue };
+  return { ...DEFAULT_PROPERTY, form: "never", text, ...toConditionOrAddress(condition), update: violationWhenTrue };
 }
 
 /**
@@ -111,9 +111,9 @@ export function neverForProperty(text, condition, limit) {
     ...DEFAULT_PROPERTY, form: "never for", text, condition, limit, createMemory: () => [UNSET],
     update: (memory, event, { time, changeTime, holds }) => {
       const [since] = memory;
-      const lastTrue = event === "values" && !holds ? changeTime - 1 : time;
+      const lastTrueTime = event === "values" && !holds ? changeTime - 1 : time;
       if (event === "reset") memory[0] = UNSET;
-      else if (since !== UNSET && lastTrue - since >= limit) return since + limit;
+      else if (since !== UNSET && lastTrueTime - since >= limit) return since + limit;
       else if (event === "values" && (since === UNSET) === holds) memory[0] = holds ? changeTime : UNSET;
       return UNSET;
     },
@@ -148,7 +148,7 @@ export function atProperty(text, condition, address) {
  */
 export function onlyAfterProperty(text, condition, keys) {
   return {
-    ...DEFAULT_PROPERTY, form: "only after", text, ...conditionOrAddress(condition), keys, createMemory: () => [0, 0, 0],
+    ...DEFAULT_PROPERTY, form: "only after", text, ...toConditionOrAddress(condition), keys, createMemory: () => [0, 0, 0],
     hasApplied: ([, , wasTrue]) => wasTrue > 0,
     newStateKey: ([pressCount]) => `${pressCount}`,
     update: (memory, event, moment) => {
@@ -229,7 +229,8 @@ export const listAddresses = ({ address, start }) => [address, start].filter((ca
  */
 export function afterPressProperty(text, key, condition, limit) {
   return {
-    ...DEFAULT_PROPERTY, form: "after press", text, ...conditionOrAddress(condition), limit, keys: [key], createMemory: () => [UNSET, 0, 0],
+    ...DEFAULT_PROPERTY, form: "after press", text, ...toConditionOrAddress(condition), limit, keys: [key],
+    createMemory: () => [UNSET, 0, 0],
     hasApplied: ([, wasAwaited]) => wasAwaited > 0,
     update: (memory, event, moment) => {
       const [since] = memory;
@@ -301,27 +302,27 @@ export const GUARDABLE_FORMS = new Set(["never", "never for", "always", "at", "a
  * guard, it is the time of the last event at which the guard was open. The memory is UNSET before a `press` or `once` guard first opens,
  * and while a `while` guard is closed.
  * @param {Guard} guard
- * @param {number} since the memory of the guard before the event
+ * @param {number} openSince the memory of the guard before the event
  * @param {Event} event
  * @param {Moment} moment
  * @param {boolean} holds true if the condition of the guard is true
  */
-function updateGuard({ kind, key }, since, event, { time, input }, holds) {
+function updateGuard({ kind, key }, openSince, event, { time, input }, holds) {
   if (event === "reset") return UNSET;
-  if (kind === "press") return event === "down" && input === key ? time : since;
-  if (event !== "values" && event !== "label" && event !== "down") return since;
-  if (kind === "once") return since === UNSET && holds ? time : since;
+  if (kind === "press") return event === "down" && input === key ? time : openSince;
+  if (event !== "values" && event !== "label" && event !== "down") return openSince;
+  if (kind === "once") return openSince === UNSET && holds ? time : openSince;
   return holds ? time : UNSET;
 }
 
 /**
  * Returns the last cycle at which a guard is open; Infinity without a limit; UNSET if the guard has not opened.
  * @param {Guard} guard
- * @param {number} since the memory of the guard
+ * @param {number} openSince the memory of the guard
  */
-function findLastOpenCycle({ kind, limit }, since) {
-  if (since === UNSET) return UNSET;
-  return kind === "press" && limit > 0 ? since + limit : Infinity;
+function findLastOpenCycle({ kind, limit }, openSince) {
+  if (openSince === UNSET) return UNSET;
+  return kind === "press" && limit > 0 ? openSince + limit : Infinity;
 }
 
 /**
@@ -357,10 +358,10 @@ export function guardedProperty(text, property, guards) {
     hasApplied: (memory) => memory[originalStart - 1] > 0 && property.hasApplied(memory.slice(originalStart)),
     update: (memory, event, moment) => {
       const originalMemory = memory.slice(originalStart);
-      const lastOpen = Math.min(...guards.map((guard, index) => findLastOpenCycle(guard, memory[index])));
+      const lastOpenCycle = Math.min(...guards.map((guard, index) => findLastOpenCycle(guard, memory[index])));
       // When a guard closes, the condition no longer counts as true.
-      const hasClosed = property.form === "never for" && lastOpen < moment.time && lastOpen !== UNSET;
-      const closingMoment = { ...moment, time: lastOpen + 1, changeTime: lastOpen + 1, holds: false };
+      const hasClosed = property.form === "never for" && lastOpenCycle < moment.time && lastOpenCycle !== UNSET;
+      const closingMoment = { ...moment, time: lastOpenCycle + 1, changeTime: lastOpenCycle + 1, holds: false };
       let violationTime = hasClosed ? property.update(originalMemory, "values", closingMoment) : UNSET;
       guards.forEach((guard, index) => {
         memory[index] = updateGuard(guard, memory[index], event, moment, moment.areOpen[index] === true);
@@ -388,7 +389,7 @@ export function modelProperty(text) {
  * @param {number[]} memory
  * @param {Event} event
  */
-function countCalls(memory, event) {
+function updateOpenCalls(memory, event) {
   if (event === "reset") memory[0] = 0;
   else if (event === "call") memory[0] += 1;
   else if (event === "return") memory[0] -= 1;
@@ -404,14 +405,14 @@ export function standardProperties() {
     {
       ...DEFAULT_PROPERTY, form: "calls", text: say.NO_FOURTH_CALL, createMemory: () => [0],
       update: (memory, event, { time }) => {
-        countCalls(memory, event);
+        updateOpenCalls(memory, event);
         return memory[0] > MAX_OPEN_CALLS ? time : UNSET;
       },
     },
     {
       ...DEFAULT_PROPERTY, form: "returns", text: say.NO_LONE_RETURN, createMemory: () => [0],
       update: (memory, event, { time }) => {
-        countCalls(memory, event);
+        updateOpenCalls(memory, event);
         // The property `calls` reports a fourth call. The return from that call does not count as a return without a call.
         memory[0] = Math.min(memory[0], MAX_OPEN_CALLS);
         return memory[0] < 0 ? time : UNSET;

@@ -156,10 +156,12 @@ function formatLineNumbers(lines) {
  * @param {Report} report
  */
 export function formatCoverage({ covered, instructions }) {
-  const { run, all, ways, allWays, unexecutedLines, oneWay } = new Coverage(covered).summarise(instructions);
-  const lines = [say.covered(say.partOfTotal(run, all), say.partOfTotal(ways, allWays))];
+  const {
+    executed, total, directions, allDirections, unexecutedLines, oneDirectionLines,
+  } = new Coverage(covered).summarise(instructions);
+  const lines = [say.covered(say.partOfTotal(executed, total), say.partOfTotal(directions, allDirections))];
   if (unexecutedLines.length > 0) lines.push(say.neverRun(formatLineNumbers(unexecutedLines)));
-  if (oneWay.length > 0) lines.push(say.alwaysOneWay(formatLineNumbers(oneWay)));
+  if (oneDirectionLines.length > 0) lines.push(say.alwaysOneWay(formatLineNumbers(oneDirectionLines)));
   return lines;
 }
 

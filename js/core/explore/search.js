@@ -101,7 +101,7 @@ export class Search {
       form === "calls" ? [min] : form === "returns" ? [max] : createMemory(checkStart, downInputs.length)));
     if (checkStart > 0) {
       subject.engine.serve(file, runLines(checkStart), file);
-      this.countCalls(memories);
+      this.setCallMemories(memories);
     }
     return { file, time: checkStart, downInputs, memories };
   }
@@ -110,7 +110,7 @@ export class Search {
    * Sets the memories of the call properties to the number of calls that have not returned in the start state.
    * @param {number[][]} memories
    */
-  countCalls(memories) {
+  setCallMemories(memories) {
     const { watcher, campaign: { checkStart }, subject: { file } } = this;
     /** @type {WalkStep[]} */
     const steps = [];
@@ -297,7 +297,7 @@ export class Search {
     const snapshot = {
       notedValues: this.notedIndexes.map((at) => values[at]).join(" "),
       holds: this.conditions.map((condition) => condition.holds(values)),
-      areOpen: this.conditions.map((condition) => condition.areOpen(values)),
+      areOpen: this.conditions.map((condition) => condition.evaluateGuards(values)),
     };
     if (this.snapshots.size >= MAX_SNAPSHOTS) this.snapshots.clear();
     this.snapshots.set(row, snapshot);

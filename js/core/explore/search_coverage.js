@@ -49,19 +49,20 @@ export class Coverage {
   }
 
   /**
-   * Returns the numbers of executed instructions (`run`) and of all instructions (`all`), and the numbers of executed branch directions
-   * (`ways`) and of all branch directions (`allWays`). `unexecutedLines` are the lines that were not executed. `oneWay` are the lines whose
-   * branch always went in the same direction.
+   * Returns the numbers of executed instructions (`executed`) and of all instructions (`total`), and the numbers of executed branch
+   * directions (`directions`) and of all branch directions (`allDirections`). `unexecutedLines` are the lines that were not executed.
+   * `oneDirectionLines` are the lines whose branch always went in the same direction.
    * @param {Instruction[]} instructions
    */
   summarise(instructions) {
     const unexecutedLines = instructions.filter(({ address }) => !(this.flags[address] & STARTED)).map(({ line }) => line);
-    const forks = instructions.filter(({ isBranch }) => isBranch);
-    const oneWay = forks.filter(({ address }) => (this.flags[address] & STARTED) && (this.flags[address] & (JUMPED | CONTINUED)) !== 6)
+    const branches = instructions.filter(({ isBranch }) => isBranch);
+    const oneDirectionLines = branches
+      .filter(({ address }) => (this.flags[address] & STARTED) && (this.flags[address] & (JUMPED | CONTINUED)) !== 6)
       .map(({ line }) => line);
-    const ways = forks.reduce((sum, { address }) => sum + Number((this.flags[address] & JUMPED) > 0)
+    const directions = branches.reduce((sum, { address }) => sum + Number((this.flags[address] & JUMPED) > 0)
       + Number((this.flags[address] & CONTINUED) > 0), 0);
-    const run = instructions.length - unexecutedLines.length;
-    return { run, all: instructions.length, ways, allWays: 2 * forks.length, unexecutedLines, oneWay };
+    const executed = instructions.length - unexecutedLines.length;
+    return { executed, total: instructions.length, directions, allDirections: 2 * branches.length, unexecutedLines, oneDirectionLines };
   }
 }

@@ -47,10 +47,10 @@ export function createSubject(engine, boardText, programText, linesBefore = 0) {
   const program = sentText(programText, ";");
   const lines = `wire\n${sentText(boardText, "#")}.\nasm\n${program}.\nboard\nmap\n${program}.\n`;
   const { answers } = engine.serve(file, lines, file);
-  const [wired, loaded, board, map] = matchAnswers(readInputs(lines), answers);
-  const boardRefusal = parseRefusal(wired[0]);
+  const [wireAnswers, loadAnswers, board, map] = matchAnswers(readInputs(lines), answers);
+  const boardRefusal = parseRefusal(wireAnswers[0]);
   if (boardRefusal) throw new RejectedTextError("board", boardRefusal);
-  const programRefusal = parseRefusal(loaded[0]) || parseRefusal(map[0]);
+  const programRefusal = parseRefusal(loadAnswers[0]) || parseRefusal(map[0]);
   if (programRefusal) throw new RejectedTextError("program", programRefusal);
   const source = new SourceMap(map, programText);
   const codes = romCodes(engine, file);

@@ -192,7 +192,7 @@ class Walk {
       if (event === "label" && ownLabel !== address && start !== address) continue;
       const needsConditions = event === "values" || event === "label";
       const holds = needsConditions && conditions[at].holds(values);
-      const areOpen = needsConditions || event === "down" ? conditions[at].areOpen(values) : NO_GUARDS;
+      const areOpen = needsConditions || event === "down" ? conditions[at].evaluateGuards(values) : NO_GUARDS;
       const moment = { time, changeTime, address, holds, areOpen, input, downCount: this.downInputs.length };
       const violationTime = update(this.memories[at], event, moment);
       const isFirst = violationTime >= 0 && (!this.firstViolation || violationTime < this.firstViolation.time);

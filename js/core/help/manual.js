@@ -58,10 +58,10 @@ export function sectionRows(manual, title) {
 export function searchManual(manual, query) {
   const words = query.toLowerCase().split(/\s+/).filter((word) => word !== "");
   /** @type {(text: string) => boolean} */
-  const hasAll = (text) => words.every((word) => text.toLowerCase().includes(word));
+  const hasAllWords = (text) => words.every((word) => text.toLowerCase().includes(word));
   return manual.map((section) => {
-    if (hasAll(section.title)) return section;
-    const tables = section.tables.map((table) => ({ ...table, rows: table.rows.filter((row) => hasAll(cellText(row.join(" ")))) }));
+    if (hasAllWords(section.title)) return section;
+    const tables = section.tables.map((table) => ({ ...table, rows: table.rows.filter((row) => hasAllWords(cellText(row.join(" ")))) }));
     return { ...section, tables: tables.filter(({ rows }) => rows.length > 0) };
   }).filter(({ tables }) => tables.length > 0);
 }

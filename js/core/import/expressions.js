@@ -1,7 +1,7 @@
 // Evaluates expressions in the syntax of Intel's assembler and of the AS macro assembler. They contain names, numbers, parentheses and the
 // operators + - * / and &. The prefixes < and > select the low and the high byte. As an operand, $ or * is the address of the line.
 
-import { upperCase } from "./source_lines.js";
+import { toAsciiUpperCase } from "./source_lines.js";
 import * as say from "../../words/import.js";
 
 /**
@@ -215,7 +215,7 @@ class Evaluation {
    */
   parseName(spelling) {
     this.at += spelling.length;
-    const name = upperCase(spelling);
+    const name = toAsciiUpperCase(spelling);
     const value = this.names.valueOf(name);
     if (!this.names.isDefined(name)) this.fail(say.noNameMessage(spelling));
     else if (value === undefined) this.isKnown = false;

@@ -6,7 +6,7 @@ import { MAX_NAME_LENGTH } from "../text/assembly.js";
 import { evaluate, isAscii } from "./expressions.js";
 import {
   BYTE_DIRECTIVES, MAX_CODE_LENGTH, INSTRUCTIONS_OF_4040, OPERAND_KINDS, PROGRAM_RAM_MNEMONIC, COMMENTED_DIRECTIVES, RESERVE_DIRECTIVES,
-  UNSUPPORTED_DIRECTIVES, upperCase, splitList, quotedCharacters, readSource, trimBlanks,
+  UNSUPPORTED_DIRECTIVES, toAsciiUpperCase, splitList, quotedCharacters, readSource, trimBlanks,
 } from "./source_lines.js";
 import * as say from "../../words/import.js";
 
@@ -85,7 +85,7 @@ class ProgramImport {
     let passes = MAX_PASSES;
     // The value of a name can depend on later lines, so the passes continue until no value changes.
     while (passes > 0 && this.computeValues()) passes -= 1;
-    return this.lines.map((line, at) => this.attemptLine(at + 1, () => this.outputLine(line), ""));
+    return this.lines.map((line, at) => this.attemptLine(at + 1, () => this.formatOutputLine(line), ""));
   }
 
   /**
@@ -116,7 +116,7 @@ class ProgramImport {
     this.attemptLine(number, () => {
       if (isLong) throw new LineError(say.longLine(MAX_CODE_LENGTH));
       if (label === "") return;
-      const name = upperCase(label);
+      const name = toAsciiUpperCase(label);
       const definingLine = this.definingLines.get(name);
       if (definingLine !== undefined) throw new LineError(say.definedTwice(label, definingLine));
       this.definingLines.set(name, number);
@@ -133,7 +133,7 @@ class ProgramImport {
     const nextNumbers = new Map();
     for (const [name, line] of this.definingLines) {
       const plainLabel = this.lines[line - 1].label.replace(/[^A-Za-z0-9_]/g, "_").replace(/^(?=[0-9])/, "_");
-      const isReserved = OPERAND_KINDS.has(upperCase(plainLabel)) || RESERVED_WORD.test(upperCase(plainLabel));
+      const isReserved = OPERAND_KINDS.has(toAsciiUpperCase(plainLabel)) || RESERVED_WORD.test(toAsciiUpperCase(plainLabel));
       const base = (isReserved ? `${plainLabel}_` : plainLabel).slice(0, MAX_NAME_LENGTH);
       let spelling = base;
       for (let number = nextNumbers.get(base) || 2; usedSpellings.has(spelling); number++) {
@@ -161,7 +161,7 @@ class ProgramImport {
     let [at, hasChanged] = [0, false];
     for (const line of this.lines) {
       const { value, isKnown } = line.word === "EQU" ? this.evaluateText(line.operand, at) : { value: at, isKnown: true };
-      const name = upperCase(line.label);
+      const name = toAsciiUpperCase(line.label);
       if (name !== "" && isKnown && this.values.get(name) !== value) {
         this.values.set(name, value);
         hasChanged = true;
@@ -195,7 +195,7 @@ class ProgramImport {
    * Returns the output line with its comment. Throws LineError if the line cannot be converted.
    * @param {SourceLine} line
    */
-  outputLine(line) {
+  formatOutputLine(line) {
     const { text, label, word, comment } = line;
     this.originalTexts = [];
     let output = "";
@@ -215,11 +215,11 @@ class ProgramImport {
    * @param {SourceLine} line
    */
   formatStatementLine({ label, word, operand }) {
-    const name = this.names.get(upperCase(label)) || "";
+    const name = this.names.get(toAsciiUpperCase(label)) || "";
     if (word === "EQU") return `${name} = ${this.convertExpression(operand, { to: LAST_ADDRESS, isNumber: true })}`;
     const statement = this.convertStatement(word, operand);
-    const mark = name === "" ? "" : `${name}:`;
-    return statement === "" ? mark : padToColumn(mark, COLUMNS.statement) + statement;
+    const labelText = name === "" ? "" : `${name}:`;
+    return statement === "" ? labelText : padToColumn(labelText, COLUMNS.statement) + statement;
   }
 
   /**
@@ -316,7 +316,7 @@ class ProgramImport {
     // A negative number becomes its two's complement.
     const number = modulus > 0 && value < 0 && value >= -modulus / 2 ? value + modulus : value;
     if (!(number >= from && number <= to)) throw new LineError(say.outOfRange(text, number, from, to));
-    if (NAME.test(text) && !isNumber) return this.names.get(upperCase(text)) || "";
+    if (NAME.test(text) && !isNumber) return this.names.get(toAsciiUpperCase(text)) || "";
     if (!PLAIN_NUMBER.test(text)) this.originalTexts.push(text);
     if (/^[0-9]+$/.test(text) || to < NIBBLE_VALUES || (isNumber && number < 10)) return String(number);
     return `0x${hex(number, number > BYTE_VALUES - 1 || (to > BYTE_VALUES - 1 && !isNumber) ? 3 : 2)}`;
@@ -327,7 +327,7 @@ class ProgramImport {
    * @param {string} text
    */
   convertRegister(text) {
-    const word = upperCase(text);
+    const word = toAsciiUpperCase(text);
     if (/^R([0-9]|1[0-5])$/.test(word) && !this.definingLines.has(word)) return word;
     // A name can be defined as a register, as in `COUNT EQU R5`.
     return `R${this.convertExpression(text, { to: NIBBLE_VALUES - 1, isNumber: true })}`;
@@ -338,7 +338,7 @@ class ProgramImport {
    * @param {string} text
    */
   convertPair(text) {
-    const word = upperCase(text);
+    const word = toAsciiUpperCase(text);
     const [, number] = /^([0-7])P$/.exec(word) || /^R?P([0-7])$/.exec(word) || [];
     if (number !== undefined) return `P${number}`;
     const [, first = "", mark = ""] = /^R([0-9]+)(?:R[0-9]+|P)$/.exec(word) || /^([0-9]+)(<)$/.exec(word) || [];
@@ -355,7 +355,7 @@ class ProgramImport {
    * @param {string} text
    */
   convertCondition(text) {
-    const word = upperCase(text);
+    const word = toAsciiUpperCase(text);
     if (this.definingLines.has(word)) return this.convertExpression(text, { to: NIBBLE_VALUES - 1 });
     const knownNumber = CONDITIONS.get(word);
     if (knownNumber !== undefined) return String(knownNumber);

@@ -59,7 +59,7 @@ const NAMED_DEFINITION = new RegExp(`^(${NAME})[ \\t]*(?:=|[ \\t]EQU[ \\t]|[ \\t
  * Converts the ASCII letters in a text to upper case.
  * @param {string} text
  */
-export function upperCase(text) {
+export function toAsciiUpperCase(text) {
   return text.replace(/[a-z]+/g, (letters) => letters.toUpperCase());
 }
 
@@ -75,7 +75,7 @@ export function trimBlanks(text) {
  * Returns the column at which a comment starts, -1 for none. `/` starts a comment only at the start of the line or after a blank.
  * @param {string} line
  */
-function commentAt(line) {
+function findCommentStart(line) {
   let quote = "";
   for (let at = 0; at < line.length; at++) {
     const character = line[at];
@@ -94,7 +94,7 @@ function commentAt(line) {
 function splitComment(text) {
   if (/^[*/]/.test(text)) return { code: "", comment: text.slice(1) };
   const lineStart = text.slice(0, MAX_CODE_LENGTH + 1);
-  const commentStart = commentAt(lineStart);
+  const commentStart = findCommentStart(lineStart);
   const code = commentStart < 0 ? lineStart : lineStart.slice(0, commentStart);
   const isComplete = commentStart >= 0 || lineStart.length <= MAX_CODE_LENGTH;
   return { code: isComplete ? code.replace(/[ \t]+$/, "") : code, comment: commentStart < 0 ? "" : text.slice(commentStart + 1) };
@@ -110,7 +110,7 @@ function splitLabel(line) {
   if (markedLabel) return { label: markedLabel[1], code: trimBlanks(line.slice(markedLabel[0].length)) };
   const [first = ""] = FIRST_NAME.exec(line) || [];
   const code = trimBlanks(line.slice(first.length));
-  const isLabel = first !== "" && !NON_LABEL_WORDS.some((names) => names.has(upperCase(first))) && !code.startsWith("=");
+  const isLabel = first !== "" && !NON_LABEL_WORDS.some((names) => names.has(toAsciiUpperCase(first))) && !code.startsWith("=");
   return isLabel ? { label: first, code } : { label: "", code: trimBlanks(line) };
 }
 
@@ -128,7 +128,7 @@ function splitStatement(label, code) {
   const namedDefinition = label === "" ? NAMED_DEFINITION.exec(code) : null;
   if (namedDefinition) return { label: namedDefinition[1], word: "EQU", operand: trimBlanks(code.slice(namedDefinition[0].length)) };
   const [word] = /^[^ \t]+/.exec(code) || [""];
-  return { label, word: upperCase(word), operand: trimBlanks(code.slice(word.length)) };
+  return { label, word: toAsciiUpperCase(word), operand: trimBlanks(code.slice(word.length)) };
 }
 
 /**

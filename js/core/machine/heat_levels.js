@@ -149,10 +149,10 @@ export function describeChangesWhileRunning(cell, map) {
 /**
  * Returns the status line of the heat map while the session runs.
  * @param {ChipHeat} heat
- * @param {boolean} isAll true if the worker counts the changes in all cycles, false if it counts samples
+ * @param {boolean} countsAllCycles true if the worker counts the changes in all cycles, false if it counts samples
  */
-export function describeHeatStatus({ chipCount }, isAll) {
-  return say.heatCounted(chipCount, isAll);
+export function describeHeatStatus({ chipCount }, countsAllCycles) {
+  return say.heatCounted(chipCount, countsAllCycles);
 }
 
 /**

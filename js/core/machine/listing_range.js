@@ -40,7 +40,7 @@ export function listingStarts({ from, anchor }, rows) {
  * @param {Goal} goal
  * @param {number} rows
  */
-export function linesNeeded(start, { from, anchor }, rows) {
+export function countLinesNeeded(start, { from, anchor }, rows) {
   return Math.min(MAX_LISTING_LINES, Math.max(from, anchor || 0) - start + rows);
 }
 

@@ -2,7 +2,7 @@
 
 import { readListing } from "../bench/answers.js";
 import { joinLines, matchAnswers, readInputs } from "../bench/inputs.js";
-import { listingStarts, hasLineAt, linesNeeded } from "./listing_range.js";
+import { listingStarts, hasLineAt, countLinesNeeded } from "./listing_range.js";
 
 /**
  * @typedef {import("../bench/answers.js").ListingLine} ListingLine
@@ -24,7 +24,7 @@ export class ListingReader {
     /** @type {ListingLine[]} */
     let lines = [];
     for (const start of listingStarts(goal, rows)) {
-      lines = await this.list(start, linesNeeded(start, goal, rows));
+      lines = await this.list(start, countLinesNeeded(start, goal, rows));
       if (hasLineAt(lines, goal.anchor)) break;
     }
     return lines;

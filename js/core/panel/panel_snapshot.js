@@ -96,8 +96,8 @@ export class PanelSnapshot {
   async refresh(rows) {
     const banks = new Set(this.listVisibleChips(rows).map(({ bank }) => bank));
     const showsBrightness = rows > 0 && !this.panel.isPaused && this.panel.subject.board.lamps.length > 0;
-    const questions = `${joinLines(["state", ...[...banks].map((bank) => `ram ${bank}`)])}${showsBrightness ? LAMPS_FORECAST_QUERY : ""}`;
-    const answers = matchAnswers(readInputs(questions), await this.panel.ask(questions));
+    const queries = `${joinLines(["state", ...[...banks].map((bank) => `ram ${bank}`)])}${showsBrightness ? LAMPS_FORECAST_QUERY : ""}`;
+    const answers = matchAnswers(readInputs(queries), await this.panel.ask(queries));
     this.storeState(answers[0][0]);
     this.storeRam(answers.slice(1, 1 + banks.size));
     const { face, board } = this.panel.subject;

@@ -49,13 +49,13 @@ const makePlainPiece = (text) => ({ text, colour: "", level: 0 });
  * @param {number} width
  */
 function fitToWidth(pieces, width) {
-  let remaining = width;
+  let remainingWidth = width;
   const cutPieces = pieces.map((piece) => {
-    const text = [...piece.text].slice(0, remaining).join("");
-    remaining -= [...text].length;
+    const text = [...piece.text].slice(0, remainingWidth).join("");
+    remainingWidth -= [...text].length;
     return { ...piece, text };
   });
-  return remaining > 0 ? [...cutPieces, makePlainPiece(" ".repeat(remaining))] : cutPieces;
+  return remainingWidth > 0 ? [...cutPieces, makePlainPiece(" ".repeat(remainingWidth))] : cutPieces;
 }
 
 /**
@@ -178,8 +178,8 @@ export class Screen {
     const rowInChip = row % CHIP_ROWS;
     if (!chip) return "";
     if (rowInChip === CHIP_ROWS - 1) {
-      const out = snapshot.ram.ports.get(chip.name);
-      return out === undefined ? "" : say.portOf(chip.name, out);
+      const portValue = snapshot.ram.ports.get(chip.name);
+      return portValue === undefined ? "" : say.portOf(chip.name, portValue);
     }
     const register = snapshot.ram.registers.get(`${chip.name}.${rowInChip}`);
     return register ? `${chip.name}.${rowInChip} ${register.characters} ${register.status}` : "";
@@ -242,8 +242,8 @@ export class Screen {
     const lines = printoutLines(printout, face.printer.words).map(escapeControls);
     const count = Math.max(MIN_PRINTOUT_ROWS, freeRows);
     const head = count > MIN_PRINTOUT_ROWS ? [say.PRINTOUT_TITLE] : [];
-    const last = lines.slice(-(count - head.length));
-    return [...head, ...last, ...Array(count - head.length - last.length).fill("")];
+    const lastLines = lines.slice(-(count - head.length));
+    return [...head, ...lastLines, ...Array(count - head.length - lastLines.length).fill("")];
   }
 }
 

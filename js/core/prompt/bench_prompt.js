@@ -37,7 +37,7 @@ import * as say from "../../words/session_prompt.js";
  *   Resolves to the first answer line, or "".
  * @property {(line: string) => Promise<string[]>} ask Resolves to the answers to a line. Does not print them.
  * @property {(words: string) => void} print Prints a message on standard output.
- * @property {(words: string) => void} complain Prints a message on standard error.
+ * @property {(words: string) => void} printError Prints a message on standard error.
  * @property {(name: string) => string} read Returns the text of a file; throws an error with the reason if it cannot be read.
  * @property {(prefix: string) => string[]} files Returns the file names that start with a prefix.
  * @property {(word: TextWord, text: string, board: string) => Promise<TextError[]>} errorsOf Resolves to all errors in a rejected text. For
@@ -103,7 +103,7 @@ export class SessionPrompt {
       return await (this.openText ? this.addTextLine(line, this.openText) : this.handleLine(line));
     } catch (error) {
       if (!(error instanceof RejectedLine)) throw error;
-      this.sources.complain(error.message);
+      this.sources.printError(error.message);
       return false;
     }
   }
@@ -157,7 +157,7 @@ export class SessionPrompt {
   async serve(line) {
     const refusal = parseRefusal(await this.callbacks.serve(`${line}\n`));
     if (!refusal) return true;
-    this.sources.complain(await this.explainRefusal(line, refusal));
+    this.sources.printError(await this.explainRefusal(line, refusal));
     return false;
   }
 
@@ -216,7 +216,7 @@ export class SessionPrompt {
    */
   reportTextErrors(errors, text, { name, linesBefore }) {
     const lines = text.split("\n");
-    this.callbacks.complain(errors.flatMap(({ line, words }) => {
+    this.callbacks.printError(errors.flatMap(({ line, words }) => {
       const sourceText = line > 0 ? [`    ${(lines[line - 1] || "").slice(0, MAX_SHOWN_CHARACTERS)}`] : [];
       return [say.errorInText(name, line > 0 ? line + linesBefore : 0, words), ...sourceText];
     }).join("\n"));

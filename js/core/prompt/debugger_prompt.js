@@ -34,10 +34,10 @@ import { stoppedAt } from "../../words/stops.js";
  */
 
 /**
- * The callbacks of the debugger's prompt. `source FILE` also uses `complain` and `read`.
+ * The callbacks of the debugger's prompt. `source FILE` also uses `printError` and `read`.
  * @typedef {object} PromptCallbacks
  * @property {(words: string) => void} print Prints a message on standard output.
- * @property {(words: string) => void} complain Prints a message on standard error.
+ * @property {(words: string) => void} printError Prints a message on standard error.
  * @property {() => Promise<void>} pause Yields to other tasks, such as the handler of Ctrl-C.
  * @property {() => string | null} source Returns the current text of the program file; null if the program has no file.
  * @property {(name: string) => string} read Returns the text of a file; throws an error with the reason if it cannot be read.
@@ -152,7 +152,7 @@ export class Prompt {
    * @param {"console" | "stdout" | "stderr"} category
    */
   output(text, category) {
-    if (category === "stderr") this.sources.complain(text.trimEnd());
+    if (category === "stderr") this.sources.printError(text.trimEnd());
     // This method ignores the message about a move that did nothing, because `makeMove` reports the same message.
     else if (!text.startsWith(say.NOTHING_DONE)) this.callbacks.print(text.trimEnd());
   }
@@ -187,7 +187,7 @@ export class Prompt {
       else if (line !== "" && !line.startsWith("#")) await this.runCommand(line);
       return true;
     } catch (error) {
-      if (!(error instanceof ReportedError)) this.sources.complain(error instanceof Error ? error.message : String(error));
+      if (!(error instanceof ReportedError)) this.sources.printError(error instanceof Error ? error.message : String(error));
       return false;
     }
   }

@@ -140,14 +140,14 @@ export class InspectCommands {
   printMemory(argumentText) {
     const { callbacks, session } = this.prompt;
     const [, count = "", place = ""] = /^(?:\/(\d*)[a-z]?)?\s*(.*)$/.exec(argumentText) || [];
-    const countShown = parseCountArgument(count, MAX_EXAMINED_COUNT);
+    const shownCount = parseCountArgument(count, MAX_EXAMINED_COUNT);
     if (/^ram[. ]/i.test(place)) {
       const { name } = parsePlace(place) || { name: place };
-      return callbacks.print(stateText.formatNibbles(session, name, countShown));
+      return callbacks.print(stateText.formatNibbles(session, name, shownCount));
     }
     const address = place === "" ? session.address : parseAddress(place, session);
     if (address === undefined || address > LAST_ADDRESS) return rejectCommand(say.noPlaceOfMemoryMessage(place));
-    return callbacks.print(stateText.formatCode(session, address, countShown));
+    return callbacks.print(stateText.formatCode(session, address, shownCount));
   }
 
   /**
@@ -210,8 +210,8 @@ export class InspectCommands {
   formatInfo(argumentText) {
     const [, word = "", argument = ""] = /^(\S*)\s*(.*)$/.exec(argumentText) || [];
     const matchingKinds = INFO_WORDS.filter((kind) => word !== "" && kind.startsWith(word));
-    const [onlyKind] = matchingKinds.length === 1 ? matchingKinds : [""];
-    const kind = INFO_ABBREVIATIONS.get(word) || onlyKind || rejectCommand(say.infoShows(INFO_WORDS.join(", ")));
+    const [matchingKind] = matchingKinds.length === 1 ? matchingKinds : [""];
+    const kind = INFO_ABBREVIATIONS.get(word) || matchingKind || rejectCommand(say.infoShows(INFO_WORDS.join(", ")));
     if (argument !== "" && !/^(line|symbol)$/.test(kind)) rejectCommand(say.infoTakesNoArgument(kind));
     return this.infoTexts[kind](argument);
   }

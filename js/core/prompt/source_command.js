@@ -15,8 +15,8 @@ const MAX_NESTING = 8;
 export class SourceCommand {
   /**
    * @param {LineServer} server
-   * @param {{ read: (name: string) => string, complain: (words: string) => void }} callbacks `read` returns the text of a file,
-   *   and throws an error if it cannot read the file; `complain` prints an error message
+   * @param {{ read: (name: string) => string, printError: (words: string) => void }} callbacks `read` returns the text of a file,
+   *   and throws an error if it cannot read the file; `printError` prints an error message
    */
   constructor(server, callbacks) {
     this.server = server;
@@ -34,8 +34,8 @@ export class SourceCommand {
    * Reports an error. For an error in a file, adds the file and the line.
    * @param {string} message
    */
-  complain(message) {
-    this.callbacks.complain(this.file ? say.errorInFile(this.file.name, this.file.lineNumber, message) : message);
+  printError(message) {
+    this.callbacks.printError(this.file ? say.errorInFile(this.file.name, this.file.lineNumber, message) : message);
   }
 
   /**
@@ -55,9 +55,9 @@ export class SourceCommand {
       isDone = await this.server.enterLine(line);
       if (!isDone || this.server.isEnded) break;
     }
-    const dropMessage = this.server.discardUnfinished();
+    const discardMessage = this.server.discardUnfinished();
     this.files.pop();
-    if (isDone && dropMessage !== "" && !this.server.isEnded) throw new Error(say.endsTooSoon(name, dropMessage));
+    if (isDone && discardMessage !== "" && !this.server.isEnded) throw new Error(say.endsTooSoon(name, discardMessage));
     return isDone;
   }
 }

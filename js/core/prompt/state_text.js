@@ -201,8 +201,8 @@ export function formatNibbles(session, text, count) {
   if (bank === undefined || !(first <= 255)) rejectCommand(say.noPlaceOfRamMessage(text));
   const state = readState(session);
   const values = indices(Math.min(count, 256 - first)).map((offset) => state.character(Number(bank), first + offset));
-  const firstMissing = values.findIndex((value) => value === "");
-  if (firstMissing === 0) rejectCommand(say.noRamAtMessage(text));
-  const presentValues = firstMissing < 0 ? values : values.slice(0, firstMissing);
+  const missingIndex = values.findIndex((value) => value === "");
+  if (missingIndex === 0) rejectCommand(say.noRamAtMessage(text));
+  const presentValues = missingIndex < 0 ? values : values.slice(0, missingIndex);
   return `ram.${bank}.0x${hex(first, 2)}  ${presentValues.join("")}`;
 }

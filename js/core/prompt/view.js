@@ -78,15 +78,15 @@ export class View {
     this.readRegisters();
     const isWide = columns >= WIDE_COLUMNS;
     const registers = isWide ? this.formatRegistersBeside(changedValue) : this.formatRegistersBelow(columns, changedValue);
-    const below = [...(isWide ? [] : registers), ...this.formatBoardLines(columns)];
-    const height = Math.max(1, rows - 2 - below.length);
+    const linesBelow = [...(isWide ? [] : registers), ...this.formatBoardLines(columns)];
+    const height = Math.max(1, rows - 2 - linesBelow.length);
     const width = isWide ? columns - SIDE_COLUMNS : columns;
     const bodyLines = this.listSourceLines(height).map((line, at) => {
       const text = cutText(line, width);
       const shownText = line.startsWith(">") ? nextInstruction(text) : text;
       return isWide && registers[at] ? `${shownText}${" ".repeat(width - text.length)}  ${registers[at]}` : shownText;
     });
-    return [head(this.formatHeadLine(columns)), ...bodyLines, ...below, "-".repeat(columns)].slice(0, rows);
+    return [head(this.formatHeadLine(columns)), ...bodyLines, ...linesBelow, "-".repeat(columns)].slice(0, rows);
   }
 
   /** Reads the registers. If the cycle count has changed since the last call, first stores their last values as `previousValues`. */

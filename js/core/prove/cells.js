@@ -70,8 +70,8 @@ function createCounterField() {
       const [first, last] = [Math.max(low, page * PAGE_BYTES), Math.min(high, page * PAGE_BYTES + PAGE_BYTES - 1)];
       if (first > last) return [];
       const { page: pageCell, word: wordCell } = COUNTER_CELLS;
-      const isInPage = formatComparison("counter", pageCell, page, page);
-      return [[isInPage, formatComparison("counter", wordCell, first % PAGE_BYTES, last % PAGE_BYTES)]];
+      const pageComparison = formatComparison("counter", pageCell, page, page);
+      return [[pageComparison, formatComparison("counter", wordCell, first % PAGE_BYTES, last % PAGE_BYTES)]];
     }),
   };
 }
@@ -83,11 +83,11 @@ function createCounterField() {
  * @returns {Field}
  */
 function createRomField(name, { chip, port }) {
-  const inputs = [...port].reduce((sum, mark, at) => sum + (mark === "i" ? 2 ** (3 - at) : 0), 0);
-  const possibleLevels = indices(NIBBLES).filter((levels) => (levels & ~inputs) === 0);
+  const inputMask = [...port].reduce((sum, mark, at) => sum + (mark === "i" ? 2 ** (3 - at) : 0), 0);
+  const possibleLevels = indices(NIBBLES).filter((levels) => (levels & ~inputMask) === 0);
   return {
     name, count: NIBBLES,
-    texts: (number) => ((number & inputs) === 0 ? possibleLevels.map((levels) => hex(number | levels, 1)) : []),
+    texts: (number) => ((number & inputMask) === 0 ? possibleLevels.map((levels) => hex(number | levels, 1)) : []),
     between: (low, high) => [[formatComparison("romport", Number(chip), low, high)]],
   };
 }

@@ -35,7 +35,7 @@ class UndecidedField extends Error {
 }
 
 /** Returns whether two results are equal. */
-function areSameResults(/** @type {Result} */ one, /** @type {Result} */ other) {
+function areResultsEqual(/** @type {Result} */ one, /** @type {Result} */ other) {
   return typeof one === "boolean" ? one === other : JSON.stringify(one) === JSON.stringify(other);
 }
 
@@ -94,12 +94,12 @@ class Evaluation {
       const text = this.readField(outputLineField(lines[index], this.board), lines[index]);
       return marks[Number(text)];
     };
-    const eachMark = function* readMarks() {
+    const iterateMarks = function* readMarks() {
       for (const at of lines.keys()) yield readMark(at);
     };
     return new Proxy({}, {
       get: (_, key) => {
-        if (key === Symbol.iterator) return eachMark;
+        if (key === Symbol.iterator) return iterateMarks;
         if (key === "length") return lines.length;
         if (key === "charCodeAt") return (/** @type {number} */ at) => (at < lines.length ? readMark(at).charCodeAt(0) : NaN);
         return typeof key === "string" && /^\d+$/.test(key) && Number(key) < lines.length ? readMark(Number(key)) : undefined;
@@ -155,10 +155,10 @@ class Evaluation {
         this.fieldTexts.set(field.name, text);
         return this.evaluate();
       });
-      if (otherResults.some((other) => !areSameResults(result, other))) throw new UnsupportedQuestion(say.dependsOnInput(field.name));
+      if (otherResults.some((other) => !areResultsEqual(result, other))) throw new UnsupportedQuestion(say.dependsOnInput(field.name));
       const last = ranges[ranges.length - 1];
       if (result === undefined) continue;
-      if (last && last.high === number - 1 && areSameResults(last.result, result)) last.high = number;
+      if (last && last.high === number - 1 && areResultsEqual(last.result, result)) last.high = number;
       else ranges.push({ low: number, high: number, result });
     }
     this.fieldTexts.delete(field.name);

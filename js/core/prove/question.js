@@ -288,6 +288,6 @@ export function readAnswer(text) {
   if (levels) return { kind: "fails", reads: { levels: levels.trim().split(" ").map(parseLevels) } };
   const [, stateCount] = /^no room (\d+)$/.exec(line) || [];
   if (stateCount) return { kind: "full", states: Number(stateCount) };
-  const [, other = null] = FIXED_ANSWERS.find(([form]) => form.test(line)) || [];
-  return other;
+  const [, fixedAnswer = null] = FIXED_ANSWERS.find(([form]) => form.test(line)) || [];
+  return fixedAnswer;
 }

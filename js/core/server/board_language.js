@@ -6,7 +6,7 @@ import { wordAt } from "../text/assembly.js";
 import { readBoardText } from "../text/board_reader.js";
 import { completeBoard } from "../text/board_completion.js";
 import { PARTS } from "../text/folding.js";
-import { commentAt } from "../text/sendable_text.js";
+import { findCommentStart } from "../text/sendable_text.js";
 import { helpForBoard } from "../text/text_help.js";
 import { tomlWords } from "../text/toml_words.js";
 import { BoardReferences } from "./board_references.js";
@@ -53,7 +53,7 @@ export class BoardLanguage {
    * @param {Position} position
    */
   hover({ lines, text }, { line, character }) {
-    if (character > commentAt(lines[line], "#")) return null;
+    if (character > findCommentStart(lines[line], "#")) return null;
     const helpText = helpForBoard(lines, line, character, this.tables);
     const word = wordAt(lines[line], character);
     if (helpText && word) {
@@ -139,7 +139,7 @@ export class BoardLanguage {
   colours({ lines, text }) {
     const headers = new Set(readBoardText(text).entries.map(({ line }) => line));
     /** @type {ColouredWord[]} */
-    const comments = lines.map((lineText, line) => ({ line, from: commentAt(lineText, "#"), to: lineText.length, type: "comment" }));
+    const comments = lines.map((lineText, line) => ({ line, from: findCommentStart(lineText, "#"), to: lineText.length, type: "comment" }));
     const tokens = tomlWords(lines);
     return [...comments, ...tokens.flatMap(({ kind, text: word, line, from, to }, at) => {
       if (kind !== "bare" && kind !== "string") return [];

@@ -107,9 +107,9 @@ export class Connection extends MessageStream {
     const stateError = this.findLifecycleError(method);
     const handler = Object.prototype.hasOwnProperty.call(this.handlers.requests, method) && this.handlers.requests[method];
     if (stateError || !handler || this.pendingRequests.has(id)) {
-      const notServed = handler ? new ProtocolError(INVALID_REQUEST, say.requestPending(id))
+      const requestError = handler ? new ProtocolError(INVALID_REQUEST, say.requestPending(id))
         : new ProtocolError(METHOD_NOT_FOUND, say.noMethodMessage(method));
-      this.rejectRequest(id, stateError || notServed);
+      this.rejectRequest(id, stateError || requestError);
       return;
     }
     const pending = { isCancelled: false };

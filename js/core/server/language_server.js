@@ -15,7 +15,7 @@ import { OpenText } from "./open_text.js";
 import { ProgramLanguage } from "./program_language.js";
 import { ProjectLanguage } from "./project_language.js";
 import { PropertyLanguage } from "./property_language.js";
-import { INVALID_PARAMS, ProtocolError, needRange, needText } from "./lsp_protocol.js";
+import { INVALID_PARAMS, ProtocolError, requireRange, requireString } from "./lsp_protocol.js";
 import { Requests } from "./requests.js";
 import { TestLanguage } from "./test_language.js";
 import { TestRuns } from "./test_runs.js";
@@ -89,7 +89,7 @@ export class LanguageServer {
    * @returns {CheckedText}
    */
   getRequestedText(params) {
-    const uri = needText(getField(getField(params, "textDocument"), "uri"), "textDocument.uri");
+    const uri = requireString(getField(getField(params, "textDocument"), "uri"), "textDocument.uri");
     const text = this.texts.get(uri);
     if (!text) throw new ProtocolError(INVALID_PARAMS, say.notOpenMessage(uri));
     return text;
@@ -156,8 +156,8 @@ export class LanguageServer {
    * @param {any} document the `textDocument` of the notification
    */
   didOpen(document) {
-    const uri = needText(getField(document, "uri"), "textDocument.uri");
-    const text = needText(getField(document, "text"), "textDocument.text");
+    const uri = requireString(getField(document, "uri"), "textDocument.uri");
+    const text = requireString(getField(document, "text"), "textDocument.text");
     const openText = new OpenText(uri, String(getField(document, "languageId")), text, getField(document, "version"));
     const checkedText = { openText, errors: [], diagnostics: [], checkedEditCount: -1, check: Promise.resolve() };
     this.texts.set(uri, checkedText);
@@ -176,7 +176,7 @@ export class LanguageServer {
     // All changes are validated before the first change is applied.
     const edits = changes.map((change) => {
       const range = getField(change, "range");
-      return { range: range ? needRange(range) : null, text: needText(getField(change, "text"), say.TEXT_OF_CHANGE) };
+      return { range: range ? requireRange(range) : null, text: requireString(getField(change, "text"), say.TEXT_OF_CHANGE) };
     });
     for (const edit of edits) text.openText.edit(edit.range, edit.text);
     text.openText.version = getField(getField(params, "textDocument"), "version");
@@ -300,9 +300,9 @@ export class LanguageServer {
    * @param {() => boolean} isWanted returns false if the result is no longer needed
    */
   async findErrors(openText, isWanted) {
-    const tooLong = lengthError(openText);
+    const tooLongError = lengthError(openText);
     const isKnown = isProgram(openText) || isBoard(openText) || isTestFile(openText) || isPropertyFile(openText);
-    if (tooLong) return { errors: isKnown ? [tooLong] : [], isComplete: true };
+    if (tooLongError) return { errors: isKnown ? [tooLongError] : [], isComplete: true };
     const language = this.findLanguage(openText);
     return language ? language.findErrors(openText, isWanted) : { errors: [], isComplete: true };
   }

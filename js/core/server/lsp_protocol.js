@@ -50,7 +50,7 @@ export function rangeInLine(line, from, to) {
  * @param {string} parameterName the name of the parameter
  * @returns {string}
  */
-export function needText(value, parameterName) {
+export function requireString(value, parameterName) {
   if (typeof value !== "string") throw new ProtocolError(INVALID_PARAMS, say.mustBeTextMessage(parameterName));
   return value;
 }
@@ -60,7 +60,7 @@ export function needText(value, parameterName) {
  * @param {any} value
  * @returns {Position}
  */
-export function needPosition(value) {
+export function requirePosition(value) {
   const [line, character] = [getField(value, "line"), getField(value, "character")];
   if (![line, character].every((number) => Number.isSafeInteger(number) && number >= 0)) {
     throw new ProtocolError(INVALID_PARAMS, say.POSITION_IS);
@@ -73,6 +73,6 @@ export function needPosition(value) {
  * @param {any} value
  * @returns {Range}
  */
-export function needRange(value) {
-  return { start: needPosition(getField(value, "start")), end: needPosition(getField(value, "end")) };
+export function requireRange(value) {
+  return { start: requirePosition(getField(value, "start")), end: requirePosition(getField(value, "end")) };
 }

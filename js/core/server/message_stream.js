@@ -18,9 +18,9 @@ export class MessageStream {
    */
   receive(bytes) {
     try {
-      for (const received of this.reader.readMessages(bytes)) {
-        if ("text" in received) this.serveMessage(received.text);
-        else this.reportStreamError(messageTooLong(received.tooLong));
+      for (const message of this.reader.readMessages(bytes)) {
+        if ("text" in message) this.serveMessage(message.text);
+        else this.reportStreamError(messageTooLong(message.tooLong));
       }
     } catch (error) {
       if (error instanceof StreamError) this.reportStreamError(error.message);

@@ -6,7 +6,7 @@ import { toCodeLens } from "./code_lens.js";
 import { createQuickFixes } from "./diagnostics.js";
 import { findFolds } from "./folding_ranges.js";
 import { getField } from "./framing.js";
-import { INVALID_PARAMS, ProtocolError, needPosition, needRange, needText } from "./lsp_protocol.js";
+import { INVALID_PARAMS, ProtocolError, requirePosition, requireRange, requireString } from "./lsp_protocol.js";
 import { selectionRangeAt } from "./selection_ranges.js";
 import { TokenMemory } from "./token_memory.js";
 import { findWorkspaceSymbols } from "./workspace_symbols.js";
@@ -43,7 +43,7 @@ function readFormattingOptions(options) {
  * @param {string} parameterName the name of the parameter
  * @returns {any[]}
  */
-function needList(value, parameterName) {
+function requireList(value, parameterName) {
   if (!Array.isArray(value)) throw new ProtocolError(INVALID_PARAMS, say.mustBeListMessage(parameterName));
   return value;
 }
@@ -70,7 +70,7 @@ export class Requests {
     return {
       "initialize": (params) => this.initialize(params),
       "shutdown": () => null,
-      "workspace/symbol": (params) => findWorkspaceSymbols(this.server, needText(getField(params, "query"), "query")),
+      "workspace/symbol": (params) => findWorkspaceSymbols(this.server, requireString(getField(params, "query"), "query")),
       "workspace/executeCommand": (params, pending) => this.execute(params, pending),
     };
   }
@@ -90,10 +90,10 @@ export class Requests {
    * @param {import("./connection.js").PendingRequest} pending
    */
   execute(params, pending) {
-    const command = needText(getField(params, "command"), "command");
+    const command = requireString(getField(params, "command"), "command");
     if (command !== RUN_TEST) throw new ProtocolError(INVALID_PARAMS, say.noCommandMessage(command));
-    const [uri, test] = needList(getField(params, "arguments"), "arguments");
-    return this.server.runTest(needText(uri, "arguments[0]"), needText(test, "arguments[1]"), pending);
+    const [uri, test] = requireList(getField(params, "arguments"), "arguments");
+    return this.server.runTest(requireString(uri, "arguments[0]"), requireString(test, "arguments[1]"), pending);
   }
 
   // --- requests about a text
@@ -120,7 +120,7 @@ export class Requests {
       "textDocument/codeLens": (params) => this.callWithLanguage(params, (language, openText) => (
         (language.lenses ? language.lenses(openText) : []).map((lens) => toCodeLens(lens, openText.uri, this.server.client.commands)))),
       "textDocument/formatting": (params) => this.format(params, WHOLE_TEXT_RANGE),
-      "textDocument/rangeFormatting": (params) => this.format(params, needRange(getField(params, "range"))),
+      "textDocument/rangeFormatting": (params) => this.format(params, requireRange(getField(params, "range"))),
       "textDocument/documentLink": (params) => this.callWithLanguage(params, (language, openText) => (
         language.links ? language.links(openText) : [])),
       "textDocument/foldingRange": (params) => this.callWithLanguage(params, (language, openText) => (
@@ -131,7 +131,7 @@ export class Requests {
       "textDocument/semanticTokens/full/delta": (params) => this.colours(params, (openText, words) => (
         this.tokens.encodeChangedTokens(openText, words, getField(params, "previousResultId")))),
       "textDocument/semanticTokens/range": (params) => this.colours(params, (openText, words) => (
-        this.tokens.encodeTokensInRange(words, needRange(getField(params, "range"))))),
+        this.tokens.encodeTokensInRange(words, requireRange(getField(params, "range"))))),
       "textDocument/diagnostic": (params) => this.diagnostic(params),
     };
   }
@@ -161,7 +161,7 @@ export class Requests {
    * @param {any} params
    */
   hints(params) {
-    const range = needRange(getField(params, "range"));
+    const range = requireRange(getField(params, "range"));
     return this.callWithLanguage(params, (language, openText) => (language.hints ? language.hints(openText, range) : []));
   }
 
@@ -171,7 +171,7 @@ export class Requests {
    */
   async codeAction(params) {
     const text = this.server.getRequestedText(params);
-    const range = needRange(getField(params, "range"));
+    const range = requireRange(getField(params, "range"));
     await this.server.waitForCheck(text);
     return createQuickFixes(text.openText.uri, text.errors, range);
   }
@@ -198,7 +198,7 @@ export class Requests {
    * @param {(language: Language, openText: OpenText, position: Position) => Result} callback
    */
   callAtPosition(params, callback) {
-    const position = needPosition(getField(params, "position"));
+    const position = requirePosition(getField(params, "position"));
     return this.callWithLanguage(params, (language, openText) => callback(language, openText, openText.clampPosition(position)));
   }
 
@@ -251,7 +251,7 @@ export class Requests {
    * @param {any} params
    */
   rename(params) {
-    const newName = needText(getField(params, "newName"), "newName");
+    const newName = requireString(getField(params, "newName"), "newName");
     return this.callAtPosition(params, (language, openText, position) => (
       language.rename ? { changes: { [openText.uri]: language.rename(openText, position, newName) } } : null));
   }
@@ -277,7 +277,7 @@ export class Requests {
    * @param {any} params
    */
   selections(params) {
-    const positions = needList(getField(params, "positions"), "positions").map(needPosition);
+    const positions = requireList(getField(params, "positions"), "positions").map(requirePosition);
     return this.callWithLanguage(params, (language, openText) => positions.map((position) => {
       const clampedPosition = openText.clampPosition(position);
       const columnRanges = language.selectionColumns ? language.selectionColumns(openText, clampedPosition) : [];
@@ -321,7 +321,7 @@ export class Requests {
    */
   callAtItem(params, callback) {
     const item = getField(params, "item");
-    const { start } = needRange(getField(item, "selectionRange"));
+    const { start } = requireRange(getField(item, "selectionRange"));
     return this.callAtPosition({ textDocument: { uri: getField(item, "uri") }, position: start }, callback);
   }
 }

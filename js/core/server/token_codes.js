@@ -35,9 +35,9 @@ export function colouredWords(lines, colours) {
  * @returns {number[]}
  */
 export function encodeTokens(words) {
-  const inOrder = [...words].sort((one, other) => one.line - other.line || one.from - other.from);
+  const sortedWords = [...words].sort((one, other) => one.line - other.line || one.from - other.from);
   let [line, from] = [0, 0];
-  return inOrder.filter((word) => word.to > word.from).flatMap((word) => {
+  return sortedWords.filter((word) => word.to > word.from).flatMap((word) => {
     const columns = word.line === line ? word.from - from : word.from;
     const modifiers = (word.isDeclaration ? 1 : 0) + (word.isReadonly ? 2 : 0);
     const code = [word.line - line, columns, word.to - word.from, TOKEN_TYPES.indexOf(word.type), modifiers];

@@ -9,7 +9,7 @@ const UNSAFE_CHARACTERS = /[\p{Cc}\p{Bidi_Control}\u200b\u2028\u2029\u2060\ufeff
  * Returns a name without line ends and unsafe characters, shortened to the maximum length.
  * @param {string} text
  */
-export function shortName(text) {
+export function shortenName(text) {
   const letters = [...text.replace(UNSAFE_CHARACTERS, " ").replace(/\s+/g, " ").trim()];
   return letters.length <= MAX_NAME_LENGTH ? letters.join("") : `${letters.slice(0, MAX_NAME_LENGTH - 1).join("").trimEnd()}\u2026`;
 }

@@ -103,7 +103,7 @@ function readTexts(name, text) {
 function readTextFile(name, text) {
   if (name === PROJECT_FILE) throw new UnusableFile(say.NAMES_FILES);
   const kinds = [HEX_FILES, BOARD_FILES, PROGRAM_FILES, TEST_FILES, PROPERTY_FILES, TEXT_FILES];
-  if (!kinds.some((ending) => ending.test(name)) && !/^\s*(:|S)[0-9A-F]{9}/i.test(text)) {
+  if (!kinds.some((pattern) => pattern.test(name)) && !/^\s*(:|S)[0-9A-F]{9}/i.test(text)) {
     throw createUnusableFileError(say.NOT_A_KIND);
   }
   if (HEX_FILES.test(name) || /^\s*:[0-9A-F]{10}/i.test(text)) return { kind: "image", bytes: readHex(text) };

@@ -2,7 +2,7 @@
 // session file. The manual ("A project file") describes its lines. project_parts.js writes the same contents as files in a folder.
 
 import { checksum } from "./checksum.js";
-import { shortName } from "./names.js";
+import { shortenName } from "./names.js";
 import { hex } from "../bench/numbers.js";
 import { parseBreakpoint, limitBreakpoints, formatBreakpoints } from "../debug/breakpoint_lines.js";
 import { MAX_STORED_LENGTH } from "../text/sendable_text.js";
@@ -48,9 +48,9 @@ export class TextTooLong extends InvalidProject {}
 export function tooLongMessage({ boardText, programText, testText = "", propertiesText = "" }) {
   const namedTexts = [[say.BOARD_TEXT, boardText], [say.SOURCE_TEXT, programText], [say.TESTS_TEXT, testText],
     [say.PROPERTIES_TEXT, propertiesText]];
-  const [what, text] = namedTexts.find(([, candidate]) => candidate.length > MAX_STORED_LENGTH) || namedTexts[0];
+  const [textName, text] = namedTexts.find(([, candidate]) => candidate.length > MAX_STORED_LENGTH) || namedTexts[0];
   const [size, maxLength] = [text.length, MAX_STORED_LENGTH].map((count) => count.toLocaleString("en"));
-  return text.length > MAX_STORED_LENGTH ? say.textTooLong(what, size, maxLength) : "";
+  return text.length > MAX_STORED_LENGTH ? say.textTooLong(textName, size, maxLength) : "";
 }
 
 // --- writing ---
@@ -217,7 +217,7 @@ function readHead(lines) {
     const breakpoint = parseBreakpoint(lines.nextLine || "");
     if (breakpoint) breakpoints.push(breakpoint);
     else if (match === undefined) throw lines.createLineError(say.HEAD_LINE);
-    if (word === "name") name = shortName(value);
+    if (word === "name") name = shortenName(value);
     if (word === "unended") unended.add(value);
     if (word === "value") watched.push(value);
     lines.takeLine();

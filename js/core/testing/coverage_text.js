@@ -70,7 +70,8 @@ const formatRecord = (name, values) => `${name}:${values.join(",")}`;
  */
 export function lcovText({ lines, subroutines, instructions, instructionsRun, directions, directionsRun }, { name, linesBefore }) {
   const branches = lines.filter(({ isJump }) => isJump).flatMap(({ line, count, jumpCount }) => (
-    [jumpCount, count - jumpCount].map((times, way) => formatRecord("BRDA", [line + linesBefore, 0, way, count > 0 ? times : "-"]))));
+    [jumpCount, count - jumpCount].map((times, direction) => (
+      formatRecord("BRDA", [line + linesBefore, 0, direction, count > 0 ? times : "-"])))));
   return `${[
     "TN:", `SF:${name}`,
     ...subroutines.map(({ line, label }) => formatRecord("FN", [line + linesBefore, label])),

@@ -29,8 +29,8 @@ const formatShare = (ownCycles, total) => `${formatCell(ownCycles, 10)} ${format
  */
 function formatLabelRow({ label, address, ownCycles, calls }, total) {
   const place = `${(label || say.NO_LABEL).padEnd(LABEL_WIDTH)} ${(address < 0 ? "" : hex(address, 3)).padEnd(4)}`;
-  const callColumns = calls && calls.times > 0
-    ? ` ${formatCell(calls.times, 9)} ${formatCell(calls.withCalls, 10)} ${formatCell(calls.longest, 10)}` : "";
+  const callColumns = calls && calls.callCount > 0
+    ? ` ${formatCell(calls.callCount, 9)} ${formatCell(calls.cyclesWithCalls, 10)} ${formatCell(calls.longestCall, 10)}` : "";
   return `${place} ${formatShare(ownCycles, total)}${callColumns}`;
 }
 
@@ -48,9 +48,9 @@ function formatKeyRow({ key, presses, answered, first, last }) {
  * @param {Profile} profile
  */
 export function profileText({ total, rows, earlierInstructionCycles, keys }) {
-  const [label, at, own, percent, calls, withCalls, longest] = say.PROFILE_HEAD;
-  const head = [label.padEnd(LABEL_WIDTH), at.padEnd(4), formatCell(own, 10), formatCell(percent, 6), formatCell(calls, 9),
-    formatCell(withCalls, 10), formatCell(longest, 10)].join(" ");
+  const [label, address, ownCycles, percent, calls, cyclesWithCalls, longestCall] = say.PROFILE_HEAD;
+  const head = [label.padEnd(LABEL_WIDTH), address.padEnd(4), formatCell(ownCycles, 10), formatCell(percent, 6), formatCell(calls, 9),
+    formatCell(cyclesWithCalls, 10), formatCell(longestCall, 10)].join(" ");
   const [key, presses, answered, first, last] = say.KEYS_HEAD;
   const keysHead = [key.padEnd(LABEL_WIDTH), formatCell(presses, 9), formatCell(answered, 9), formatCell(first, 24),
     formatCell(last, 24)].join(" ");

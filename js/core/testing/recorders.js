@@ -10,9 +10,9 @@ import { instructionCycles, isCall, isReturn, jumpTarget } from "../engine/rom_c
  * @typedef {import("../engine/forecast_answers.js").ForecastAnswers} ForecastAnswers
  * @typedef {import("../engine/forecast_answers.js").InstructionCount} InstructionCount
  *
- * The calls of a routine. `times` is their number, `withCalls` their total cycles including nested calls, and `longest` the length of the
- * longest call in cycles.
- * @typedef {{ times: number, withCalls: number, longest: number }} CallCounts
+ * The calls of a routine. `callCount` is the number of calls, and `cyclesWithCalls` their total cycles including nested calls.
+ * `longestCall` is the length of the longest call in cycles.
+ * @typedef {{ callCount: number, cyclesWithCalls: number, longestCall: number }} CallCounts
  *
  * The response times of a key. `presses` is the number of its presses, and `answered` counts the presses after which a lamp changed.
  * `first` is the longest time from a press to the first lamp change, in cycles. `last` is the longest time from a press to the last lamp
@@ -92,7 +92,7 @@ export class ExecutionRecorder {
       this.startCounts[address] += startCount;
       this.jumpCounts[address] += Math.max(0, jumpCount);
       this.cycleCounts[address] += instructionCycles(code) * startCount;
-      if (isCall(code)) this.getCallCounts(jumpTarget(this.codes, address)).times += startCount;
+      if (isCall(code)) this.getCallCounts(jumpTarget(this.codes, address)).callCount += startCount;
       if (isCall(code) || isReturn(code)) callCount += startCount;
     }
     return callCount;
@@ -104,7 +104,7 @@ export class ExecutionRecorder {
    * @returns {CallCounts}
    */
   getCallCounts(address) {
-    const counts = this.calls.get(address) || { times: 0, withCalls: 0, longest: 0 };
+    const counts = this.calls.get(address) || { callCount: 0, cyclesWithCalls: 0, longestCall: 0 };
     this.calls.set(address, counts);
     return counts;
   }
@@ -136,8 +136,8 @@ export class ExecutionRecorder {
     if (!endedCall || this.openCalls.some(({ address }) => address === endedCall.address)) return;
     const cycles = Math.max(0, time - endedCall.startTime);
     const calls = this.getCallCounts(endedCall.address);
-    calls.withCalls += cycles;
-    calls.longest = Math.max(calls.longest, cycles);
+    calls.cyclesWithCalls += cycles;
+    calls.longestCall = Math.max(calls.longestCall, cycles);
   }
 
   /**

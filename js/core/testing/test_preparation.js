@@ -63,8 +63,8 @@ function toRefusalErrors(name, answer) {
 export function wireBoard(engine, text) {
   const textErrors = findTextErrors("board", text);
   if (textErrors.length > 0) return { errors: textErrors, answers: [] };
-  const [wired, ...answers] = engine.ask(engine.begin(), `wire\n${sentText(text, "#")}.\nboard\n`).answers;
-  return { errors: toRefusalErrors("board", wired), answers };
+  const [wireAnswer, ...answers] = engine.ask(engine.begin(), `wire\n${sentText(text, "#")}.\nboard\n`).answers;
+  return { errors: toRefusalErrors("board", wireAnswer), answers };
 }
 
 /**

@@ -77,15 +77,15 @@ export class TestRun {
   /**
    * Runs a test. Resolves to its outcome. The test fails without a run if no earlier test has saved its start state.
    * @param {Test} test
-   * @param {string} savedBy the name of the test that saves the start state of this test
+   * @param {string} savingTestName the name of the test that saves the start state of this test
    * @returns {Promise<Outcome>}
    */
-  async run({ textNumber, name, line, from, steps }, savedBy) {
+  async run({ textNumber, name, line, from, steps }, savingTestName) {
     if (textNumber !== this.textNumber) this.states.clear();
     this.textNumber = textNumber;
     const startState = from === "" ? { file: this.prepared.file, codes: [] } : this.states.get(from);
     if (!startState) {
-      const message = say.stateMissing(from, savedBy);
+      const message = say.stateMissing(from, savingTestName);
       const [step] = steps;
       const failure = { ...stepLocation(step), words: message, cycles: 0, lamps: "", registers: "", trace: [], file: null };
       return { name, line, cycles: 0, failure };
@@ -138,8 +138,8 @@ export class TestRun {
       const file = !first || first.source.name === source.name ? "" : source.name;
       return this.runSteps(session, action.steps, [say.describeSharedSteps(action.name, line, file), ...enclosingSteps]);
     }
-    for (let turn = 1; turn <= action.times; turn++) {
-      const failure = await this.runSteps(session, action.steps, [say.describeTurn(turn, action.times, line), ...enclosingSteps]);
+    for (let repetition = 1; repetition <= action.times; repetition++) {
+      const failure = await this.runSteps(session, action.steps, [say.describeTurn(repetition, action.times, line), ...enclosingSteps]);
       if (failure) return failure;
       await this.yieldToMessages();
     }

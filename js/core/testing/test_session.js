@@ -174,12 +174,12 @@ export class TestSession {
    */
   readCondition({ places, needs }) {
     const lampForecast = needs.includes("lampForecast") ? this.ask(LAMPS_FORECAST_QUERY) : [];
-    const asksKeys = needs.includes("keys");
+    const needsKeys = needs.includes("keys");
     const trace = places.length > 0 ? `trace 1 ${places.join(" ")}\n` : "";
-    const answers = new ForecastAnswers(this.ask(`${trace}regs\n${asksKeys ? "state\n" : ""}`));
+    const answers = new ForecastAnswers(this.ask(`${trace}regs\n${needsKeys ? "state\n" : ""}`));
     const values = places.length > 0 ? rowValues(answers.takeTrace().row) : [];
     const { owed, test } = readRegisters(answers.take());
-    const keys = asksKeys ? stateValue(answers.take(), "keys") : "";
+    const keys = needsKeys ? stateValue(answers.take(), "keys") : "";
     const printed = this.printout ? this.printout.words : [];
     return { values, extraValues: { test, owed, keys, cycles: this.elapsed - this.markedCycles, lampForecast, printed } };
   }

@@ -88,10 +88,10 @@ function splitLine(line) {
   const colon = /^[^:=,]*?:/.exec(line.slice(0, comment));
   const label = colon ? trimWord(line, 0, colon[0].length - 1) : null;
   const from = colon ? colon[0].length : 0;
-  const equals = line.slice(0, comment).indexOf("=", from);
-  if (equals >= 0) {
-    const value = trimWord(line, equals + 1, comment);
-    return { label: label || trimWord(line, from, equals), defines: true, head: null, operands: value ? [value] : [], comment };
+  const equalsIndex = line.slice(0, comment).indexOf("=", from);
+  if (equalsIndex >= 0) {
+    const value = trimWord(line, equalsIndex + 1, comment);
+    return { label: label || trimWord(line, from, equalsIndex), defines: true, head: null, operands: value ? [value] : [], comment };
   }
   const match = /^\s*([^\s,]+)/.exec(line.slice(from, comment));
   if (!match) return { label, defines: false, head: null, operands: [], comment };

@@ -3,9 +3,9 @@
 import { MAX_PARTS, boardLines } from "../bench/board_form.js";
 import { indices } from "../bench/numbers.js";
 import { collectParts, readBoardText } from "./board_reader.js";
-import { filterCompletions, withoutDescription } from "./completion.js";
+import { filterCompletions, toCompletions } from "./completion.js";
 import { tableAt } from "./text_help.js";
-import { commentAt } from "./sendable_text.js";
+import { findCommentStart } from "./sendable_text.js";
 import * as say from "../../words/text.js";
 
 /**
@@ -56,7 +56,7 @@ class BoardParts {
   listValues(table, key) {
     const listLines = (/** @type {BoardLine[]} */ boardLineList) => (
       { list: boardLineList.map((line) => ({ text: line.name, what: describeLine(line) })), isQuoted: true });
-    const listNumbers = (/** @type {number[]} */ list) => ({ list: withoutDescription(list.map(String)), isQuoted: false });
+    const listNumbers = (/** @type {number[]} */ list) => ({ list: toCompletions(list.map(String)), isQuoted: false });
     switch (`${table}.${key}`) {
       case "rom.chip": return listNumbers(this.unusedRoms);
       case "ram.bank": return listNumbers(this.unusedBanks);
@@ -115,12 +115,12 @@ function completeValue(text, column, value, { list, isQuoted }) {
 export function completeBoard(lines, line, column, tables) {
   const text = lines[line];
   const textBefore = text.slice(0, column);
-  if (commentAt(textBefore, "#") < textBefore.length) return { from: column, to: column, list: [] };
-  if (/^\s*\[+\w*$/.test(textBefore)) return filterCompletions(text, column, withoutDescription([...tables.keys()]));
+  if (findCommentStart(textBefore, "#") < textBefore.length) return { from: column, to: column, list: [] };
+  if (/^\s*\[+\w*$/.test(textBefore)) return filterCompletions(text, column, toCompletions([...tables.keys()]));
   const table = tableAt(lines, line);
   const parts = new BoardParts(lines.map((lineText, number) => (number === line ? "" : lineText)).join("\n"));
   // The array that contains the caret can start up to nine lines above.
-  const linesBefore = lines.slice(Math.max(0, line - 9), line).map((lineText) => lineText.slice(0, commentAt(lineText, "#")));
+  const linesBefore = lines.slice(Math.max(0, line - 9), line).map((lineText) => lineText.slice(0, findCommentStart(lineText, "#")));
   const value = VALUE.exec([...linesBefore, textBefore].join("\n").slice(-MAX_CHARACTERS_BEFORE_CARET));
   const isInValue = value && (textBefore.includes(value[1]) || value[0].includes("["));
   if (value && isInValue) return completeValue(text, column, value, parts.listValues(table, value[1]));

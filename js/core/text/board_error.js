@@ -223,7 +223,7 @@ class BoardErrorText {
 
 /**
  * Returns the error that the bench reports for a board text, with its position and message.
- * @param {string} text the board text, as `asciiCommentsText` returns it
+ * @param {string} text the board text, as `toAsciiComments` returns it
  * @param {BoardError} error
  * @param {Map<string, Map<string, string>>} tables the manual's descriptions of the values, by table and key
  * @param {(number: number) => string} messageFor returns the message of a refusal

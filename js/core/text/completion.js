@@ -25,7 +25,7 @@ const PAIRS = [...Array(8).keys()].map((number) => `P${number}`);
  * @param {string[]} words
  * @returns {CompletionItem[]}
  */
-export function withoutDescription(words) {
+export function toCompletions(words) {
   return words.map((text) => ({ text, what: "" }));
 }
 
@@ -40,8 +40,9 @@ export function withoutDescription(words) {
 export function filterCompletions(line, column, words, typedPattern = /\w*$/) {
   const match = typedPattern.exec(line.slice(0, column));
   const typedText = match ? match[0] : "";
-  const low = typedText.toLowerCase();
-  const matchingWords = words.filter(({ text }) => text.toLowerCase().startsWith(low) && text !== typedText).slice(0, MAX_COMPLETIONS);
+  const lowerText = typedText.toLowerCase();
+  const matchingWords = words.filter(({ text }) => text.toLowerCase().startsWith(lowerText) && text !== typedText)
+    .slice(0, MAX_COMPLETIONS);
   return { from: column - typedText.length, to: column, list: matchingWords };
 }
 
@@ -62,13 +63,13 @@ export function completeProgram(lines, line, column, instructions) {
   const names = findDefinedNames(lines.map((lineText, number) => (number === line ? textBefore : lineText)));
   if (!head || head.to === column) {
     const mnemonics = [...instructions].map(([name, { form, effect }]) => ({ text: name, what: form.slice(name.length) + GAP + effect }));
-    return filterCompletions(text, column, [...mnemonics, ...withoutDescription(DIRECTIVES)]);
+    return filterCompletions(text, column, [...mnemonics, ...toCompletions(DIRECTIVES)]);
   }
   const instruction = instructions.get(head.text.toUpperCase());
   const kinds = instruction ? parseOperandKinds(instruction.form) : [];
   const kind = kinds[textBefore.slice(head.to).split(",").length - 1] || "";
-  if (kind === "Pk") return filterCompletions(text, column, withoutDescription(PAIRS));
-  if (kind === "Rk") return filterCompletions(text, column, withoutDescription(REGISTERS));
+  if (kind === "Pk") return filterCompletions(text, column, toCompletions(PAIRS));
+  if (kind === "Rk") return filterCompletions(text, column, toCompletions(REGISTERS));
   if (kind === "" && head.text.toUpperCase() !== "DB") return { from: column, to: column, list: [] };
-  return filterCompletions(text, column, withoutDescription([...names.keys()]));
+  return filterCompletions(text, column, toCompletions([...names.keys()]));
 }

@@ -5,7 +5,7 @@ import { findDefinedNames, splitStatement } from "./assembly.js";
 import { hex } from "../bench/numbers.js";
 import { MAX_ERRORS } from "../bench/text_check_answers.js";
 import { explainProgramLine } from "./program_words.js";
-import { TEXT_TOO_LONG, asciiCommentsText, findSendingErrors, sentLine } from "./sendable_text.js";
+import { TEXT_TOO_LONG, toAsciiComments, findSendingErrors, sentLine } from "./sendable_text.js";
 import * as say from "../../words/text.js";
 
 /**
@@ -65,7 +65,7 @@ export async function findProgramErrors(program, instructions, messageFor, queri
   const sendingErrors = findSendingErrors(program, ";");
   const isTooLong = sendingErrors.some(({ number }) => number === TEXT_TOO_LONG);
   if (isTooLong) return { errors: sendingErrors, isComplete: false, generalRefusal: null };
-  const lines = asciiCommentsText(program, ";").split("\n");
+  const lines = toAsciiComments(program, ";").split("\n");
   const unsentLines = new Set(sendingErrors.map(({ line }) => line));
   const sentProgram = lines.map((line, at) => (unsentLines.has(at + 1) ? "" : sentLine(line, ";"))).join("\n");
   const rejectedLines = await queries.findLineErrors(sentProgram);

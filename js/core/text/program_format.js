@@ -67,15 +67,15 @@ function formatGap(from, to, { tabSize, insertSpaces }) {
 function splitLine(line, canStartStatement, layout) {
   const mark = line.indexOf(";");
   const code = trimBlanks(mark < 0 ? line : line.slice(0, mark));
-  const empty = { name: "", value: "", label: "", head: "", operands: "" };
+  const emptyParts = { name: "", value: "", label: "", head: "", operands: "" };
   const comment = mark < 0 ? "" : trimBlanks(line.slice(mark));
   const commentParts = { comment, indent: mark < 0 ? 0 : findColumnAfter(line.slice(0, mark), 0, layout) };
   const definition = DEFINITION.exec(code);
-  if (definition) return { ...empty, ...commentParts, name: definition[1], value: definition[2] };
+  if (definition) return { ...emptyParts, ...commentParts, name: definition[1], value: definition[2] };
   const match = CODE.exec(code);
   if (!match || (match[2] && !canStartStatement(match[2].toUpperCase()))) return null;
   const operands = (match[3] || "").split(",").map(trimBlanks).join(", ");
-  return { ...empty, ...commentParts, label: match[1] || "", head: match[2] || "", operands };
+  return { ...emptyParts, ...commentParts, label: match[1] || "", head: match[2] || "", operands };
 }
 
 /**
@@ -161,13 +161,13 @@ export function findLengthError(lines) {
  * @returns {Change[]}
  */
 export function findLineChanges(oldLines, newLines) {
-  return oldLines.flatMap((old, line) => {
+  return oldLines.flatMap((oldLine, line) => {
     const text = newLines[line];
-    if (old === text) return [];
-    const minLength = Math.min(old.length, text.length);
+    if (oldLine === text) return [];
+    const minLength = Math.min(oldLine.length, text.length);
     let [from, suffix] = [0, 0];
-    while (from < minLength && old[from] === text[from]) from += 1;
-    while (suffix < minLength - from && old[old.length - 1 - suffix] === text[text.length - 1 - suffix]) suffix += 1;
-    return [{ line, from, to: old.length - suffix, text: text.slice(from, text.length - suffix) }];
+    while (from < minLength && oldLine[from] === text[from]) from += 1;
+    while (suffix < minLength - from && oldLine[oldLine.length - 1 - suffix] === text[text.length - 1 - suffix]) suffix += 1;
+    return [{ line, from, to: oldLine.length - suffix, text: text.slice(from, text.length - suffix) }];
   });
 }

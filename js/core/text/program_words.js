@@ -46,15 +46,15 @@ export function describeOperand(kind) {
  * @returns {{ number: string, explanation: string } | null}
  */
 function convertForeignNumber(text) {
-  const hexadecimal = /^(?:\$|0X|&H?|#\$)([0-9A-Fa-f]+)$/.exec(text) || /^([0-9][0-9A-Fa-f]*)[Hh]$/.exec(text);
-  const binary = /^(?:0b|%)([01]+)$/i.exec(text) || /^([01]+)[Bb]$/.exec(text);
+  const hexMatch = /^(?:\$|0X|&H?|#\$)([0-9A-Fa-f]+)$/.exec(text) || /^([0-9][0-9A-Fa-f]*)[Hh]$/.exec(text);
+  const binaryMatch = /^(?:0b|%)([01]+)$/i.exec(text) || /^([01]+)[Bb]$/.exec(text);
   const letter = /^(['"])(.)\1?$/.exec(text);
   const mark = /^#(\w+)$/.exec(text);
-  const number = (hexadecimal && `0x${hexadecimal[1].toUpperCase()}`) || (binary && `${parseInt(binary[1], 2)}`)
+  const number = (hexMatch && `0x${hexMatch[1].toUpperCase()}`) || (binaryMatch && `${parseInt(binaryMatch[1], 2)}`)
     || (letter && `0x${letter[2].charCodeAt(0).toString(16).toUpperCase()}`) || (mark && mark[1]);
   if (!number) return null;
-  if (hexadecimal) return { number, explanation: say.isHexadecimalMessage(number) };
-  if (binary) return { number, explanation: say.isBinaryMessage(number) };
+  if (hexMatch) return { number, explanation: say.isHexadecimalMessage(number) };
+  if (binaryMatch) return { number, explanation: say.isBinaryMessage(number) };
   if (letter) return { number, explanation: say.isLetterMessage(letter[2], number) };
   return { number, explanation: say.withoutNumberSign(number) };
 }
@@ -163,10 +163,10 @@ function findHeadError({ label, operands }, head, { instructions }) {
     return createError(head, say.noInstructionMessage(head.text, say.labelSyntax(head.text)), [`${head.text}:`]);
   }
   const hasNoOperands = isName && operands.length === 0;
-  const similar = replacement ? [] : findSimilarWords(upperCaseWord, [...instructions.keys(), ...DIRECTIVES]);
-  const question = replacement ? `; ${replacement}?` : formatSuggestion(similar);
+  const similarWords = replacement ? [] : findSimilarWords(upperCaseWord, [...instructions.keys(), ...DIRECTIVES]);
+  const question = replacement ? `; ${replacement}?` : formatSuggestion(similarWords);
   const message = say.noInstructionMessage(head.text, question || (hasNoOperands ? say.labelSyntax(head.text) : ""));
-  const quickFixTexts = hasNoOperands && !question ? [`${head.text}:`] : similar;
+  const quickFixTexts = hasNoOperands && !question ? [`${head.text}:`] : similarWords;
   if (!replacement) return createError(head, message, quickFixTexts);
   const instructionTexts = replacement.split(" or ").filter((alternative) => /^[A-Z]+( \d+,?)?$/.test(alternative));
   return createError(head, message, instructionTexts.map(formatReplacement));
@@ -178,8 +178,8 @@ function findHeadError({ label, operands }, head, { instructions }) {
  * @param {KnownWords["instructions"]} instructions
  */
 function canStartStatement(word, instructions) {
-  const upper = word.toUpperCase();
-  return instructions.has(upper) || DIRECTIVES.includes(upper);
+  const upperCaseWord = word.toUpperCase();
+  return instructions.has(upperCaseWord) || DIRECTIVES.includes(upperCaseWord);
 }
 
 /**
@@ -217,8 +217,8 @@ function findDirectiveError(head, operands, knownWords) {
  */
 function findFormError(parts, knownWords) {
   const { label, defines, head, operands } = parts;
-  const badName = label && describeNameError(label.text, knownWords);
-  if (badName) return { word: label, message: badName };
+  const nameError = label && describeNameError(label.text, knownWords);
+  if (nameError) return { word: label, message: nameError };
   if (defines) {
     const reason = operands[0] ? describeNumberError(operands[0].text) : "";
     const message = say.equalsSyntax(reason && `; ${reason}`);

@@ -1,6 +1,6 @@
 // Finds the help and the completions for properties texts, in the manual's tables and among the names of the board and the program.
 
-import { withoutDescription } from "./completion.js";
+import { toCompletions } from "./completion.js";
 import {
   completeWord, findDescription, formsByTable, listFirstWords, listNextConditionWords, readConditionForms, wordsUpTo,
 } from "./test_words.js";
@@ -24,10 +24,10 @@ const CONDITION_START = /^(never|always|reach)$/;
 /** The first words of the conditions that are allowed in tests but not in properties. */
 const TEST_WORDS = new Set(["cycles", "printed", "test", "key"]);
 /** The words that can follow a condition. */
-const CONDITION_END = ["for", "only after"];
-/** The words that can follow a label at the start of a line (AFTER_LABEL), and the second label after `to` (AFTER_TARGET). */
-const AFTER_LABEL = ["to", say.ONCE_FOR_EACH_PRESS, "only after"];
-const AFTER_TARGET = ["within"];
+const WORDS_AFTER_CONDITION = ["for", "only after"];
+/** The words that can follow a label at the start of a line (WORDS_AFTER_LABEL), and the second label after `to` (WORDS_AFTER_TARGET). */
+const WORDS_AFTER_LABEL = ["to", say.ONCE_FOR_EACH_PRESS, "only after"];
+const WORDS_AFTER_TARGET = ["within"];
 
 /**
  * Returns the forms of the lines and conditions of properties texts, as the manual lists them.
@@ -64,8 +64,8 @@ function findCondition(words) {
  * @param {string[]} words the words of the line so far
  */
 function listWordsAfterLabel([, secondWord, ...laterWords]) {
-  if (secondWord === undefined) return AFTER_LABEL;
-  return secondWord === "to" && laterWords.length === 1 ? AFTER_TARGET : [];
+  if (secondWord === undefined) return WORDS_AFTER_LABEL;
+  return secondWord === "to" && laterWords.length === 1 ? WORDS_AFTER_TARGET : [];
 }
 
 /**
@@ -77,15 +77,15 @@ function listWordsAfterLabel([, secondWord, ...laterWords]) {
  * @returns {CompletionItem[]}
  */
 function listNextWords(previousWords, unfinishedWord, names, { lines, conditions }) {
-  const labels = withoutDescription(names.labels.map((label) => `@${label}`));
+  const labels = toCompletions(names.labels.map((label) => `@${label}`));
   if (unfinishedWord.startsWith("@")) return labels;
   if (previousWords.length === 0) return [...listFirstWords(lines.filter(({ word }) => /^[a-z]+$/.test(word))), ...labels];
   const last = previousWords[previousWords.length - 1];
-  if (previousWords[0] === "press" || last === "press") return withoutDescription(names.keys);
-  if (previousWords[0].startsWith("@")) return withoutDescription(listWordsAfterLabel(previousWords));
+  if (previousWords[0] === "press" || last === "press") return toCompletions(names.keys);
+  if (previousWords[0].startsWith("@")) return toCompletions(listWordsAfterLabel(previousWords));
   const condition = findCondition(previousWords);
-  if (condition) return listNextConditionWords(condition, names, conditions, CONDITION_END);
-  return previousWords[0] === "note" ? withoutDescription(["lamps"]) : [];
+  if (condition) return listNextConditionWords(condition, names, conditions, WORDS_AFTER_CONDITION);
+  return previousWords[0] === "note" ? toCompletions(["lamps"]) : [];
 }
 
 /**

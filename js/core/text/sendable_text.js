@@ -41,7 +41,7 @@ export function createErrorAt(number, { line, from, to }, message) {
  * @param {string} line
  * @param {CommentMark} mark
  */
-export function commentAt(line, mark) {
+export function findCommentStart(line, mark) {
   const first = line.indexOf(mark);
   if (first < 0 || mark === ";") return first < 0 ? line.length : first;
   const codeMatch = /^([^"'#]|"(\\.|[^"\\])*"|'[^']*')*/.exec(line);
@@ -69,7 +69,7 @@ export function toggleComments(lines, mark) {
  */
 function replaceNonAscii(line, mark) {
   if (/^[\t -~]*$/.test(line)) return line;
-  const commentStart = commentAt(line, mark);
+  const commentStart = findCommentStart(line, mark);
   return line.slice(0, commentStart) + line.slice(commentStart).replace(/[^\t -~]/g, " ");
 }
 
@@ -91,7 +91,7 @@ export function trimBlanks(text) {
  * @param {CommentMark} mark
  */
 export function sentLine(line, mark) {
-  const code = trimBlanks(line.slice(0, commentAt(line, mark)));
+  const code = trimBlanks(line.slice(0, findCommentStart(line, mark)));
   return code === "." && line !== "." ? " ." : code;
 }
 
@@ -114,7 +114,7 @@ function mapLines(text, change) {
  * @param {string} text
  * @param {CommentMark} mark
  */
-export function asciiCommentsText(text, mark) {
+export function toAsciiComments(text, mark) {
   return mapLines(text, (line) => replaceNonAscii(line, mark));
 }
 
@@ -125,7 +125,7 @@ export function asciiCommentsText(text, mark) {
  * @param {CommentMark} mark
  */
 export function sentText(text, mark) {
-  if (mark === "#" && /"""|'''/.test(text)) return asciiCommentsText(text, mark);
+  if (mark === "#" && /"""|'''/.test(text)) return toAsciiComments(text, mark);
   return mapLines(text, (line) => sentLine(line, mark));
 }
 
@@ -184,7 +184,7 @@ export function findSendingErrors(text, mark) {
   const textToSend = sentText(text, mark);
   const sentLines = textToSend.split("\n");
   if (textToSend.length <= MAX_SENT_LENGTH && passesFastCheck(text, sentLines)) return [];
-  const lines = asciiCommentsText(text, mark).split("\n");
+  const lines = toAsciiComments(text, mark).split("\n");
   const errors = lines.map((line, at) => findSendingErrorInLine(line, sentLines[at], at + 1)).filter((error) => error !== null);
   if (textToSend.length > MAX_SENT_LENGTH) {
     const last = textToSend.slice(0, MAX_SENT_LENGTH).split("\n").length;

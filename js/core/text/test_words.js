@@ -1,7 +1,7 @@
 // Finds the help and the completions for test texts, in the manual's tables and among the names of the board and the program.
 
 import { splitCell, cellText } from "../help/manual.js";
-import { withoutDescription } from "./completion.js";
+import { toCompletions } from "./completion.js";
 import * as say from "../../words/text.js";
 
 /**
@@ -79,9 +79,9 @@ export function listFirstWords(forms) {
 function listNextWords(previousWords, unfinishedWord, { keys, lamps, labels }, forms) {
   const [first] = previousWords;
   if (first === undefined) return listFirstWords(forms.steps);
-  if (first === "press" || first === "release" || first === "keys") return withoutDescription(keys);
+  if (first === "press" || first === "release" || first === "keys") return toCompletions(keys);
   if (first !== "until" && first !== "expect") return [];
-  if (unfinishedWord.startsWith("@")) return withoutDescription(labels.map((label) => `@${label}`));
+  if (unfinishedWord.startsWith("@")) return toCompletions(labels.map((label) => `@${label}`));
   return listNextConditionWords(previousWords.slice(1), { keys, lamps, labels }, forms.conditions, ["within"]);
 }
 
@@ -100,12 +100,12 @@ export function listNextConditionWords(previousWords, { keys, lamps, labels }, c
   const start = previousWords.reduce((last, word, at) => (CONJUNCTIONS.has(word) ? at + 1 : last), 0);
   const words = previousWords.slice(start).map((word) => word.replace(/^[(!]+/, "")).filter((word) => word !== "not" && word !== "");
   const conjunctions = ["and", "or", ...nextKeywords];
-  if (words.length === 0) return [...listFirstWords(conditions), ...withoutDescription(labels.map((label) => `@${label}`))];
+  if (words.length === 0) return [...listFirstWords(conditions), ...toCompletions(labels.map((label) => `@${label}`))];
   const [word] = words;
-  if (word === "lamp") return withoutDescription(words.length === 1 ? lamps : ["on", "off", ...conjunctions]);
-  if (word === "key") return withoutDescription(words.length === 1 ? keys : ["down", "up", ...conjunctions]);
-  if (word === "at" && words.length === 1) return withoutDescription(labels);
-  return withoutDescription(word === "lamps" ? [...lamps, "none", ...conjunctions] : conjunctions);
+  if (word === "lamp") return toCompletions(words.length === 1 ? lamps : ["on", "off", ...conjunctions]);
+  if (word === "key") return toCompletions(words.length === 1 ? keys : ["down", "up", ...conjunctions]);
+  if (word === "at" && words.length === 1) return toCompletions(labels);
+  return toCompletions(word === "lamps" ? [...lamps, "none", ...conjunctions] : conjunctions);
 }
 
 /**
@@ -136,7 +136,7 @@ export function completeWord(line, column, findWords) {
 export function completeTest(lines, line, column, names, forms) {
   const sharedSteps = lines.slice(0, line).flatMap((previousLine) => (/^\s*steps\s+(\S+)\s*$/.exec(previousLine) || []).slice(1));
   return completeWord(lines[line], column, (previousWords, unfinishedWord) => (
-    previousWords.length === 1 && previousWords[0] === "do" ? withoutDescription(sharedSteps)
+    previousWords.length === 1 && previousWords[0] === "do" ? toCompletions(sharedSteps)
       : listNextWords(previousWords, unfinishedWord, names, forms)));
 }
 

@@ -5,7 +5,7 @@ import { findFaceErrors } from "../board/face.js";
 import { SourceMap } from "../machine/source_map.js";
 import { createBoardError } from "./board_error.js";
 import { MISSING_ROM, findProgramErrors, findMissingRoms } from "./program_errors.js";
-import { asciiCommentsText, findSendingErrors, sentText } from "./sendable_text.js";
+import { toAsciiComments, findSendingErrors, sentText } from "./sendable_text.js";
 
 /**
  * @typedef {import("../bench/answers.js").Refusal} Refusal
@@ -63,7 +63,7 @@ export class TextErrorFinder {
     if (!result || !result.generalRefusal || result.generalRefusal.number !== MISSING_ROM || result.errors.length > 0) return result;
     const sentProgram = sentText(text, ";");
     const map = new SourceMap(await this.queries.readMap(sentProgram), sentProgram);
-    return { ...result, errors: findMissingRoms(asciiCommentsText(text, ";").split("\n"), map, await this.queries.readRomNumbers()) };
+    return { ...result, errors: findMissingRoms(toAsciiComments(text, ";").split("\n"), map, await this.queries.readRomNumbers()) };
   }
 
   /**
@@ -78,7 +78,7 @@ export class TextErrorFinder {
     const error = await this.queries.findBoardError(sentText(text, "#"));
     if (!isWanted()) return undefined;
     if (!error) return { errors: [], isComplete: true, generalRefusal: null };
-    const boardError = createBoardError(asciiCommentsText(text, "#"), error, this.tables, this.messageFor);
+    const boardError = createBoardError(toAsciiComments(text, "#"), error, this.tables, this.messageFor);
     return { errors: [boardError], isComplete: false, generalRefusal: null };
   }
 }

@@ -25,15 +25,15 @@ function parseWord(text, line, from) {
   const remainingText = text.slice(from);
   const string = STRING.exec(remainingText);
   if (string) {
-    const inside = string[1] === undefined ? string[2] : string[1];
-    return { kind: "string", text: inside, line, from, to: from + string[0].length, error: "" };
+    const content = string[1] === undefined ? string[2] : string[1];
+    return { kind: "string", text: content, line, from, to: from + string[0].length, error: "" };
   }
   if (/^["']/.test(remainingText)) {
     const to = text.length;
     return { kind: "bad", text: remainingText, line, from, to, error: say.closingMissing(remainingText[0]) };
   }
-  const bare = BARE_WORD.exec(remainingText);
-  if (bare) return { kind: "bare", text: bare[0], line, from, to: from + bare[0].length, error: "" };
+  const bareWord = BARE_WORD.exec(remainingText);
+  if (bareWord) return { kind: "bare", text: bareWord[0], line, from, to: from + bareWord[0].length, error: "" };
   const isPunctuation = /^[[\]{}=,.]/.test(remainingText);
   const [character] = remainingText;
   const word = { text: character, line, from, to: from + 1 };

@@ -21,14 +21,14 @@ export class RealTime {
     this.lastWall = wall;
     this.wasHidden = false;
     /** The number of cycles that are due; negative after an early key press. */
-    this.owed = 0;
+    this.dueCycles = 0;
     /** The number of cycles (or instructions) per second. */
     this.perSecond = CYCLES_PER_SECOND;
   }
 
   /** The time up to which the session has been simulated, in milliseconds of the frame clock. */
   get simulatedUntil() {
-    return this.lastFrame + (Math.max(0, -this.owed) * 1000) / this.perSecond;
+    return this.lastFrame + (Math.max(0, -this.dueCycles) * 1000) / this.perSecond;
   }
 
   /**
@@ -40,7 +40,7 @@ export class RealTime {
     this.lastFrame = now;
     this.lastWall = wall;
     this.wasHidden = false;
-    this.owed = 0;
+    this.dueCycles = 0;
   }
 
   /** Records that the page is hidden. The next frame then reports a gap. */
@@ -70,11 +70,11 @@ export class RealTime {
    * @param {number} [earlyTime] the time to simulate early, in milliseconds
    */
   takeDueCycles(now, earlyTime = 0) {
-    this.owed += (Math.max(0, now - this.lastFrame) / 1000) * this.perSecond;
+    this.dueCycles += (Math.max(0, now - this.lastFrame) / 1000) * this.perSecond;
     this.lastFrame = Math.max(now, this.lastFrame);
-    if (this.owed > MAX_CYCLES_PER_FRAME) this.owed = MAX_CYCLES_PER_FRAME;
-    const due = Math.max(0, Math.floor(this.owed + (earlyTime / 1000) * this.perSecond));
-    this.owed -= due;
-    return due;
+    if (this.dueCycles > MAX_CYCLES_PER_FRAME) this.dueCycles = MAX_CYCLES_PER_FRAME;
+    const cyclesToRun = Math.max(0, Math.floor(this.dueCycles + (earlyTime / 1000) * this.perSecond));
+    this.dueCycles -= cyclesToRun;
+    return cyclesToRun;
   }
 }

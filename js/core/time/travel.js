@@ -53,7 +53,7 @@ export class Travel {
     await this.callbacks.pause();
     if (goal.kind === "when") await this.bench.call("setNames", [this.callbacks.texts()]);
     this.callbacks.storeGoal(goal);
-    const result = await this.callbacks.change(say.SEARCHING_GOAL, (ways) => this.bench.call("runToGoal", [goal], ways));
+    const result = await this.callbacks.change(say.SEARCHING_GOAL, (options) => this.bench.call("runToGoal", [goal], options));
     this.callbacks.storeGoal(null);
     if (!result) return;
     const { cycles, isReached, end, id, endsAtReturn: returns } = result.searchResult;

@@ -40,8 +40,8 @@ function formatElapsed(cycles) {
  */
 function extractCode(line) {
   const parts = line.split("\t");
-  const expanded = parts.reduce((text, part) => text.padEnd((Math.floor(text.length / TAB_WIDTH) + 1) * TAB_WIDTH) + part);
-  return expanded.replace(/;.*/, "").replace(/ +$/, "");
+  const expandedLine = parts.reduce((text, part) => text.padEnd((Math.floor(text.length / TAB_WIDTH) + 1) * TAB_WIDTH) + part);
+  return expandedLine.replace(/;.*/, "").replace(/ +$/, "");
 }
 
 /**
@@ -63,8 +63,8 @@ const TWO_BYTE_INSTRUCTIONS = {
  */
 function formatWrapped(firstByte, secondByte) {
   const digits = hex(secondByte, 2);
-  const [name, operandsOf] = TWO_BYTE_INSTRUCTIONS[firstByte >> 4];
-  return [hex(LAST_ADDRESS, 3), hex(firstByte, 2), digits, name, operandsOf(firstByte % 16, digits)].join(" ");
+  const [name, formatOperands] = TWO_BYTE_INSTRUCTIONS[firstByte >> 4];
+  return [hex(LAST_ADDRESS, 3), hex(firstByte, 2), digits, name, formatOperands(firstByte % 16, digits)].join(" ");
 }
 
 export class InstructionTexts {
@@ -107,7 +107,7 @@ export class InstructionTexts {
     const isWrapped = address === LAST_ADDRESS && instructionWords(codes[address]) === 2;
     const completeLine = isWrapped ? formatWrapped(codes[address], codes[0]) : listingLine;
     if (!names) return { label: "", text: `${completeLine.padEnd(this.width)}  ` };
-    const text = this.replaceBySource(this.replaceTarget(completeLine), address);
+    const text = this.replaceWithSource(this.replaceTarget(completeLine), address);
     const [label = ""] = names.map.labelsAt(address);
     const isInSource = names.source && names.map.beginsInstruction(address) && names.map.lineOfLabel(label) === names.map.lineOf(address);
     return { label: label === "" || isInSource ? "" : `          ${label}:\n`, text: `${text.padEnd(this.width)}  ` };
@@ -129,7 +129,7 @@ export class InstructionTexts {
    * @param {string} text the listing line
    * @param {number} address
    */
-  replaceBySource(text, address) {
+  replaceWithSource(text, address) {
     const { map, source = null } = this.names || {};
     const line = map ? map.lineOf(address) : 0;
     if (!map || !source || line === 0) return text;

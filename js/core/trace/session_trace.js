@@ -101,8 +101,8 @@ export class SessionTrace {
       const count = Math.min(piece, to - stop.at);
       yield trace.runLines(state, count, stop.at);
       const run = await runState(engine, state, count, this.yieldToMessages);
-      const cyclesDone = stop.at + run.cycles;
-      stop = { at: cyclesDone, end: cyclesDone < to ? run.end : end };
+      const pieceEnd = stop.at + run.cycles;
+      stop = { at: pieceEnd, end: pieceEnd < to ? run.end : end };
     }
     if (stop.end !== RAN_TO_END) yield [`${trace.formatNext(state, stop.at)}${say.stopsBefore(stop.end)}`];
   }

@@ -100,8 +100,8 @@ export class TraceLines {
     const places = tracePlaces(board, MAIN_REGISTER_COUNT, (code) => codes.has(code));
     const groups = indices(Math.ceil(places.length / MAX_PLACES)).map((at) => places.slice(at * MAX_PLACES, (at + 1) * MAX_PLACES));
     const queries = [...groups.map((group) => group.map(({ name }) => name)), MAIN_PLACES];
-    const questions = queries.map((names) => `trace ${cycles} ${names.join(" ")}\n`).join("");
-    const answers = new ForecastAnswers(engine.ask(state, `regs\n${questions}`).answers);
+    const queryText = queries.map((names) => `trace ${cycles} ${names.join(" ")}\n`).join("");
+    const answers = new ForecastAnswers(engine.ask(state, `regs\n${queryText}`).answers);
     const isSecondCyclePending = stateValue(answers.take(), "owed") === "1";
     const groupsWithRows = groups.map((group) => createGroup(group, answers.takeTrace()));
     return this.mergeAnswers(groupsWithRows, answers.takeTrace(), { elapsed, firstCycle: Number(isSecondCyclePending) });
@@ -110,18 +110,18 @@ export class TraceLines {
   /**
    * Returns the lines of the trace, which combine the answers to all queries.
    * @param {Group[]} groups
-   * @param {Trace} main the trace of MAIN_PLACES
+   * @param {Trace} mainTrace the trace of MAIN_PLACES
    * @param {{ elapsed: number, firstCycle: number }} from `elapsed` is the number of cycles before the run; `firstCycle` is the cycle of
    *   the run in which its first instruction starts
    */
-  mergeAnswers(groups, main, { elapsed, firstCycle }) {
+  mergeAnswers(groups, mainTrace, { elapsed, firstCycle }) {
     /** @type {string[]} */
     const lines = [];
-    let { row } = main;
+    let { row } = mainTrace;
     let nextCycle = firstCycle;
     const addLine = (/** @type {number} */ startCycle, /** @type {number} */ address, /** @type {string} */ newRow) => {
       const registers = newRow === row ? "" : formatRegisterChanges(newRow, row);
-      const changes = groups.reduce((sum, group) => sum + updateGroup(group, group.rows.get(startCycle)), registers);
+      const changes = groups.reduce((text, group) => text + updateGroup(group, group.rows.get(startCycle)), registers);
       row = newRow;
       const start = this.texts.formatInstructionLine(elapsed + startCycle, address);
       lines.push(`${start}acc ${row[ROW_INDICES.acc]} cy ${row[ROW_INDICES.cy]}${changes && ` ${changes}`}`);
@@ -131,12 +131,12 @@ export class TraceLines {
     const repeatJump = (/** @type {number} */ to) => {
       while (nextCycle < to) addLine(nextCycle, parseInt(row.slice(ROW_INDICES.pc, ROW_INDICES.acc - 1), 16), row);
     };
-    for (const line of main.lines) {
+    for (const line of mainTrace.lines) {
       const { cycles: startCycle, address, row: newRow } = parseTraceLine(line);
       repeatJump(startCycle);
       addLine(startCycle, address, newRow);
     }
-    repeatJump(main.cycles);
+    repeatJump(mainTrace.cycles);
     return lines;
   }
 

@@ -37,7 +37,7 @@ function createPlace(name, textOf = (value) => ` ${name} ${value}`) {
  */
 function listChipPlaces(bank, chip, executes) {
   const characters = executes(WRM) ? indices(64).map((at) => createPlace(`ram.${bank}.0x${hex(chip * 64 + at, 2)}`)) : [];
-  const status = indices(4).filter((kind) => executes(WR0 + kind))
+  const status = indices(4).filter((index) => executes(WR0 + index))
     .flatMap((kind) => indices(4).map((at) => createPlace(`st.${bank}.${chip * 4 + at}.${kind}`)));
   const port = executes(WMP) ? [createPlace(`ram${bank}.${chip}`, (value) => ` out ${bank}.${chip} ${value}`)] : [];
   return [...characters, ...status, ...port];

@@ -29,7 +29,7 @@ export class LiveWaves {
   }
 
   /** True while the recording continues. */
-  get isOn() {
+  get isRecording() {
     return this.endReason === "";
   }
 

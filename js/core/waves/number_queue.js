@@ -57,9 +57,9 @@ export class NumberQueue {
 
   /** Replaces the array with an array of twice the size. */
   enlarge() {
-    const larger = /** @type {Kind} */ (new (/** @type {any} */ (this.numbers.constructor))(Math.max(FIRST_CAPACITY, this.to * 2)));
-    larger.set(this.numbers);
-    this.numbers = larger;
+    const largerArray = /** @type {Kind} */ (new (/** @type {any} */ (this.numbers.constructor))(Math.max(FIRST_CAPACITY, this.to * 2)));
+    largerArray.set(this.numbers);
+    this.numbers = largerArray;
   }
 
   /** Removes the last number. */

@@ -16,7 +16,7 @@ const escapeText = (text) => text.replace(/[&<>"]/g, (letter) => `&#${letter.cha
  * @param {string} name
  * @param {Record<string, string | number>} attributes
  */
-function startTag(name, attributes) {
+function formatTag(name, attributes) {
   return [name, ...Object.entries(attributes).map(([key, value]) => `${key}="${escapeText(String(value))}"`)].join(" ");
 }
 
@@ -26,8 +26,8 @@ function startTag(name, attributes) {
  * @param {Record<string, string | number>} attributes
  * @param {string} [content] the escaped content of the element
  */
-function tag(name, attributes, content) {
-  return content === undefined ? `<${startTag(name, attributes)}/>` : `<${startTag(name, attributes)}>${content}</${name}>`;
+function formatElement(name, attributes, content) {
+  return content === undefined ? `<${formatTag(name, attributes)}/>` : `<${formatTag(name, attributes)}>${content}</${name}>`;
 }
 
 export class SvgContext {
@@ -39,7 +39,7 @@ export class SvgContext {
   constructor(width, height, background) {
     this.size = [width, height];
     /** @type {string[]} */
-    this.parts = [tag("rect", { width: "100%", height: "100%", fill: background })];
+    this.parts = [formatElement("rect", { width: "100%", height: "100%", fill: background })];
     this.fillStyle = this.strokeStyle = "#000";
     this.lineWidth = 1;
     this.font = "";
@@ -93,12 +93,13 @@ export class SvgContext {
   clip() {
     this.clipCount += 1;
     const id = `clip${this.clipCount}`;
-    this.parts.push(tag("clipPath", { id }, tag("rect", this.currentBox)), `<${startTag("g", { "clip-path": `url(#${id})` })}>`);
+    const clipPath = formatElement("clipPath", { id }, formatElement("rect", this.currentBox));
+    this.parts.push(clipPath, `<${formatTag("g", { "clip-path": `url(#${id})` })}>`);
   }
 
   stroke() {
     const attributes = { "fill": "none", "stroke": this.strokeStyle, "stroke-width": this.lineWidth, ...this.dash };
-    this.parts.push(tag("path", { d: this.path, ...attributes }));
+    this.parts.push(formatElement("path", { d: this.path, ...attributes }));
   }
 
   /**
@@ -107,7 +108,7 @@ export class SvgContext {
    */
   fillRect(...box) {
     this.rect(...box);
-    this.parts.push(tag("rect", { ...this.currentBox, fill: this.fillStyle }));
+    this.parts.push(formatElement("rect", { ...this.currentBox, fill: this.fillStyle }));
   }
 
   /**
@@ -118,7 +119,7 @@ export class SvgContext {
    */
   fillText(text, x, y) {
     const attributes = { "dy": ".35em", "text-anchor": ANCHORS[this.textAlign], "fill": this.fillStyle };
-    this.parts.push(tag("text", { x: formatNumber(x), y: formatNumber(y), ...attributes }, escapeText(text)));
+    this.parts.push(formatElement("text", { x: formatNumber(x), y: formatNumber(y), ...attributes }, escapeText(text)));
   }
 
   /**
@@ -141,6 +142,6 @@ export class SvgContext {
   get text() {
     const [width, height] = this.size;
     const attributes = { width, height, "font-family": "monospace", "font-size": 12 };
-    return `${tag("svg", { xmlns: "http://www.w3.org/2000/svg", ...attributes }, `\n${this.parts.join("\n")}\n`)}\n`;
+    return `${formatElement("svg", { xmlns: "http://www.w3.org/2000/svg", ...attributes }, `\n${this.parts.join("\n")}\n`)}\n`;
   }
 }

@@ -39,12 +39,13 @@ export function normalizeName(text) {
 export function findLineByName(text, lines) {
   const wantedName = normalizeName(text);
   /** @type {(matches: (line: WaveLine) => boolean) => number} */
-  const find = (matches) => lines.findIndex(matches);
+  const findIndex = (matches) => lines.findIndex(matches);
   const candidates = [
-    find(({ name }) => normalizeName(name) === wantedName),
-    find(({ name, kind }) => kind === "port" && normalizeName(name.replace(/\[.*/, "")) === wantedName),
-    find(({ title, kind }) => title !== "" && kind !== "value" && normalizeName(title) === wantedName),
-    find(({ name, group }) => (group === "lamps" || group === "keys") && normalizeName(name.slice(name.indexOf(".") + 1)) === wantedName),
+    findIndex(({ name }) => normalizeName(name) === wantedName),
+    findIndex(({ name, kind }) => kind === "port" && normalizeName(name.replace(/\[.*/, "")) === wantedName),
+    findIndex(({ title, kind }) => title !== "" && kind !== "value" && normalizeName(title) === wantedName),
+    findIndex(({ name, group }) => (
+      (group === "lamps" || group === "keys") && normalizeName(name.slice(name.indexOf(".") + 1)) === wantedName)),
   ];
   const lamp = /^lamp (\d+)$/.exec(wantedName);
   const lamps = lines.findIndex(({ group }) => group === "lamps");

@@ -2,7 +2,7 @@
 
 import { isDecoder } from "./decoders.js";
 import { normalizeName } from "./trigger.js";
-import { REGISTER_NAMES, characterNames, isDrawnAsBoxes, createBoardLines } from "./wave_lines.js";
+import { REGISTER_NAMES, listNibbleNames, isDrawnAsBoxes, createBoardLines } from "./wave_lines.js";
 import * as say from "../../words/waves.js";
 
 /**
@@ -22,7 +22,7 @@ const MAX_NIBBLES = 64;
  * @param {string} text the board text, for the names
  */
 export function listRecordableLines(board, text) {
-  return createBoardLines(board, text, true, [...REGISTER_NAMES, ...characterNames(board)]);
+  return createBoardLines(board, text, true, [...REGISTER_NAMES, ...listNibbleNames(board)]);
 }
 
 /**
@@ -70,12 +70,12 @@ function findMatchingLines(lines, text) {
  * @returns {{ lines: WaveLine[], note: string }} `note` is a note about unlisted lines, or that no line matches; "" for none
  */
 export function searchLines(allLines, text, chosenNames) {
-  const isAll = text.trim() === "";
-  const isCharacter = (/** @type {WaveLine} */ { group }) => group.startsWith(say.RAM_GROUP);
-  let remaining = isAll ? 0 : MAX_NIBBLES;
+  const isEmptySearch = text.trim() === "";
+  const isNibble = (/** @type {WaveLine} */ { group }) => group.startsWith(say.RAM_GROUP);
+  let remaining = isEmptySearch ? 0 : MAX_NIBBLES;
   const matchingLines = findMatchingLines(allLines, text);
-  if (matchingLines.length === 0 && !isAll) return { lines: matchingLines, note: say.noNameMessage(text.trim()) };
-  const lines = matchingLines.filter((line) => !isCharacter(line) || chosenNames.has(line.name) || remaining-- > 0);
+  if (matchingLines.length === 0 && !isEmptySearch) return { lines: matchingLines, note: say.noNameMessage(text.trim()) };
+  const lines = matchingLines.filter((line) => !isNibble(line) || chosenNames.has(line.name) || remaining-- > 0);
   const hiddenCount = matchingLines.length - lines.length;
   if (hiddenCount === 0) return { lines, note: "" };
   return { lines, note: say.notListedMessage(hiddenCount) };

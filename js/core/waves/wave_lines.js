@@ -178,7 +178,7 @@ export const REGISTER_NAMES = ["acc", "cy", ...indices(16).map((at) => `r${at}`)
  * Returns the names of all RAM nibbles on a board, including status nibbles.
  * @param {Board} board
  */
-export function characterNames({ banks }) {
+export function listNibbleNames({ banks }) {
   return banks.flatMap(({ bank, chips }) => [
     ...indices(chips * 64).map((at) => `ram.${bank}.0x${at.toString(16).toUpperCase().padStart(2, "0")}`),
     ...indices(chips * 16).map((at) => `st.${bank}.${at >> 2}.${at & 3}`),

@@ -27,13 +27,13 @@ const DERIVED_KINDS = new Set(["pc", "label", "port", "shift", "scan"]);
  * @param {{ address: number }[]} labels the labels in ascending address order
  */
 function findLabelsBelow(labels) {
-  const below = new Int16Array(ADDRESS_COUNT);
+  const labelIndexes = new Int16Array(ADDRESS_COUNT);
   let [nextLabel, currentLabel] = [0, -1];
-  for (let address = 0; address < below.length; address++) {
+  for (let address = 0; address < labelIndexes.length; address++) {
     while (nextLabel < labels.length && labels[nextLabel].address <= address) currentLabel = nextLabel++;
-    below[address] = currentLabel;
+    labelIndexes[address] = currentLabel;
   }
-  return below;
+  return labelIndexes;
 }
 
 export class Waves {
@@ -243,7 +243,7 @@ export class Waves {
    * Returns the index of the last instruction that started at or before a moment; 0 if there is none.
    * @param {number} moment
    */
-  sampleAt(moment) {
+  instructionIndexAt(moment) {
     return Math.max(0, countUpTo(this.moments.all, moment) - 1);
   }
 
@@ -252,7 +252,7 @@ export class Waves {
    * @param {number} moment
    */
   counterAt(moment) {
-    return this.counters.all[this.sampleAt(moment)];
+    return this.counters.all[this.instructionIndexAt(moment)];
   }
 
   /**
@@ -307,7 +307,7 @@ export class Waves {
    * @returns {Instruction}
    */
   instructionAt(moment) {
-    const sample = this.sampleAt(moment);
+    const sample = this.instructionIndexAt(moment);
     const { program } = this;
     const address = this.counters.all[sample];
     const line = program ? program.lines[address] : 0;

@@ -62,8 +62,8 @@ export function readSearch(text, waves, markedLine) {
   const edge = /^(?:(.*\S)\s+)?(rises|falls|changes)$/.exec(trimmed);
   if (edge) return makeEdgeSearch(edge[1], edge[2], waves, markedLine);
   const comparison = /^(.*?)\s*(!=|<=|>=|=|<|>)\s*(\S+)$/.exec(trimmed);
-  const [, name, sign, value] = comparison || ["", "", "=", trimmed];
-  return makeValueSearch(name, sign, value, waves, markedLine);
+  const [, name, operator, value] = comparison || ["", "", "=", trimmed];
+  return makeValueSearch(name, operator, value, waves, markedLine);
 }
 
 /**
@@ -98,16 +98,16 @@ function makeEdgeSearch(name, edge, waves, markedLine) {
 /**
  * Returns the search for a value, or an error.
  * @param {string} name
- * @param {string} sign the comparison operator
+ * @param {string} operator the comparison operator
  * @param {string} value
  * @param {Waves} waves
  * @param {number} markedLine
  */
-function makeValueSearch(name, sign, value, waves, markedLine) {
+function makeValueSearch(name, operator, value, waves, markedLine) {
   const { line, error } = findSearchLine(name, waves, markedLine);
   if (error) return searchError(error);
   const { kind, width, name: lineName } = waves.lines[line];
-  if (isDecoder(waves.lines[line])) return makeKeySearch(waves.lines[line], line, sign, value);
+  if (isDecoder(waves.lines[line])) return makeKeySearch(waves.lines[line], line, operator, value);
   const label = kind === "label" || kind === "pc" ? findLabel(waves, value.replace(/^@/, "")) : null;
   const binary = /^0b([01]+)$/i.exec(value);
   const number = label ? (kind === "pc" ? label.address : label.number) : binary ? parseInt(binary[1], 2) : parseNumber(value);
@@ -115,7 +115,7 @@ function makeValueSearch(name, sign, value, waves, markedLine) {
   if (Number.isNaN(number)) return searchError(say.noNumberMessage(value, say.SEARCH_FORMS));
   const max = 2 ** width - 1;
   if (kind !== "label" && number > max) return searchError(say.valueTooLarge(lineName, width, max));
-  const matches = (/** @type {number} */ current) => COMPARISONS[sign](current, number);
+  const matches = (/** @type {number} */ lineValue) => COMPARISONS[operator](lineValue, number);
   return { search: { line, matches, findsEachMatch: false }, error: "" };
 }
 
@@ -123,12 +123,12 @@ function makeValueSearch(name, sign, value, waves, markedLine) {
  * Returns the search for a key in a key scan, or an error.
  * @param {import("./wave_lines.js").WaveLine} decoder
  * @param {number} line the index of the key scan line
- * @param {string} sign
+ * @param {string} operator
  * @param {string} key
  * @returns {{ search: Search | null, error: string }}
  */
-function makeKeySearch(decoder, line, sign, key) {
-  if (sign !== "=" || !decoder.places.includes(key)) return searchError(say.isDecodedMessage(decoder.name));
+function makeKeySearch(decoder, line, operator, key) {
+  if (operator !== "=" || !decoder.places.includes(key)) return searchError(say.isDecodedMessage(decoder.name));
   return { search: { line, matches: (value) => parseScan(decoder, value).keys.includes(key), findsEachMatch: false }, error: "" };
 }
 

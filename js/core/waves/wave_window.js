@@ -69,7 +69,7 @@ export class WaveWindow {
    * Returns the moment at a horizontal position.
    * @param {number} x
    */
-  cyclesAt(x) {
+  timeAt(x) {
     return this.from + (x / this.width) * this.span;
   }
 
@@ -156,7 +156,7 @@ export class WaveWindow {
    * @param {number} line the index of the line; -1 for none
    */
   momentAt(x, waves, line) {
-    const cycle = clamp(Math.floor(this.cyclesAt(x)), this.begin, this.end);
+    const cycle = clamp(Math.floor(this.timeAt(x)), this.begin, this.end);
     if (line < 0) return cycle;
     const edges = [waves.changeBefore(line, cycle + 1), waves.changeAfter(line, cycle)];
     const nearEdges = edges.filter((edge) => edge !== undefined && Math.abs(this.xAt(edge) - x) <= NEAR_PIXELS);

@@ -85,10 +85,10 @@ export function screenReaderText(moment, waves, line) {
  * Describes the length of a recording.
  * @param {Pick<Waves, "length" | "isStuck">} waves
  * @param {number} wantedCycles the requested number of cycles
- * @param {boolean} isBefore true for a recording of the past
+ * @param {boolean} isOfPast true for a recording of the past
  */
-export function describeRecording({ length, isStuck }, wantedCycles, isBefore) {
-  if (length === 0 && isBefore) return say.NOTHING_BEFORE;
+export function describeRecording({ length, isStuck }, wantedCycles, isOfPast) {
+  if (length === 0 && isOfPast) return say.NOTHING_BEFORE;
   const recordedText = say.recordedSpan(cyclesText(length), formatCycleTime(length));
   if (isStuck) return say.codeFollows(recordedText);
   return length < wantedCycles ? say.noFurtherBackMessage(recordedText) : recordedText;

@@ -87,8 +87,8 @@ async function debugFiles(names) {
   const position = { line: 0 };
   const prompt = new Prompt(launchResult, data, {
     print: (words) => process.stdout.write(`${escapeControls(words)}\n`),
-    complain: (words) => {
-      if (screen.terminal) screen.terminal.complain(words);
+    printError: (words) => {
+      if (screen.terminal) screen.terminal.printError(words);
       else process.stderr.write(`debug: line ${position.line}: ${escapeControls(words)}\n`);
     },
     pause: host.pause,

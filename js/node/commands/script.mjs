@@ -2,7 +2,7 @@
 import { MAX_LINE_LENGTH, joinLines } from "../../core/bench/inputs.js";
 import { DEFAULT_PACE } from "../../core/testing/press_lines.js";
 import { prepareTests } from "../../core/testing/test_preparation.js";
-import { MAX_SENT_LENGTH, asciiCommentsText, sentText } from "../../core/text/sendable_text.js";
+import { MAX_SENT_LENGTH, toAsciiComments, sentText } from "../../core/text/sendable_text.js";
 import { CYCLES_BEFORE_KEYS } from "../../core/time/mcs4_time.js";
 import { checkArguments, findProject } from "../arguments.mjs";
 import { makeKeyLines } from "../board_file.mjs";
@@ -16,7 +16,7 @@ import { printVerbatim } from "../output.mjs";
  * @param {import("../../core/text/sendable_text.js").CommentMark} mark
  */
 function prepareForBench(text, mark) {
-  const fullText = asciiCommentsText(text, mark);
+  const fullText = toAsciiComments(text, mark);
   const isTooLong = fullText.length > MAX_SENT_LENGTH || fullText.split("\n").some((line) => line.length > MAX_LINE_LENGTH);
   return isTooLong ? sentText(text, mark) : fullText;
 }

@@ -4,7 +4,7 @@ import { addKeyRows } from "../commands/key_list.js";
 import { HelpView } from "./help_view.js";
 import { LinesView } from "../lines/lines_view.js";
 import { readLineForms } from "../../core/help/manual.js";
-import { shortName } from "../../core/session/names.js";
+import { shortenName } from "../../core/session/names.js";
 import { runAction } from "../../core/help/story_actions.js";
 import { parseStory } from "../../core/help/story.js";
 import { isTourText } from "../../core/help/tour.js";
@@ -79,7 +79,7 @@ export class Guide {
     const { story = "" } = examples.find((example) => example.name === name) || {};
     const steps = parseStory(story);
     if (steps.length > 0) this.tour.open(steps);
-    else this.calls.showRefusal(say.noSuchStoryMessage(shortName(name)));
+    else this.calls.showRefusal(say.noSuchStoryMessage(shortenName(name)));
   }
 
   /** Closes the story, if one is open. Called when another session is opened. */

@@ -5,7 +5,7 @@ import { describeInterruption } from "../../words/stops.js";
 import { ZERO_COUNTS } from "../../core/time/cycles.js";
 import { formatUrlFragment } from "./address.js";
 import { OpenSession } from "./open_session.js";
-import { shortName } from "../../core/session/names.js";
+import { shortenName } from "../../core/session/names.js";
 import * as say from "../../words/session.js";
 
 /**
@@ -164,7 +164,7 @@ export class CurrentSession {
    * @param {string} title
    */
   adoptTitle(title) {
-    const name = shortName(title.replace(/\.$/, ""));
+    const name = shortenName(title.replace(/\.$/, ""));
     if (!this.session || !this.session.record.isTitled || name === "" || name === this.session.record.name) return;
     this.session.record.name = name;
     this.showTitle();

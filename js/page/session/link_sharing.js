@@ -4,7 +4,7 @@ import { formatUrlFragment } from "./address.js";
 import { readBoard, parseRefusal } from "../../core/bench/answers.js";
 import { sessionTitle, describeBoard } from "../../core/session/session_summary.js";
 import { element } from "../ui/dom.js";
-import { shortName } from "../../core/session/names.js";
+import { shortenName } from "../../core/session/names.js";
 import { tooLongMessage } from "../../core/session/project_file.js";
 import { MAX_LINK_LENGTH, MAX_SAFE_LINK_LENGTH, toLink, readLink } from "./share_link.js";
 import { formatLineCount } from "./texts_controller.js";
@@ -139,7 +139,7 @@ export class LinkSharing {
    * @param {import("../../core/engine/dry_run.js").DryRunResult} result
    */
   describeLink({ boardText, programText, testText = "", propertiesText = "" }, { board, rejectedTexts }) {
-    const title = shortName(sessionTitle(boardText, programText));
+    const title = shortenName(sessionTitle(boardText, programText));
     const lines = rejectedTexts.map(({ word, answer }) => {
       const refusal = parseRefusal(answer);
       const reason = refusal ? `${answer}: ${this.errorMessages.refusalMeaning(refusal.number)}` : answer;

@@ -1,6 +1,6 @@
 // A session that is open in this tab: its record, with the last state that the bench reported, and the writes of the record to the store.
 
-import { shortName } from "../../core/session/names.js";
+import { shortenName } from "../../core/session/names.js";
 import { UnsavedTexts } from "./unsaved_texts.js";
 import { withTimeout, describeStoreError } from "./store.js";
 
@@ -27,7 +27,7 @@ export function newRecord(name, file, content, runs = false) {
   createdCount += 1;
   const id = `${Date.now().toString(36)}-${createdCount}-${Math.floor(Math.random() * 1e9).toString(36)}`;
   const texts = { boardText, programText, testText, propertiesText };
-  const record = { id, name: shortName(name) || "session", file, ...texts, runs, revision: 0, changed: Date.now() };
+  const record = { id, name: shortenName(name) || "session", file, ...texts, runs, revision: 0, changed: Date.now() };
   return { ...record, ...(breakpoints ? { breakpoints } : {}), ...(watched ? { watched } : {}), ...(wired ? { wired } : {}) };
 }
 

@@ -2,7 +2,7 @@
 
 import { readUrlFragment } from "./address.js";
 import { Trash, formatNames } from "./trash.js";
-import { shortName } from "../../core/session/names.js";
+import { shortenName } from "../../core/session/names.js";
 import { OpeningGuard } from "./opening_guard.js";
 import { SessionManager } from "./session_manager.js";
 import { TOUR_EXAMPLE } from "../../core/help/tour.js";
@@ -148,7 +148,7 @@ export class SessionsController {
   async openExampleByName(name) {
     const example = [...this.examples, TOUR_EXAMPLE].find((candidate) => candidate.name === name);
     if (example) return this.openExample(example);
-    this.notice.show(say.noSuchExampleMessage(shortName(name)), "session");
+    this.notice.show(say.noSuchExampleMessage(shortenName(name)), "session");
     return false;
   }
 
@@ -188,7 +188,7 @@ export class SessionsController {
 
   /** @param {string} hash the text after `#` in an address that names no session, example or link */
   reportUnknownAddress(hash) {
-    if (hash.length > 1) this.notice.show(say.namesNothing(shortName(hash)), "session");
+    if (hash.length > 1) this.notice.show(say.namesNothing(shortenName(hash)), "session");
   }
 
   /**
@@ -221,7 +221,7 @@ export class SessionsController {
     const release = await this.locks.acquire(record.id);
     if (!release) return;
     release();
-    const message = say.notOpenedAutomaticallyMessage(shortName(record.name));
+    const message = say.notOpenedAutomaticallyMessage(shortenName(record.name));
     const openAction = { word: say.OPEN_IT, act: () => this.open(record.id) };
     const deleteAction = { word: say.DELETE_IT, act: () => this.remove([record]) };
     this.notice.show(message, "unended", openAction, deleteAction);

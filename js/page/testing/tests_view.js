@@ -83,7 +83,8 @@ export class TestsView {
     const formatPercent = (/** @type {number} */ part) => ((100 * part) / total).toFixed(1);
     const tableRows = rows.map(({ label, address, ownCycles, calls }) => {
       const name = address < 0 ? say.NO_LABEL : makeButton(label, () => this.calls.goToAddress(address), { className: "name" });
-      const callCells = calls ? [calls.times, calls.withCalls, calls.longest].map((count) => count.toLocaleString("en")) : ["", "", ""];
+      const callCells = calls
+        ? [calls.callCount, calls.cyclesWithCalls, calls.longestCall].map((count) => count.toLocaleString("en")) : ["", "", ""];
       return makeTableRow(name, address < 0 ? "" : hex(address, 3), ownCycles.toLocaleString("en"), formatPercent(ownCycles), ...callCells);
     });
     if (earlierInstructionCycles > 0) {

@@ -11,7 +11,7 @@ import { MeaningView } from "./meaning_view.js";
 import { NameView } from "./name_view.js";
 import { SearchBar } from "./search_bar.js";
 import { TextEditor } from "./text_editor.js";
-import { MAX_STORED_LENGTH, MAX_SENT_LENGTH, asciiCommentsText, sentText } from "../../core/text/sendable_text.js";
+import { MAX_STORED_LENGTH, MAX_SENT_LENGTH, toAsciiComments, sentText } from "../../core/text/sendable_text.js";
 import * as say from "../../words/text.js";
 
 /**
@@ -260,7 +260,7 @@ export class EditorView {
 
   /** The text to which the positions of the bench's errors refer. */
   get alignedText() {
-    return asciiCommentsText(this.text, this.language.mark);
+    return toAsciiComments(this.text, this.language.mark);
   }
 
   get lines() {

@@ -118,7 +118,7 @@ export class Scope {
   }
 
   get isLive() {
-    return this.liveWaves !== null && this.liveWaves.isOn;
+    return this.liveWaves !== null && this.liveWaves.isRecording;
   }
 
   /** Shows the trigger's controls only for a live recording. */
@@ -241,10 +241,10 @@ export class Scope {
    */
   addPart(part) {
     const { liveWaves } = this;
-    if (!liveWaves || !liveWaves.isOn) return;
+    if (!liveWaves || !liveWaves.isRecording) return;
     if (part) liveWaves.append(part);
     else liveWaves.markLost();
-    if (!liveWaves.isOn) this.drawLive(liveWaves);
+    if (!liveWaves.isRecording) this.drawLive(liveWaves);
     else if (this.isUpToDate) {
       this.isUpToDate = false;
       setTimeout(() => this.drawLive(liveWaves), DRAW_INTERVAL);
@@ -257,7 +257,7 @@ export class Scope {
     if (this.liveWaves !== liveWaves) return;
     this.view.handleGrowth(liveWaves.triggerMoment);
     if (liveWaves.endReason === "trigger") this.view.showAround(liveWaves.triggerMoment);
-    else if (!liveWaves.isOn) this.view.fit();
+    else if (!liveWaves.isRecording) this.view.fit();
     this.choice.handleGrowth();
     this.showLive(liveWaves);
     const { endReason } = liveWaves;
@@ -268,7 +268,7 @@ export class Scope {
   /** Shows the complete recording so far when time is paused. */
   showPaused() {
     const { liveWaves } = this;
-    if (!liveWaves || !liveWaves.isOn) return;
+    if (!liveWaves || !liveWaves.isRecording) return;
     this.drawLive(liveWaves);
     if (liveWaves.triggerMoment < 0) this.view.fit();
   }
@@ -276,9 +276,9 @@ export class Scope {
   /** @param {LiveWaves} liveWaves */
   showLive(liveWaves) {
     this.status.set(liveWaves.statusText);
-    this.lengthStatus.set(liveWaves.isOn ? liveWaves.lengthText : "");
-    this.recordLabel.set(liveWaves.isOn ? say.STOP_RECORDING : say.RECORD);
-    this.calls.showRecording(liveWaves.isOn);
+    this.lengthStatus.set(liveWaves.isRecording ? liveWaves.lengthText : "");
+    this.recordLabel.set(liveWaves.isRecording ? say.STOP_RECORDING : say.RECORD);
+    this.calls.showRecording(liveWaves.isRecording);
   }
 
   /**

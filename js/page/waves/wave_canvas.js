@@ -209,7 +209,7 @@ function drawLevels(context, { waves, view, gutter }, line, y) {
   context.moveTo(gutter, level ? high : low);
   while (changeIndex < changes.length && view.xAt(changes[changeIndex]) < endX) {
     const x = view.xAt(changes[changeIndex]);
-    const nextIndex = countUpTo(changes, view.cyclesAt(x + 1));
+    const nextIndex = countUpTo(changes, view.timeAt(x + 1));
     if (nextIndex > changeIndex + 1) {
       // Several edges are in the same pixel column, so draw a solid block.
       context.lineTo(gutter + x, level ? high : low);
@@ -251,7 +251,7 @@ function drawTexts(context, { waves, view, gutter }, line, y) {
     drawValue(context, waves.valueAt(line, moment), gutter + from, gutter + to, y);
     if (to < endX) strokeLine(context, gutter + to, high, gutter + to, low);
     from = to;
-    changeIndex = Math.max(changeIndex + 1, countUpTo(changes, view.cyclesAt(to)));
+    changeIndex = Math.max(changeIndex + 1, countUpTo(changes, view.timeAt(to)));
   }
 }
 

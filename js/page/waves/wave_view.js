@@ -99,12 +99,12 @@ export class WaveView {
     new WavePointers(this.canvas, {
       click: (point, isOtherCursor) => this.click(point, isOtherCursor),
       holdsCursor: ({ x, y }) => y < AXIS_HEIGHT && x >= this.gutter,
-      drag: ({ x }) => this.moveCursor(this.view.cyclesAt(x - this.gutter)),
+      drag: ({ x }) => this.moveCursor(this.view.timeAt(x - this.gutter)),
       isOnRowName: ({ x, y }) => y >= AXIS_HEIGHT && x < this.gutter,
       dragRow: (from, to) => this.dragRow(from, to),
       hover: (point) => this.hover(point),
       pan: (pixels) => this.changeView(() => this.view.goTo(this.view.from + (pixels / this.view.width) * this.view.span)),
-      zoom: (factor, x) => this.changeView(() => this.view.zoom(factor, this.view.cyclesAt(x - this.gutter))),
+      zoom: (factor, x) => this.changeView(() => this.view.zoom(factor, this.view.timeAt(x - this.gutter))),
     });
   }
 
@@ -315,7 +315,7 @@ export class WaveView {
     const isOn = pointer !== null && pointer.x >= gutter && line >= 0;
     if (this.measurementBlock.hidden === isOn) this.measurementBlock.hidden = !isOn;
     if (!pointer || !isOn) return null;
-    const moment = Math.min(Math.max(Math.floor(view.cyclesAt(pointer.x - gutter)), waves.from), waves.cycles);
+    const moment = Math.min(Math.max(Math.floor(view.timeAt(pointer.x - gutter)), waves.from), waves.cycles);
     const measurement = measureAt(waves, line, moment);
     this.measurementCell.set(describeMeasurement(waves.valueAt(line, moment), measurement));
     const { offsetWidth, style } = this.measurementBlock;
