@@ -1,8 +1,8 @@
 // The functions that the module of the bench needs and that no C library provides: a heap, arithmetic on 128 bits, and buffers for the
 // calls of the page.
 //
-// The heap has blocks of 2^4, 2^5, .. bytes, each after a header of 16 bytes with the exponent. A freed block is put into the list of its
-// exponent, and is used again from there. New blocks are cut from the end of memory, which grows and never shrinks.
+// The heap has blocks of 2^4, 2^5, .. bytes, each after a header of 16 bytes with the exponent. A freed block goes into the list for its
+// exponent, from which later allocations take it. New blocks are cut from the end of memory, which grows and never shrinks.
 
 typedef unsigned char Byte;
 typedef unsigned long long Word;
@@ -20,7 +20,7 @@ typedef struct Free {
 static Free *waiting[POWERS];
 static Word end_of_heap;
 
-// The result of an allocation: whether it succeeded, and the block. After a failure the pointer is to a byte that no block contains.
+// The result of an allocation: whether it succeeded, and the block. After a failure, the pointer refers to a byte outside all blocks.
 typedef struct {
     Word ok;
     void *at;
@@ -28,7 +28,7 @@ typedef struct {
 
 static Byte nothing;
 
-// Returns the exponent of the smallest block of `count` bytes, or POWERS if no block is so large.
+// Returns the exponent of the smallest block that holds `count` bytes, or POWERS if no block is that large.
 static int power_for(Word count) {
     int power = LEAST_POWER;
     while (power < POWERS && (1ULL << power) < count) power++;
@@ -52,8 +52,8 @@ static void *take(Word count) {
     if (end > have) {
         Word pages = (end - have + (1ULL << PAGE_POWER) - 1) >> PAGE_POWER;
         __builtin_wasm_memory_grow(0, pages);
-        // Compares the size of the memory to find whether it has grown. The result of the call is not reliable: after a failure, it is not -1 when
-        // the addresses have been lowered to 32 bits.
+        // Check the memory size to see whether the memory has grown. The result of the call above is unreliable: after the addresses have
+        // been lowered to 32 bits, a failure does not return -1.
         if ((Word)__builtin_wasm_memory_size(0) << PAGE_POWER < end) return 0;
     }
     Byte *block = (Byte *)end_of_heap + HEADER;

@@ -1,9 +1,9 @@
-"""Finds the third-party software that the page needs: esbuild bundles its modules, CodeMirror 6 is its editor, and pako unpacks its data in
-browsers without DecompressionStream.
+"""Finds the third-party software that the page needs: esbuild bundles its modules, CodeMirror 6 is its editor, and pako decompresses its data
+in browsers without DecompressionStream.
 
 CodeMirror and pako are in page/codemirror, from Debian's packages of trixie. page/codemirror/fetch downloads them, and page/codemirror/SUMS
-has the checksum of each file. The program esbuild is searched for in page/from_npm, where `npm install --prefix page/from_npm
-esbuild@VERSION` puts it, and then in PATH. With another version of esbuild, or with a zlib that packs differently, the page differs from the shipped
+has the checksum of each file. The module looks for esbuild in page/from_npm, where `npm install --prefix page/from_npm esbuild@VERSION`
+puts it, and then in PATH. With another version of esbuild, or with a zlib that compresses differently, the page differs from the shipped
 one. A message then reports the difference, but the page is still built.
 """
 
@@ -17,9 +17,9 @@ import zlib
 HERE = pathlib.Path(__file__).resolve().parent
 ESBUILD = "0.17.0"
 EDITOR = HERE / "codemirror"
-# A sample text, and the checksum (SHA-256) of this text packed by zlib. If the checksum differs, zlib packs differently here.
-PACKED_TEXT = " ".join(str(number * number) for number in range(20000)).encode()
-PACKED_CHECKSUM = "c9235e861439903a62dc18ba276c200da9cfd6a308ace067475943966a4aaa78"
+# A sample text, and the checksum (SHA-256) of this text compressed with zlib. If the checksum differs, zlib compresses differently on this machine.
+SAMPLE_TEXT = " ".join(str(number * number) for number in range(20000)).encode()
+SAMPLE_CHECKSUM = "c9235e861439903a62dc18ba276c200da9cfd6a308ace067475943966a4aaa78"
 # Matches the imports of js/page from CodeMirror: the imported names, and the module.
 IMPORTS = re.compile(r'^import \{([^}]*)\}\s*from "(@codemirror/[a-z]+|style-mod)";', re.M)
 
@@ -60,17 +60,17 @@ def editor_imports(folder):
     return {module: sorted(names) for module, names in sorted(imports.items())}
 
 
-def packed(data):
-    """Returns bytes packed by raw DEFLATE."""
-    packer = zlib.compressobj(9, wbits=-15)
-    return packer.compress(data) + packer.flush()
+def compress(data):
+    """Returns bytes compressed with raw DEFLATE."""
+    compressor = zlib.compressobj(9, wbits=-15)
+    return compressor.compress(data) + compressor.flush()
 
 
 def differing_parts():
     """Returns a message for each part (esbuild, zlib) that differs from the one with which the shipped page was built."""
     version = subprocess.run([esbuild(), "--version"], stdout=subprocess.PIPE, text=True, check=True).stdout.strip()
     esbuild_messages = [] if version == ESBUILD else [f"esbuild is {version}, not {ESBUILD}"]
-    has_same_zlib = hashlib.sha256(packed(PACKED_TEXT)).hexdigest() == PACKED_CHECKSUM
+    has_same_zlib = hashlib.sha256(compress(SAMPLE_TEXT)).hexdigest() == SAMPLE_CHECKSUM
     zlib_messages = [] if has_same_zlib else [f"zlib {zlib.ZLIB_RUNTIME_VERSION} packs differently"]
     return [*esbuild_messages, *zlib_messages]
 

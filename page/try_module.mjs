@@ -66,7 +66,7 @@ function fileOf(calls, { file, size }) {
   return Buffer.from(new Uint8Array(calls.memory.buffer, Number(file), Number(size)).slice());
 }
 
-// Serves the input by the call `name`. Returns 0 if it was served, otherwise the number of the error.
+// Serves the input with the call `name`. Returns 0 if it was served, otherwise the number of the error.
 function serve(calls, name, { file, size, lines, count, answers, report }) {
   const isServed = calls[name](file, size, lines, count, answers, 4096n, report);
   return isServed ? 0 : new DataView(calls.memory.buffer, Number(report)).getUint32(0, true);

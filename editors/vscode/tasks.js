@@ -38,8 +38,8 @@ class Tasks {
   }
 
   /**
-   * Returns a task of tasks.json that the editor can run. If the task names no folder, the task runs in the workspace folder. Returns
-   * undefined if the command is unknown or there is no folder.
+   * Completes a task from tasks.json so that the editor can run it. Returns the new task. If the task names no folder, the task runs in the
+   * workspace folder. Returns undefined if the command is unknown or there is no folder.
    */
   completeTask({ definition, scope }) {
     const { vscode } = this;

@@ -41,9 +41,11 @@ export function parseCount(name, word, max) {
  * @param {string} folder
  */
 export async function loadProject(folder) {
-  const [{ projectIn }, { ProjectError }] = await Promise.all([import("./project_on_disk.mjs"), import("../core/project/project_folder.js")]);
+  const [{ readProjectFolder }, { ProjectError }] = await Promise.all([
+    import("./project_on_disk.mjs"), import("../core/project/project_folder.js"),
+  ]);
   try {
-    return projectIn(folder);
+    return readProjectFolder(folder);
   } catch (error) {
     throw error instanceof ProjectError ? new CommandError(error.message) : error;
   }

@@ -10,7 +10,8 @@ import { CommandError } from "./output.mjs";
 /** @typedef {import("./input_texts.mjs").InputText} InputText */
 
 /**
- * Reads a board and its front panel. Resolves to both, and to the bench's answer lines to `board`. Rejects if one of them has errors.
+ * Reads a board and its front panel. Resolves to the board, the front panel, and the bench's answer lines to `board`. Rejects if one of them has
+ * errors.
  * @param {import("../core/engine/engine_host.js").EngineHost} engine
  * @param {InputText} boardFile
  */

@@ -85,9 +85,10 @@ function listCompletions() {
       ...Object.keys(options).map((option) => `--${option}`),
       "--help"],
   }));
-  const builtIn = Object.entries(say.BUILT_IN_COMPLETIONS).map(([name, description]) => ({ name, description, words: /** @type {string[]} */ ([]) }));
-  const names = [...builtIn, ...commands].map(({ name }) => name);
-  return [...builtIn.map((word) => (word.name === "help" ? { ...word, words: [...names, "refusals"] } : word)), ...commands];
+  const builtIns = Object.entries(say.BUILT_IN_COMPLETIONS).map(([name, description]) => (
+    { name, description, words: /** @type {string[]} */ ([]) }));
+  const names = [...builtIns, ...commands].map(({ name }) => name);
+  return [...builtIns.map((word) => (word.name === "help" ? { ...word, words: [...names, "refusals"] } : word)), ...commands];
 }
 
 /** @type {(text: string) => string} */

@@ -65,8 +65,8 @@ function readStartTests({ from }, name) {
 async function askModel(command, keySequences) {
   const { status, stdout, stderr, signal } = await runCommand("sh", ["-c", command], `${keySequences.join("\n")}\n`);
   const lines = stdout.split("\n").slice(0, -1);
-  const [words] = stderr.split("\n");
-  if (status !== 0) return { expectedTexts: [], error: say.modelEnded(signal || `status ${status}`, words) };
+  const [firstLine] = stderr.split("\n");
+  if (status !== 0) return { expectedTexts: [], error: say.modelEnded(signal || `status ${status}`, firstLine) };
   return { expectedTexts: lines, error: lines.length === keySequences.length ? "" : say.modelPrinted(lines.length, keySequences.length) };
 }
 
@@ -96,8 +96,8 @@ class Exploration {
     const { campaign, errors } = readCampaign(properties.text, subject);
     if (errors.length > 0) throw new CommandError(errors.map(({ line, words }) => `${properties.name}:${line}: ${words}`).join("\n"));
     const testText = readStartTests(campaign, properties.name);
-    const { searchSetup, message: words } = await startCampaign({ subject, campaign }, prepared, testText);
-    if (words) throw new CommandError(`${properties.name}:${campaign.from ? campaign.from.line : 0}: ${words}`);
+    const { searchSetup, message } = await startCampaign({ subject, campaign }, prepared, testText);
+    if (message) throw new CommandError(`${properties.name}:${campaign.from ? campaign.from.line : 0}: ${message}`);
     return { ...searchSetup, texts: [board.text, program.text, properties.text, testText] };
   }
 

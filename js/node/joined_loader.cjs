@@ -204,7 +204,7 @@ function findJoinedChecksum(folder, name, file) {
  * @param {string} name
  * @returns {JoinedModule | null}
  */
-function joinedCommand(name) {
+function loadJoinedCommand(name) {
   const file = join(COMMANDS_FOLDER, `${name}.cjs`);
   if (!/^[a-z]+$/.test(name) || !existsSync(file)) return null;
   const folder = findCacheFolder();
@@ -212,4 +212,4 @@ function joinedCommand(name) {
   return checksum === "" ? null : runJoinedFile(file, folder === "" ? "" : join(folder, `${name}.code`), checksum);
 }
 
-module.exports = { hashFiles, joinedCommand, findCacheFolder };
+module.exports = { hashFiles, loadJoinedCommand, findCacheFolder };

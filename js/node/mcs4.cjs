@@ -11,8 +11,8 @@ const MIN_NODE_VERSION = 18;
  * @param {string[]} words
  */
 async function runCommand(name, words) {
-  const { joinedCommand } = require("./joined_loader.cjs");
-  const joinedModule = joinedCommand(name);
+  const { loadJoinedCommand } = require("./joined_loader.cjs");
+  const joinedModule = loadJoinedCommand(name);
   if (joinedModule) return joinedModule.run(words);
   const { runLine } = await import("./command_line.mjs");
   return runLine([name, ...words]);

@@ -20,11 +20,11 @@ export function explainAtTerminal(name) {
 /**
  * Returns a function that ends the process after it has written all output. The function takes the exit status and the reason.
  * @param {string} name the command's name
- * @returns {(status: number, words?: string) => void}
+ * @returns {(status: number, reason?: string) => void}
  */
 export function makeExitFunction(name) {
-  return (status, words = "") => {
-    if (words) process.stderr.write(`${name}: ${escapeControls(words)}\n`);
+  return (status, reason = "") => {
+    if (reason) process.stderr.write(`${name}: ${escapeControls(reason)}\n`);
     process.exitCode = status;
     process.stdin.destroy();
     process.stdout.end(() => process.exit(status));
@@ -34,7 +34,7 @@ export function makeExitFunction(name) {
 /**
  * Passes the bytes of standard input to a connection.
  * @param {import("../core/server/message_stream.js").MessageStream} connection
- * @param {(words: string) => void} onEnd called once with the reason when no further message can arrive; the reason is "" if the stream ends between
+ * @param {(reason: string) => void} onEnd called once with the reason when no further message can arrive; the reason is "" if the stream ends between
  *   messages
  */
 export function listenToInput(connection, onEnd) {
@@ -42,9 +42,9 @@ export function listenToInput(connection, onEnd) {
   let partCount = 0;
   /** @type {NodeJS.Timeout | undefined} */
   let timer;
-  const end = (/** @type {string} */ words) => {
+  const end = (/** @type {string} */ reason) => {
     clearTimeout(timer);
-    if (!hasEnded) onEnd(words);
+    if (!hasEnded) onEnd(reason);
     hasEnded = true;
   };
   // If this process was suspended or busy, the rest of the message may be in the pipe. setImmediate lets Node read it first.

@@ -18,9 +18,9 @@ const OWNER_ONLY_MODE = 0o600;
 function recordFirstUse() {
   try {
     const folder = joined.findCacheFolder();
-    const noteFile = join(folder, "reported_module");
-    if (folder === "" || existsSync(noteFile)) return false;
-    closeSync(openSync(noteFile, "wx", OWNER_ONLY_MODE));
+    const markerFile = join(folder, "reported_module");
+    if (folder === "" || existsSync(markerFile)) return false;
+    closeSync(openSync(markerFile, "wx", OWNER_ONLY_MODE));
     return true;
   } catch {
     return false;
@@ -29,10 +29,10 @@ function recordFirstUse() {
 
 /**
  * Starts the module. Returns the engine.
- * @param {string} words a message that says why the module is used; "" for no message
+ * @param {string} message a message that says why the module is used; "" for no message
  */
-export function startModule(words) {
+export function startModule(message) {
   const engine = new Engine(new WebAssembly.Module(readPageModule()));
-  if (words !== "" && !process.env[RUN_BY_COMMAND_VARIABLE] && recordFirstUse()) printError(`mcs4: ${words}\n`);
+  if (message !== "" && !process.env[RUN_BY_COMMAND_VARIABLE] && recordFirstUse()) printError(`mcs4: ${message}\n`);
   return engine;
 }

@@ -109,7 +109,7 @@ const SHELL_LOOP = `while read -r word name slot; do
 done < "$folder/control"
 if [ -e "$folder" ]; then rm -rf -- "$folder"; fi`;
 
-/** The name of the shell, with which its messages start. */
+/** The name of the shell. Its messages start with this name. */
 const SHELL_NAME = "starter";
 /** The exit status of the shell if no program is given and start.sh does not know one. */
 const UNKNOWN_PROGRAM_STATUS = 3;

@@ -20,7 +20,7 @@ declare const Buffer: {
 declare namespace NodeJS {
   type Signals = "SIGCONT" | "SIGHUP" | "SIGINT" | "SIGKILL" | "SIGTERM" | "SIGTSTP";
   interface Timeout { unref(): void }
-  /** An error of the system. `code` is its name, such as ENOENT. */
+  /** A system error. `code` is its name, such as ENOENT. */
   interface ErrnoException extends Error { code?: string }
   /** A source of events. The type of "data" depends on the encoding of the stream, so it is not declared. */
   interface EventEmitter {

@@ -14,7 +14,7 @@ export class CommandError extends Error {}
 export class UsageError extends Error {}
 
 /**
- * Returns the system's code of an error, such as ENOENT; "" if the error has none.
+ * Returns the code of a system error, such as ENOENT; "" if the error has no code.
  * @param {unknown} error
  */
 export function systemErrorCode(error) {

@@ -18,13 +18,13 @@ export function findPathError(folder, path) {
   return isInside(fullPath, folder) ? "" : leadsOut(path);
 }
 
-/** @typedef {ReturnType<typeof projectIn>} DiskProject */
+/** @typedef {ReturnType<typeof readProjectFolder>} DiskProject */
 
 /**
  * Returns the project in a folder. The paths in the result are relative to the current folder. Throws a ProjectError with file, line and message.
  * @param {string} folder
  */
-export function projectIn(folder) {
+export function readProjectFolder(folder) {
   const file = join(folder, PROJECT_FILE);
   const stat = statInput(file);
   if (!stat) throw new ProjectError(file, "there is no such file; it names the files of a project");

@@ -33,7 +33,7 @@ class ProofSession {
     this.limits = limits;
     this.program = findProverPath();
     /** @type {((question: string) => string) | null} answers a question with the module; null if the program mcs4-prove answers the questions */
-    this.module = null;
+    this.moduleProver = null;
     // This handler runs before the engine's handler. Ctrl-C does not reach the search, because the search has its own process group.
     process.on("SIGINT", interruptChildren);
   }
@@ -41,7 +41,7 @@ class ProofSession {
   /** Reads the texts. Resolves to an object that proves or disproves their properties. Throws an error if one of the texts is rejected. */
   async createJudge() {
     const engine = await startEngine();
-    if (this.program === "") this.module = (await import("./module_prover.mjs")).makeModuleProver();
+    if (this.program === "") this.moduleProver = (await import("./module_prover.mjs")).makeModuleProver();
     const { board, program, properties } = this.texts;
     const { prepared, errors: textErrors } = prepareTests(engine, { boardText: board.text, programText: program.text });
     if (!prepared) throw await createRejectedTextsError(engine, { board, program }, textErrors);
@@ -76,7 +76,7 @@ class ProofSession {
    * @param {string} text
    */
   async search(text) {
-    return this.module ? { stdout: this.module(text), stderr: "", signal: null } : runCommand(this.program, [], text);
+    return this.moduleProver ? { stdout: this.moduleProver(text), stderr: "", signal: null } : runCommand(this.program, [], text);
   }
 
   /**

@@ -1,5 +1,5 @@
-// Creates the report of `mcs4 explain`. For each rejected line of a script, the report contains the reason, and the line itself or the
-// wrong line in the text after it.
+// Creates the report of `mcs4 explain`. For each rejected line of a script, the report contains the reason and the line. If a text follows a rejected
+// command, the report contains the line of the text with the error instead, if this line is known.
 import { parseRefusal } from "../core/bench/answers.js";
 import { INVALID_CHARACTER, LINE_TOO_LONG, MAX_LINE_LENGTH, NOT_ASCII, opensText } from "../core/bench/inputs.js";
 import { parseNumber } from "../core/bench/numbers.js";

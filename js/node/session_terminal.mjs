@@ -14,7 +14,7 @@ import { TerminalPrompt } from "./terminal_prompt.mjs";
 /**
  * Returns the callbacks of the prompt for a program and a terminal.
  * @param {SessionProcess} program
- * @param {{ print: (words: string) => void, printError: (words: string) => void }} terminal
+ * @param {{ print: (message: string) => void, printError: (message: string) => void }} terminal
  * @returns {import("../core/prompt/bench_prompt.js").SessionPromptCallbacks}
  */
 function makePromptCalls(program, terminal) {
@@ -39,8 +39,8 @@ function makePromptCalls(program, terminal) {
       await program.serve(`${line}\n`, (answerLine) => lines.push(answerLine));
       return lines;
     },
-    print: (words) => terminal.print(words),
-    printError: (words) => terminal.printError(words),
+    print: (message) => terminal.print(message),
+    printError: (message) => terminal.printError(message),
     read: (name) => readDecodedFile(expandTilde(name), MAX_SCRIPT_BYTES).text,
     files: completePath,
     errorsOf: async (word, text, board) => {
@@ -77,7 +77,7 @@ export async function servePrompt(word, name) {
     print(`${firstLine}\n`);
     if (firstLine.startsWith("session ")) {
       const prompt = new SessionPrompt(makePromptCalls(program, {
-        print: (words) => terminal.print(words), printError: (words) => terminal.printError(words),
+        print: (message) => terminal.print(message), printError: (message) => terminal.printError(message),
       }));
       /** @type {TerminalPrompt} */
       const terminal = new TerminalPrompt(prompt, { output: process.stderr });

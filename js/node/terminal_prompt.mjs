@@ -23,8 +23,8 @@ import { isDumb, makePainter } from "./terminal.mjs";
  * The streams and callbacks of a prompt at a terminal.
  * @typedef {object} TerminalCallbacks
  * @property {import("node:tty").WriteStream} output the terminal that shows the prompt and the messages
- * @property {() => void} [onServed] called after the execution of a line
- * @property {() => void} [onLeave] called when the prompt returns the terminal: at Ctrl-Z and at its end
+ * @property {() => void} [onLineExecuted] called after the execution of a line
+ * @property {() => void} [onLeave] called when the prompt releases the terminal: at Ctrl-Z, and when the prompt ends
  * @property {() => void} [onReturn] called when the prompt has the terminal again after Ctrl-Z
  */
 
@@ -64,21 +64,21 @@ export class TerminalPrompt {
    * @param {LinePrompt} prompt
    * @param {TerminalCallbacks} callbacks
    */
-  constructor(prompt, { output, onServed = () => {}, onLeave = () => {}, onReturn = () => {} }) {
+  constructor(prompt, { output, onLineExecuted = () => {}, onLeave = () => {}, onReturn = () => {} }) {
     this.prompt = prompt;
     this.output = output;
-    this.callbacks = { onServed, onLeave, onReturn };
+    this.callbacks = { onLineExecuted, onLeave, onReturn };
     this.isDumb = isDumb(process.env);
     this.paint = makePainter(process.env);
     this.history = new PromptHistory(process.env);
-    /** @type {string[]} the pieces of input that wait for handling */
+    /** @type {string[]} the pieces of input that have not been handled yet */
     this.waitingInput = [];
     /** True during the execution or completion of a line, and before the first prompt. */
     this.isBusy = true;
     this.isPasting = false;
     this.hasInputEnded = false;
     this.hasEnded = false;
-    /** True after the prompt has returned the terminal. */
+    /** True after the prompt has released the terminal. */
     this.hasReleasedTerminal = false;
     /** The exit status for the signal that ended the prompt; 0 without a signal. */
     this.status = 0;
@@ -104,18 +104,18 @@ export class TerminalPrompt {
 
   /**
    * Prints a message.
-   * @param {string} words
+   * @param {string} message
    */
-  print(words) {
-    this.output.write(`${wrapMessage(escapeControls(words), this.width)}\n`);
+  print(message) {
+    this.output.write(`${wrapMessage(escapeControls(message), this.width)}\n`);
   }
 
   /**
    * Prints an error message in red. Quoted lines are not coloured.
-   * @param {string} words
+   * @param {string} message
    */
-  printError(words) {
-    const lines = wrapMessage(escapeControls(words), this.width).split("\n");
+  printError(message) {
+    const lines = wrapMessage(escapeControls(message), this.width).split("\n");
     const paint = this.paint(RED);
     this.output.write(`${lines.map((line) => (line.startsWith(UNWRAPPED_PREFIX) ? line : paint(line))).join("\n")}\n`);
   }
@@ -182,7 +182,7 @@ export class TerminalPrompt {
       this.endWithError(error);
       return;
     }
-    this.callbacks.onServed();
+    this.callbacks.onLineExecuted();
     if (this.prompt.isEnded) this.end();
     else if (!this.hasEnded) this.showNextPrompt();
   }

@@ -26,7 +26,7 @@ export class UserFileError extends CommandError {}
 /** The reason for a UserFileError, without the file's name. `withFileError` adds the name. */
 class FileErrorReason extends Error {}
 
-/** @type {Record<string, string>} the messages, by error code of the system */
+/** @type {Record<string, string>} the messages, by system error code */
 const REASONS = {
   ENOENT: "there is no such file", EACCES: "no permission", EPERM: "no permission", ENOSPC: "no space left on the device",
   EDQUOT: "the disk quota is used up", EFBIG: "it would exceed the size limit for files", EROFS: "the file system is read-only",
@@ -41,7 +41,7 @@ function describeFileError(error) {
 }
 
 /**
- * Calls `operation` and returns its result. Converts an error of the system into a UserFileError.
+ * Calls `operation` and returns its result. Converts a system error into a UserFileError.
  * @template Result
  * @param {string} failureText the beginning of the message, such as `cannot read NAME`
  * @param {() => Result} operation

@@ -117,7 +117,7 @@ function makeTextCalls(page) {
       page.textEditors[EDITOR_NAMES.indexOf(name)].calls.send();
     },
     /** @param {boolean} isSource */
-    hasText: (isSource) => findFrontEditor() !== undefined && (!isSource || findFrontEditor() === programEditor),
+    isTextInFront: (isSource) => findFrontEditor() !== undefined && (!isSource || findFrontEditor() === programEditor),
     /** @param {import("./commands/command_table.js").TextAction} textAction */
     performTextAction: (textAction) => findFrontEditor() && findFrontEditor().performAction(textAction),
     /** @param {import("./machine/breakpoint_form.js").BreakpointField} [fieldName] */
@@ -215,7 +215,7 @@ export class Commands {
       startTour: () => void guide.tour.startTour(),
       openExample: (name) => sessionsController.openExampleByName(name),
       showWiring: () => show(this.page, "wiring"),
-      storeSeen: () => layout.preferences.set(WELCOME_SHOWN_KEY, "yes"),
+      storeWelcomeShown: () => layout.preferences.set(WELCOME_SHOWN_KEY, "yes"),
     });
   }
 

@@ -26,7 +26,7 @@ export function makeCurrentSession(page) {
     handleSessionChange: () => page.sessionsController.handleSessionChange(),
     takeRuns: () => page.logView.takeRuns(),
     logRuns: (runs, saveError) => page.logView.showRuns(runs, saveError),
-    showSaveError: (message) => (message ? page.notice.show(message, "kept") : page.notice.hide("kept")),
+    showSaveError: (message) => (message ? page.notice.show(message, "saveError") : page.notice.hide("saveError")),
     showSaveState: (state) => page.layout.status.showSaved(state),
   }, page.storedHistory);
 }

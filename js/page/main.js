@@ -152,8 +152,8 @@ function listenToWindow(page) {
 }
 
 /**
- * Creates the page with its commands and its guide after the session store has been opened. The bench may still be loading. Resolves to
- * these three, and to whether the store has sessions.
+ * Creates the page with its commands and its guide after the session store has been opened. The bench may still be loading. Resolves to the
+ * page, the commands and the guide, and to whether the store has sessions.
  * @param {Omit<import("./bench_page.js").PageServices, "store" | "locks">} services
  * @param {PageFrame} pageFrame
  * @param {Promise<Locks>} locksPromise
@@ -174,7 +174,7 @@ async function createPage(services, pageFrame, locksPromise, storePromise) {
   return { page, guide, commands, hasSessions: savedSessions.length > 0 };
 }
 
-/** Starts unpacking the page's embedded parts, finding the locks and opening the session store. Returns the promises of the results. */
+/** Starts to unpack the page's embedded parts, to find the locks and to open the session store. Returns the promises of the results. */
 function beginLoading() {
   const unpackingPromise = Promise.all([unpackEmbedded("worker"), unpackEmbedded("module")]);
   const locksPromise = Locks.find();
@@ -192,11 +192,11 @@ function beginLoading() {
 async function startPage({ unpackingPromise, locksPromise, storePromise }, errorMessages, notice, pageFrame, { examples, manual }) {
   const makeBench = prepareBench(await unpackingPromise, examples);
   const bench = makeBench();
-  const startingBench = bench.start();
+  const benchStart = bench.start();
   const services = { bench, makeBench, errorMessages, notice, examples, manual };
   // The page creates its views while the worker loads the module.
   const pagePromise = createPage(services, pageFrame, locksPromise, storePromise);
-  const [{ page, guide, commands, hasSessions }] = await Promise.all([pagePromise, startingBench]);
+  const [{ page, guide, commands, hasSessions }] = await Promise.all([pagePromise, benchStart]);
   // A worker that dies before it has loaded the module is not replaced.
   bench.listener = page.listener();
   const story = readRequestedStory(location.search);
@@ -206,7 +206,7 @@ async function startPage({ unpackingPromise, locksPromise, storePromise }, error
   if (isFirstVisit) commands.showFirstWelcome();
   // The startup time in milliseconds.
   document.body.dataset.ready = String(Math.round(performance.now()));
-  // The editors that no tab has shown yet get their views now.
+  // Create the views of the editors that no tab has shown yet.
   for (const { editor } of page.textEditors) setTimeout(() => editor.editor.prepare());
   // When the user leaves the page, Firefox 153 often does not run functions that have never run before. Therefore, save once now.
   page.currentSession.saveNow();

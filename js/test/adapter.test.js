@@ -25,7 +25,7 @@ test("responses have the order of the requests and consecutive numbers; an inval
   const syntaxError = "a message has a number seq, the type \"request\" and a command";
   const lengthError = `0 a message of ${MAX_MESSAGE + 1} bytes was not read`;
   assert.deepEqual(errors, [`70 ${syntaxError}`, `0 ${syntaxError}`, "0 a message is not JSON", lengthError]);
-  assert.deepEqual(messages.map(({ seq }) => seq), messages.map((_, at) => at + 1));
+  assert.deepEqual(messages.map(({ seq }) => seq), messages.map((_, index) => index + 1));
 });
 
 test("a failed launch has an error message, and another launch can follow", async () => {
@@ -52,15 +52,15 @@ test("breakpoints at lines, labels and addresses, with conditions, hit counts an
   const { startSession, request, moveAndWait, getOutput, evaluate, getFrameLines } = startAdapter();
   await startSession();
   const setBreakpoints = async (breakpoints, source = SOURCE) => (await request("setBreakpoints", { source, breakpoints })).breakpoints;
-  const [plain, moved, belowProgram, invalid, badHitCount] = await setBreakpoints([
+  const [plainBreakpoint, movedBreakpoint, breakpointBelowProgram, invalidBreakpoint, breakpointWithBadHitCount] = await setBreakpoints([
     { line: 31 }, { line: 25 }, { line: 500 }, { line: 33, condition: "foo = 1" }, { line: 34, hitCondition: "often" }]);
-  assert.deepEqual([plain.verified, plain.line, plain.instructionReference], [true, 31, "0x033"]);
-  assert.deepEqual([moved.verified, moved.line], [true, 26]);
-  assert.match(belowProgram.message, /No instruction follows line 500/);
-  assert.match(invalid.message, /^It stops every time, because of an error: foo: no such place; places are .* \(column 1\)\.$/);
-  assert.match(badHitCount.message, /a hit count is a number/);
-  const [inBoardText] = await setBreakpoints([{ line: 31 }], { path: "/lock/board.toml" });
-  assert.match(inBoardText.message, /not in the program that is debugged, \/lock\/lock.asm/);
+  assert.deepEqual([plainBreakpoint.verified, plainBreakpoint.line, plainBreakpoint.instructionReference], [true, 31, "0x033"]);
+  assert.deepEqual([movedBreakpoint.verified, movedBreakpoint.line], [true, 26]);
+  assert.match(breakpointBelowProgram.message, /No instruction follows line 500/);
+  assert.match(invalidBreakpoint.message, /^It stops every time, because of an error: foo: no such place; places are .* \(column 1\)\.$/);
+  assert.match(breakpointWithBadHitCount.message, /a hit count is a number/);
+  const [boardBreakpoint] = await setBreakpoints([{ line: 31 }], { path: "/lock/board.toml" });
+  assert.match(boardBreakpoint.message, /not in the program that is debugged, \/lock\/lock.asm/);
   const stop = await moveAndWait("continue");
   assert.deepEqual([stop.reason, stop.allThreadsStopped], ["breakpoint", true]);
   assert.deepEqual(await getFrameLines(), [26]);
@@ -68,8 +68,8 @@ test("breakpoints at lines, labels and addresses, with conditions, hit counts an
   const { breakpoints: [label, unknown] } =
     await request("setFunctionBreakpoints", { breakpoints: [{ name: "wait" }, { name: "nowhere" }] });
   assert.deepEqual([label.verified, label.line, unknown.message], [true, 86, "the program has no label nowhere"]);
-  const requested = [{ instructionReference: "0x02F", offset: 2 }];
-  const { breakpoints: [address] } = await request("setInstructionBreakpoints", { breakpoints: requested });
+  const requestedBreakpoints = [{ instructionReference: "0x02F", offset: 2 }];
+  const { breakpoints: [address] } = await request("setInstructionBreakpoints", { breakpoints: requestedBreakpoints });
   const nextStop = await moveAndWait("continue");
   assert.deepEqual([nextStop.reason, nextStop.hitBreakpointIds], ["instruction breakpoint", [address.id]]);
   assert.match(getOutput(), /acc 1\n/);

@@ -103,15 +103,15 @@ test("a `break` line that is typed during a request also changes the list", asyn
   manager.setSourceMap(MAP, "");
   // The bench serves the typed line after it has received the request, and reports the new breakpoint before the request has ended.
   const { callbacks: calls } = manager;
-  const { setBreakpoints: originalSet } = calls;
+  const { setBreakpoints: originalSetBreakpoints } = calls;
   calls.setBreakpoints = async (breakpoints) => {
-    const errors = await originalSet(breakpoints);
+    const errors = await originalSetBreakpoints(breakpoints);
     bench.breaks = [...bench.breaks, "000"];
     manager.updateFromBench(bench.breaks);
     return errors;
   };
   manager.toggleAddress(0x700);
-  calls.setBreakpoints = originalSet;
+  calls.setBreakpoints = originalSetBreakpoints;
   await manager.allSent;
   await manager.allSent;
   assert.deepEqual([linesAndAddresses(manager), bench.breaks], [[[2, 0], [0, 0x700]], ["000", "700"]]);
@@ -214,11 +214,11 @@ test("a breakpoint beyond the bench's maximum is kept, but disabled", async () =
   for (let address = 0x100; address < 0x121; address++) manager.toggleAddress(address);
   await manager.allSent;
   assert.deepEqual([manager.list.enabledCount, manager.list.all.length, log.messages.length], [32, 33, 1]);
-  const disabled = manager.list.all.find(({ isOn }) => !isOn);
-  manager.change(disabled.id, { isOn: true });
+  const disabledBreakpoint = manager.list.all.find(({ isOn }) => !isOn);
+  manager.change(disabledBreakpoint.id, { isOn: true });
   assert.deepEqual([manager.list.enabledCount, log.messages.length], [32, 2]);
   manager.remove(manager.list.all[0].id);
-  manager.change(disabled.id, { isOn: true });
+  manager.change(disabledBreakpoint.id, { isOn: true });
   await manager.allSent;
   assert.deepEqual([manager.list.enabledCount, log.setCalls.pop().length], [32, 32]);
 });
@@ -233,7 +233,7 @@ for (const [length, otherText] of Object.entries(OTHER_PROGRAMS)) {
     manager.setSourceMap(MAP, "");
     manager.applyTextEdits(replacementEdit(TEXT, otherText));
     manager.setSourceMap(null, "assemble it");
-    // Load the other text into ROM. Its instructions are in other lines.
+    // Load the other text into ROM. Its instructions are on other lines.
     manager.setSourceMap(new SourceMap(["map lines 2 names 0", "line 1 000 0", "line 2 000 1"], OTHER_PROGRAMS.short), "");
     await manager.allSent;
     manager.applyTextEdits(replacementEdit(otherText, TEXT));
@@ -272,16 +272,16 @@ test("changes of breakpoints in the other text stay when the text is restored", 
 test("breakpoints are also restored after another session was open", () => {
   const { manager } = createManager(STORED_BREAKPOINTS);
   manager.applyTextEdits(replacementEdit(TEXT, OTHER_PROGRAMS.short));
-  const saved = structuredClone(manager.list.savedBreakpoints);
+  const savedBreakpoints = structuredClone(manager.list.savedBreakpoints);
   manager.open("two", undefined);
-  manager.open("one", saved);
+  manager.open("one", savedBreakpoints);
   manager.applyTextEdits(replacementEdit(OTHER_PROGRAMS.short, TEXT));
   assert.deepEqual(manager.list.savedBreakpoints, STORED_BREAKPOINTS);
 });
 
 test("no more breakpoints are restored than can be enabled", () => {
   const { manager } = createManager(Array.from({ length: 32 }, (_, at) => ({ line: at + 1, address: at })));
-  const manyLines = Array.from({ length: 32 }, (_, at) => `line ${at}`).join("\n");
+  const manyLines = Array.from({ length: 32 }, (_, index) => `line ${index}`).join("\n");
   manager.applyTextEdits(replacementEdit(manyLines, ""));
   for (let address = 0x100; address < 0x110; address++) manager.toggleAddress(address);
   manager.applyTextEdits(replacementEdit("", manyLines));
@@ -291,12 +291,12 @@ test("no more breakpoints are restored than can be enabled", () => {
 test("an unchanged edit sends nothing, but discards the typed text", async () => {
   const { manager, log } = createManager([{ line: 2, condition: "r5 = 1" }]);
   const [{ id }] = manager.list.all;
-  const unchanged = { condition: "r5 = 1", from: 1, note: "" };
-  manager.change(id, unchanged);
+  const unchangedTexts = { condition: "r5 = 1", from: 1, note: "" };
+  manager.change(id, unchangedTexts);
   assert.equal(log.editCount, 0);
-  manager.saveTypedEdit(id, { ...unchanged, condition: "r5 =" });
+  manager.saveTypedEdit(id, { ...unchangedTexts, condition: "r5 =" });
   assert.deepEqual([manager.savedBreakpoints[0].condition, log.editCount], ["r5 =", 1]);
-  manager.change(id, unchanged);
+  manager.change(id, unchangedTexts);
   assert.deepEqual([manager.savedBreakpoints[0].condition, log.editCount], ["r5 = 1", 2]);
 });
 

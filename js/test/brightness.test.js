@@ -91,7 +91,7 @@ test("the lit times and the changes of lamps are reported exactly", async () => 
 
 test("the perceived brightness is the share of lit cycles in the trace, within 2 %", async () => {
   const calls = await openSession(PULSE_EXAMPLE);
-  const expectedShares = countLitCycles(calls, 3800).map((lit) => lit / 3800);
+  const expectedShares = countLitCycles(calls, 3800).map((litCycles) => litCycles / 3800);
   const brightness = new Brightness(new Face(PULSE_EXAMPLE.board), 4);
   for (let frame = 0; frame < 30; frame++) {
     brightness.add(calls.advance(FRAME_CYCLES).litShares, FRAME_MS);

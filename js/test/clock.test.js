@@ -26,7 +26,7 @@ function startClock(speed = "real") {
       return log.pendingCall || Promise.resolve();
     },
     runInstruction: async () => { calls.push(["instruction"]); },
-    runFull: async () => { calls.push(["full"]); },
+    runAtFullSpeed: async () => { calls.push(["full"]); },
     reportStandstill: () => { log.standstillCount += 1; },
     reportFailure: (error) => log.failures.push(error),
   });
@@ -36,12 +36,12 @@ function startClock(speed = "real") {
   const advanceTo = async (time) => {
     now = time;
     if (frameCallback) frameCallback(time);
-    await promisesSettled();
+    await flushPromises();
   };
   return { clock, log, calls, setTime, advanceTo };
 }
 
-const promisesSettled = () => new Promise((resolve) => setImmediate(resolve));
+const flushPromises = () => new Promise((resolve) => setImmediate(resolve));
 const sumOf = (calls) => calls.reduce((sum, [cycles]) => sum + cycles, 0);
 
 test.afterEach(() => mock.restoreAll());
@@ -52,7 +52,7 @@ test("a key press is simulated with the due cycles and those of a frame, and the
   setTime(15);
   assert.equal(clock.simulateKeyPress(matrixKey(0, 1)), true);
   assert.deepEqual(calls, [[925], [464 + 1543, matrixKey(0, 1)]]);
-  await promisesSettled();
+  await flushPromises();
   await advanceTo(30);
   assert.equal(calls.length, 2);
   await advanceTo(100);
@@ -77,7 +77,7 @@ test("during a call, the caller must send the key, and the cycles follow at the 
   assert.equal(clock.simulateKeyPress(matrixKey(0, 1)), false);
   assert.deepEqual(calls, [[925]]);
   endCall();
-  await promisesSettled();
+  await flushPromises();
   assert.deepEqual(calls, [[925], [186 + 1543]]);
   await advanceTo(60);
   assert.equal(sumOf(calls), Math.floor(60 * CYCLES_PER_SECOND / 1000));
@@ -87,7 +87,7 @@ test("if the clock stops during a call, no cycles follow, and none are due after
   const { clock, log, calls, setTime, advanceTo } = startClock();
   setTime(5);
   clock.simulateKeyPress(matrixKey(0, 1));
-  await promisesSettled();
+  await flushPromises();
   setTime(6);
   let endCall = () => {};
   log.pendingCall = new Promise((resolve) => { endCall = resolve; });
@@ -96,7 +96,7 @@ test("if the clock stops during a call, no cycles follow, and none are due after
   assert.equal(clock.simulateKeyPress(matrixKey(0, 2)), false);
   clock.stop();
   endCall();
-  await promisesSettled();
+  await flushPromises();
   const callCount = calls.length;
   setTime(50);
   assert.equal(clock.simulateKeyPress(matrixKey(0, 3)), false);
@@ -114,7 +114,7 @@ test("no cycles are simulated early while paused, at full speed or in slow motio
     const slowCalls = { tenth: [[4629, matrixKey(0, 1)]], hundredth: [[462, matrixKey(0, 1)]], thousandth: [[46, matrixKey(0, 1)]] };
     assert.deepEqual(calls, slowCalls[id] || [], id);
     assert.equal(isSent, id in slowCalls, id);
-    await promisesSettled();
+    await flushPromises();
     clock.stop();
     setTime(900);
     assert.equal(clock.simulateKeyPress(matrixKey(0, 1)), false);
@@ -129,7 +129,7 @@ test("no cycles are simulated early while paused, at full speed or in slow motio
 test("a hidden page simulates no key press, and skips the time for which it was hidden", async () => {
   const { clock, calls, log, setTime, advanceTo } = startClock();
   clock.simulateKeyPress(matrixKey(0, 1));
-  await promisesSettled();
+  await flushPromises();
   globalThis.document.hidden = true;
   clock.handlePageHidden();
   setTime(5000);

@@ -118,30 +118,30 @@ test("after a while only samples are checked, and all cycles again after a key p
 
 test("during a key press, mistakes are checked after the lamps are reported, and reported with the next frame", () => {
   const program = "JMS a\nend: JUN end\na: FIM P0, 0x10\nSRC P0\nWRR\nBBL 0\n";
-  const [immediate, deferred] = [openSession(program), openSession(program)];
-  for (const session of [immediate, deferred]) session.session.queue.press(pinKey(1));
-  const expected = immediate.advance(1543).tally.mistakes;
+  const [immediateSession, deferredSession] = [openSession(program), openSession(program)];
+  for (const session of [immediateSession, deferredSession]) session.session.queue.press(pinKey(1));
+  const expected = immediateSession.advance(1543).tally.mistakes;
   assert.equal(expected.length, 1);
-  const frame = deferred.advance(1543, true);
-  assert.deepEqual([frame.tally.mistakes, deferred.lateMistakes], [[], []], "nothing is checked before the report");
-  deferred.checkLastLines();
-  deferred.checkLastLines();
-  assert.deepEqual(deferred.advance(1543, true).tally.mistakes, expected);
-  deferred.checkLastLines();
-  assert.deepEqual(deferred.advance(1543).tally.mistakes, [], "it is reported once");
-  immediate.advance(1543);
-  immediate.advance(1543);
-  assert.deepEqual(deferred.session.ask("state\n"), immediate.session.ask("state\n"), "both sessions have the same state");
+  const frame = deferredSession.advance(1543, true);
+  assert.deepEqual([frame.tally.mistakes, deferredSession.lateMistakes], [[], []], "nothing is checked before the report");
+  deferredSession.checkLastLines();
+  deferredSession.checkLastLines();
+  assert.deepEqual(deferredSession.advance(1543, true).tally.mistakes, expected);
+  deferredSession.checkLastLines();
+  assert.deepEqual(deferredSession.advance(1543).tally.mistakes, [], "it is reported once");
+  immediateSession.advance(1543);
+  immediateSession.advance(1543);
+  assert.deepEqual(deferredSession.session.ask("state\n"), immediateSession.session.ask("state\n"), "both sessions have the same state");
 });
 
 test("during a key press, mistakes are checked at once if the frame has a stop, or if mistakes cause stops", () => {
   const program = "FIM P0, 0x10\nSRC P0\nWRR\nJUN on\non: NOP\nend: JUN end\n";
-  const withBreakpoint = openSession(program);
-  withBreakpoint.session.changeBreaks("break 7\n");
-  const frame = withBreakpoint.advance(1543, true);
+  const sessionWithBreakpoint = openSession(program);
+  sessionWithBreakpoint.session.changeBreaks("break 7\n");
+  const frame = sessionWithBreakpoint.advance(1543, true);
   assert.deepEqual([frame.stop.reason, frame.tally.mistakes.length], ["break", 1]);
-  const withStoppingMistakes = openSession(program);
-  withStoppingMistakes.commonMistakes.stoppingKinds.add("lines");
-  const stopFrame = withStoppingMistakes.advance(1543, true);
+  const sessionWithStoppingMistakes = openSession(program);
+  sessionWithStoppingMistakes.commonMistakes.stoppingKinds.add("lines");
+  const stopFrame = sessionWithStoppingMistakes.advance(1543, true);
   assert.deepEqual([stopFrame.stop.reason, stopFrame.cycles, stopFrame.tally.mistakes.length], ["usual", 3, 1]);
 });

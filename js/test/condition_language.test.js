@@ -132,7 +132,7 @@ async function setRandomState(random) {
 }
 
 /** Returns the context in which the page parses conditions: the session with all names, including those in the watch list. */
-function conditionContext() {
+function createConditionContext() {
   Object.defineProperty(session, "names", { configurable: true, value: names });
   return { session, face: names.face, instructions: new Map(), frontPanelText: () => "" };
 }
@@ -178,7 +178,7 @@ const USES = {
     return error || joinPieces(watched.pieces(new MachineState(snapshot), names)) === "true";
   },
   "mcs4 debug": async (text) => {
-    conditionContext();
+    createConditionContext();
     await prompt.enterLine(`print ${text}`);
     return /^(true|false)$/.test(printed) ? printed === "true" : printed;
   },
@@ -191,9 +191,9 @@ const USES = {
     const { note, error } = compileNote(`{${text}}`, names);
     return error || note.textOf(readValues(note)) === "true";
   },
-  evaluate: (text) => resultOrError(() => evaluateExpression(text, conditionContext()) === "true"),
+  evaluate: (text) => resultOrError(() => evaluateExpression(text, createConditionContext()) === "true"),
   console: (text) => resultOrError(async () => (
-    (await new Console({ isMoving: false }, conditionContext(), null, {}).serveLine(text)).text === "true")),
+    (await new Console({ isMoving: false }, createConditionContext(), null, {}).serveLine(text)).text === "true")),
   trigger: (text) => {
     const { trigger, error } = readTrigger(text, createBoardLines(names.board, BOARD, true, []), names);
     return error || trigger.holds(readValues(trigger));

@@ -85,10 +85,10 @@ async function collectValuesAtStops(session, count, place) {
 
 test("conditions, hit counts and log messages, which the session file does not contain", async () => {
   const session = openSession();
-  const conditional = session.breakpoints.add({ line: LINE.write, condition: "r4 > 9 and lamp two off" });
+  const conditionalBreakpoint = session.breakpoints.add({ line: LINE.write, condition: "r4 > 9 and lamp two off" });
   await session.applyBreakpoints();
   assert.deepEqual(await collectValuesAtStops(session, 4, "r4"), [..."ADEA"]);
-  assert.equal(session.breakpoints.get(conditional.id).hits, 4);
+  assert.equal(session.breakpoints.get(conditionalBreakpoint.id).hits, 4);
   const countedSession = openSession();
   const { id } = countedSession.breakpoints.add({ line: LINE.show, from: 5 });
   countedSession.breakpoints.add({ line: LINE.increment, note: "R4 is {r4}, lamps {lamps}, two {two}" });
@@ -127,17 +127,17 @@ test("a breakpoint stops a step; an invalid one reports its error, and stops eve
   const session = openSession();
   session.breakpoints.add({ line: LINE.write, condition: "r4 = 0" });
   const invalid = session.breakpoints.add({ line: LINE.increment, condition: "r44 = 0" });
-  const absentPort = session.breakpoints.add({ line: LINE.wait, note: "{rom3}" });
+  const portBreakpoint = session.breakpoints.add({ line: LINE.wait, note: "{rom3}" });
   const { errors } = await session.applyBreakpoints();
   assert.deepEqual(errors, [[invalid.id, "r44: no such place; the registers are r0 to r15 (column 1)"],
-    [absentPort.id, "the note asks for {rom3}: the board has no ROM 3 (column 2)"]]);
+    [portBreakpoint.id, "the note asks for {rom3}: the board has no ROM 3 (column 2)"]]);
   await session.runToGoal({ kind: "here", address: 3 });
   const stop = await session.runToGoal({ kind: "over" });
   assert.deepEqual([stop.reason, session.line], ["break", LINE.write]);
   const stops = [];
   for (let round = 0; round < 4; round++) stops.push([(await session.runToGoal()).id, session.line]);
-  assert.deepEqual(stops, [[absentPort.id, LINE.wait], [absentPort.id, LINE.wait], [absentPort.id, LINE.wait], [absentPort.id, LINE.wait]]);
-  session.breakpoints.change(absentPort.id, { note: "{rom0}" });
+  assert.deepEqual(stops, Array(4).fill([portBreakpoint.id, LINE.wait]));
+  session.breakpoints.change(portBreakpoint.id, { note: "{rom0}" });
   session.breakpoints.change(invalid.id, { condition: "accu = 1" });
   await session.applyBreakpoints();
   const errorStop = await session.runToGoal();

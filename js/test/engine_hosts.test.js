@@ -180,8 +180,8 @@ testOnBothHosts("a state does not share memory with the file's bytes or with cop
 
 testOnBothHosts("bytes that are not a session file are rejected with a number", (engine) => {
   const validFile = engine.bytesOf(stateAfter(engine, BOARD));
-  const damaged = validFile.slice().fill(255, 0, 4096);
-  return [new Uint8Array(10), validFile.slice(0, 1000), damaged].map((bytes) => {
+  const damagedFile = validFile.slice().fill(255, 0, 4096);
+  return [new Uint8Array(10), validFile.slice(0, 1000), damagedFile].map((bytes) => {
     try {
       return engine.ask(engine.stateOf(bytes), "seq\n");
     } catch (error) {

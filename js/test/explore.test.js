@@ -186,7 +186,7 @@ test("a model determines what the display must show, and its errors are reported
   const { campaign, errors } = readCampaign("press A B\npace 300 200\nmodel ./says\n", displaySubject);
   assert.deepEqual(errors, []);
   const modelInputs = [];
-  // The lamp stays on until the user presses B. This wrong model ignores B.
+  // The lamp stays on until the user presses B. This deliberately faulty model ignores B.
   const answerModel = (chains) => {
     modelInputs.push(...chains);
     return { expectedTexts: chains.map((keys) => (keys.includes("A") ? "1" : "0")), error: "" };
@@ -268,7 +268,7 @@ test("keys that are down at the start are released in time, one after the other"
 });
 
 // After a press of A, the program counts for 99,940 cycles. After that, a press of B makes it switch the lamp named `on` on.
-const LATE = `${DRIVE_ROW_0}first:  SRC P2
+const LATE_PROGRAM = `${DRIVE_ROW_0}first:  SRC P2
         RDR
         RAR
         JCN 10, first
@@ -294,7 +294,7 @@ stay:   JUN stay
 `;
 
 test("a counterexample is minimised to short presses, and long waits are single runs", async () => {
-  const lateSubject = createSubject(engine, BOARD, LATE);
+  const lateSubject = createSubject(engine, BOARD, LATE_PROGRAM);
   const { campaign } = readCampaign("press A B\ntogether 1\nheld at most 1000\nwait 100 to 100000\nnever lamp on on\n", lateSubject);
   const run = new CampaignRun(lateSubject, campaign, 3, () => true, 4 * MAX_MINIMISING_CYCLES);
   while (run.counterexamples[0] === null) await run.runFor(20);
@@ -373,10 +373,10 @@ test("encoded files are decoded unchanged", () => {
   const files = new DeltaFiles(subject.file);
   const otherFile = subject.file.slice();
   engine.serve(otherFile, "press 0 1\nrun 500\n", otherFile);
-  const encoded = files.encode(otherFile);
-  assert.ok(encoded.indexes.length < 500);
+  const encodedFile = files.encode(otherFile);
+  assert.ok(encodedFile.indexes.length < 500);
   assert.deepEqual(files.decode(files.encode(subject.file)), subject.file);
-  assert.deepEqual(files.decode(encoded), otherFile);
+  assert.deepEqual(files.decode(encodedFile), otherFile);
 });
 
 test("joined reports have the shortest counterexamples and the combined coverage", async () => {
@@ -409,9 +409,9 @@ test("coverage is reported with the lines that were not run", () => {
     { executed: 2, total: 3, directions: 2, allDirections: 4, unexecutedLines: [3], oneDirectionLines: [] });
 });
 
-const SAVING = "test it is lit\n  press A\n  run 400\n  save lit\n\n"
+const SAVING_TESTS = "test it is lit\n  press A\n  run 400\n  save lit\n\n"
   + "test it is dark again # by B\n  from lit\n  press B\n  run 200\n  save both\n";
-const texts = { boardText: BOARD, programText: PROGRAM, testText: SAVING };
+const texts = { boardText: BOARD, programText: PROGRAM, testText: SAVING_TESTS };
 const pause = async () => {};
 
 test("a search can begin from a state that a test saves, and each counterexample starts with the test's lines", async () => {
@@ -430,7 +430,7 @@ test("a search can begin from a state that a test saves, and each counterexample
 });
 
 test("errors of the start state are reported", async () => {
-  const errorOf = async (line, testText = SAVING) => {
+  const errorOf = async (line, testText = SAVING_TESTS) => {
     const { errors } = await prepareSearch(engine, { ...texts, testText, propertiesText: `${line}\n` });
     return errors.map(({ line: errorLine, words }) => `${errorLine}: ${words}`).join();
   };
@@ -438,9 +438,9 @@ test("errors of the start state are reported", async () => {
   assert.equal(await errorOf("from lit", ""), "1: there are no tests, so none saves the state lit");
   assert.match(await errorOf("from lit of"), /^1: write `from STATE` or `from STATE of FILE.test`/);
   assert.match(await errorOf("from lit\nfrom both"), /^2: an earlier line already says from which state it begins/);
-  const error = await errorOf("from lit", SAVING.replace("run 400", "rune 400"));
+  const error = await errorOf("from lit", SAVING_TESTS.replace("run 400", "rune 400"));
   assert.match(error, /^1: its tests have an error in line 3: a line of a test cannot begin/);
-  const failingTests = SAVING.replace("run 400", "expect lamp on on");
+  const failingTests = SAVING_TESTS.replace("run 400", "expect lamp on on");
   assert.match(await errorOf("from lit", failingTests), /^1: line 3 of its tests fails: expect lamp on on: /);
 });
 

@@ -1,5 +1,5 @@
-// Tests proofs for the inputs that a properties text allows: the limits in a question, and when the question is asked again with them. Also
-// tests counterexamples that stay within the limits, and the texts about such proofs.
+// Tests proofs that are limited to the inputs that a properties text allows: the limits in a question, and when the prover is asked again
+// with these limits. Also tests counterexamples that stay within the limits, and the texts about such proofs.
 import assert from "node:assert/strict";
 import { test } from "node:test";
 import { Engine } from "../core/engine/engine.js";
@@ -106,7 +106,7 @@ class AnsweringEngine extends Engine {
     super(new globalThis.WebAssembly.Module(pageModule));
     this.answer = answer;
     /** @type {string[]} */
-    this.asked = [];
+    this.questions = [];
   }
 
   prove(question) {
@@ -117,7 +117,7 @@ class AnsweringEngine extends Engine {
     const [, limits] = /^pause \d+\n([^]*?)wire$/m.exec(question);
     const [kind] = ["mistake", "within", "open", "never"].filter((word) => new RegExp(`^${word}\\b`, "m").test(question));
     const count = question.split("\nnever\n").length - 1;
-    this.asked.push(`${kind} ${count} ${limits.trimEnd().replace(/\n/g, "; ") || "all"}`);
+    this.questions.push(`${kind} ${count} ${limits.trimEnd().replace(/\n/g, "; ") || "all"}`);
     return this.answer({ kind, isLimited: limits !== "", count });
   }
 }
@@ -128,23 +128,25 @@ async function prove(propertiesText, answer, { programText = PROGRAM, answerMist
   const texts = { boardText: BOARD, programText, testText: "", propertiesText };
   const { proving, errors } = beginProving(engine, texts, 10000, { reportStates: async () => {}, yieldToMessages: async () => {} });
   assert.deepEqual(errors, []);
-  const all = (await proving.judgeAll()).map((judged) => ({ ...createPropertyVerdict(judged), judged }));
+  const judgedVerdicts = (await proving.judgeAll()).map((judged) => ({ ...createPropertyVerdict(judged), judged }));
   const verdictsOf = (judgedProperties) => judgedProperties.map(({ verdict }) => verdict);
   const isAboutMistakes = (text) => text.startsWith("mistake");
   return {
-    verdicts: verdictsOf(all.filter(({ line }) => line > 0)), mistakes: verdictsOf(all.filter(({ line }) => line === 0)),
-    asked: engine.asked.filter((text) => !isAboutMistakes(text)), askedMistakes: engine.asked.filter(isAboutMistakes),
-    status: exitStatus(all.map(({ judged }) => judged)),
+    verdicts: verdictsOf(judgedVerdicts.filter(({ line }) => line > 0)),
+    mistakes: verdictsOf(judgedVerdicts.filter(({ line }) => line === 0)),
+    questions: engine.questions.filter((text) => !isAboutMistakes(text)), mistakeQuestions: engine.questions.filter(isAboutMistakes),
+    status: exitStatus(judgedVerdicts.map(({ judged }) => judged)),
   };
 }
 
 const NEVER_ON = "never lamp on on\n";
-const provedWith = (states, ...limits) => ({ kind: "proved", states, bySets: false, limits, leftOut: "" });
+const createProvedVerdict = (states, ...limits) => ({ kind: "proved", states, bySets: false, limits, leftOut: "" });
 
 test("a property that only excluded inputs break is asked again with the limits of the text", async () => {
-  const { verdicts, asked } = await prove(`press B D\ntest\n${NEVER_ON}`, ({ isLimited }) => (isLimited ? "holds 5\n" : ANSWERS_BY_KEYS.A));
-  assert.deepEqual(verdicts, [provedWith(5, "press", "test")]);
-  assert.deepEqual(asked, ["never 1 all", "never 1 only; press 0 1; press 1 1; test"]);
+  const { verdicts, questions } =
+    await prove(`press B D\ntest\n${NEVER_ON}`, ({ isLimited }) => (isLimited ? "holds 5\n" : ANSWERS_BY_KEYS.A));
+  assert.deepEqual(verdicts, [createProvedVerdict(5, "press", "test")]);
+  assert.deepEqual(questions, ["never 1 all", "never 1 only; press 0 1; press 1 1; test"]);
   // Each key switches the lamp on.
   const programText = PROGRAM.replace("        RAR\n        JCN 10, look", "        JCN 4, look");
   const [{ kind, counterexample }] = (await prove(`press B\n${NEVER_ON}`,
@@ -155,76 +157,76 @@ test("a property that only excluded inputs break is asked again with the limits 
 
 test("too many states, full memory and a search that gave up are also a reason to ask again", async () => {
   for (const noAnswer of ["too many\n", "no room 12\n", "no 90\n", "gave up\n"]) {
-    const { verdicts, asked } = await prove(`together 1\n${NEVER_ON}`, ({ isLimited }) => (isLimited ? "holds 5\n" : noAnswer));
-    assert.deepEqual(verdicts, [provedWith(5, "together 1")]);
-    assert.deepEqual(asked, ["never 1 all", "never 1 together 1"]);
+    const { verdicts, questions } = await prove(`together 1\n${NEVER_ON}`, ({ isLimited }) => (isLimited ? "holds 5\n" : noAnswer));
+    assert.deepEqual(verdicts, [createProvedVerdict(5, "together 1")]);
+    assert.deepEqual(questions, ["never 1 all", "never 1 together 1"]);
   }
   const { verdicts: [verdict] } = await prove(`press B\n${NEVER_ON}`, ({ isLimited }) => (isLimited ? "too many\n" : ANSWERS_BY_KEYS.A));
   assert.deepEqual([verdict.kind, verdict.reason.slice(0, 23)], ["open", "more than 10,000 states"]);
 });
 
 test("a question is not repeated without need", async () => {
-  const askedFor = async (text, answer) => (await prove(text, () => answer)).asked;
-  assert.deepEqual(await askedFor(`press A\n${NEVER_ON}`, "holds 5\n"), ["never 1 all"]);
-  assert.deepEqual(await askedFor(`press A\n${NEVER_ON}`, ANSWERS_BY_KEYS.A), ["never 1 all"]);
+  const findQuestions = async (text, answer) => (await prove(text, () => answer)).questions;
+  assert.deepEqual(await findQuestions(`press A\n${NEVER_ON}`, "holds 5\n"), ["never 1 all"]);
+  assert.deepEqual(await findQuestions(`press A\n${NEVER_ON}`, ANSWERS_BY_KEYS.A), ["never 1 all"]);
   // The limits in these texts do not restrict what one read can see.
-  assert.deepEqual(await askedFor(`together 3\nheld at most 1\n${NEVER_ON}`, ANSWERS_BY_KEYS.A), ["never 1 all"]);
-  assert.deepEqual(await askedFor(`together 9\n${NEVER_ON}`, "too many\n"), ["never 1 all"]);
+  assert.deepEqual(await findQuestions(`together 3\nheld at most 1\n${NEVER_ON}`, ANSWERS_BY_KEYS.A), ["never 1 all"]);
+  assert.deepEqual(await findQuestions(`together 9\n${NEVER_ON}`, "too many\n"), ["never 1 all"]);
 });
 
 test("a property that only inputs outside other limits break remains undecided", async () => {
-  const { verdicts, asked } = await prove(`press A\nheld at most 1\n${NEVER_ON}`, () => ANSWERS_BY_KEYS.A);
+  const { verdicts, questions } = await prove(`press A\nheld at most 1\n${NEVER_ON}`, () => ANSWERS_BY_KEYS.A);
   assert.deepEqual(verdicts, [{ kind: "open", reason: "so far, only inputs that the text excludes break it (1 step)" }]);
-  assert.deepEqual(asked, ["never 1 all", "never 1 only; press 0 0; test"]);
+  assert.deepEqual(questions, ["never 1 all", "never 1 only; press 0 0; test"]);
 });
 
 test("several properties are asked together again only if all of them are undecided", async () => {
   const properties = `press B\n${NEVER_ON}never r15 = 1\nnever r14 = 1\n`;
   const manyResult = await prove(properties, ({ isLimited }) => (isLimited ? "holds 5\n" : "too many\n"));
-  assert.deepEqual(manyResult.verdicts, Array.from({ length: 3 }, () => provedWith(5, "press")));
-  assert.deepEqual(manyResult.asked, ["never 3 all", "never 3 only; press 0 1; test"]);
+  assert.deepEqual(manyResult.verdicts, Array.from({ length: 3 }, () => createProvedVerdict(5, "press")));
+  assert.deepEqual(manyResult.questions, ["never 3 all", "never 3 only; press 0 1; test"]);
   // The first property fails, so the prover is asked about each property alone, and again, with limits, about the undecided one.
-  let alone = 0;
+  let singleQuestionCount = 0;
   const failResult = await prove(properties, ({ isLimited, count }) => {
     if (isLimited) return "holds 5\n";
-    alone += Number(count === 1);
-    return count > 1 || alone === 1 ? ANSWERS_BY_KEYS.A : "holds 8\n";
+    singleQuestionCount += Number(count === 1);
+    return count > 1 || singleQuestionCount === 1 ? ANSWERS_BY_KEYS.A : "holds 8\n";
   });
-  assert.deepEqual(failResult.verdicts, [provedWith(5, "press"), provedWith(8), provedWith(8)]);
-  assert.deepEqual(failResult.asked, ["never 3 all", "never 1 all", "never 1 only; press 0 1; test", "never 1 all", "never 1 all"]);
+  assert.deepEqual(failResult.verdicts, [createProvedVerdict(5, "press"), createProvedVerdict(8), createProvedVerdict(8)]);
+  assert.deepEqual(failResult.questions, ["never 3 all", "never 1 all", "never 1 only; press 0 1; test", "never 1 all", "never 1 all"]);
   // The combined question with limits fails, so the prover is asked about each property alone.
   const bothResult = await prove(properties,
     ({ isLimited, count }) => (!isLimited ? "no 90\n" : count === 1 ? "holds 5\n" : ANSWERS_BY_KEYS.B));
-  assert.deepEqual(bothResult.verdicts, Array.from({ length: 3 }, () => provedWith(5, "press")));
-  assert.deepEqual(bothResult.asked.map((text) => text.slice(0, 11)),
+  assert.deepEqual(bothResult.verdicts, Array.from({ length: 3 }, () => createProvedVerdict(5, "press")));
+  assert.deepEqual(bothResult.questions.map((text) => text.slice(0, 11)),
     ["never 3 all", "never 3 onl", "never 1 onl", "never 1 onl", "never 1 onl"]);
 });
 
 test("goals, times and presses are also asked again", async () => {
-  const answerLimited = (whole, limited) => ({ isLimited }) => (isLimited ? limited : whole);
+  const answerLimited = (unlimitedAnswer, limitedAnswer) => ({ isLimited }) => (isLimited ? limitedAnswer : unlimitedAnswer);
   const goalResult = await prove("press B\nreach lamp on on\n", answerLimited(ANSWERS_BY_KEYS.A, "holds 5\n"));
-  assert.deepEqual(goalResult.verdicts, [provedWith(5, "press")]);
+  assert.deepEqual(goalResult.verdicts, [createProvedVerdict(5, "press")]);
   assert.equal(goalResult.status, 1);
   const undecidedResult = await prove("press B\nreach lamp on on\n", answerLimited(ANSWERS_BY_KEYS.A, "too many\n"));
   assert.deepEqual(undecidedResult.verdicts.map(({ kind }) => kind), ["found"]);
   const timeResult = await prove("press B\nnever lamp on on for 9\n", answerLimited("too many\n", "holds 6\n"));
-  assert.deepEqual(timeResult.verdicts, [provedWith(6, "press")]);
-  assert.deepEqual(timeResult.asked, ["within 0 all", "within 0 only; press 0 1; test"]);
+  assert.deepEqual(timeResult.verdicts, [createProvedVerdict(6, "press")]);
+  assert.deepEqual(timeResult.questions, ["within 0 all", "within 0 only; press 0 1; test"]);
   const pressResult = await prove("lamp on on only after press B\n", answerLimited("gave up\n", "holds 7\n"));
-  assert.deepEqual(pressResult.verdicts, [provedWith(7, "together 2")]);
-  assert.deepEqual(pressResult.asked, ["open 0 all", "open 0 together 2"]);
+  assert.deepEqual(pressResult.verdicts, [createProvedVerdict(7, "together 2")]);
+  assert.deepEqual(pressResult.questions, ["open 0 all", "open 0 together 2"]);
 });
 
 test("common mistakes are also asked again, together if all are undecided", async () => {
   const manyResult = await prove("press B\n", () => "", { answerMistakes: ({ isLimited }) => (isLimited ? "holds 5\n" : "too many\n") });
-  assert.deepEqual(manyResult.mistakes, Array.from({ length: 7 }, () => provedWith(5, "press")));
-  assert.deepEqual(manyResult.askedMistakes, ["mistake 1 all", "mistake 1 only; press 0 1; test"]);
+  assert.deepEqual(manyResult.mistakes, Array.from({ length: 7 }, () => createProvedVerdict(5, "press")));
+  assert.deepEqual(manyResult.mistakeQuestions, ["mistake 1 all", "mistake 1 only; press 0 1; test"]);
   // If A is down, the program jumps to ROM that the board lacks.
   const programText = PROGRAM.replace("end:    JUN end", "end:    JUN 0x200");
-  let askedCount = 0;
+  let questionCount = 0;
   const answerMistakes = ({ isLimited }) => {
-    askedCount += Number(!isLimited);
-    return isLimited ? "holds 5\n" : askedCount === 1 || askedCount === 6 ? ANSWERS_BY_KEYS.A : "holds 8\n";
+    questionCount += Number(!isLimited);
+    return isLimited ? "holds 5\n" : questionCount === 1 || questionCount === 6 ? ANSWERS_BY_KEYS.A : "holds 8\n";
   };
   const someResult = await prove("press B\n", () => "", { programText, answerMistakes });
   assert.deepEqual(someResult.mistakes.map(({ limits }) => limits), [[], [], [], [], ["press"], [], []]);
@@ -255,12 +257,12 @@ test("a counterexample releases keys that are not read, and stays within the lim
   assert.deepEqual([found.isAllowed, found.steps], [true, 3]);
   assert.match(found.text, /\n {2}press A\n {2}run \d+\n {2}release A\n {2}(run \d+\n {2})?press C\n {2}run \d+\n {2}expect/);
   // Two keys may be down, so A stays down.
-  const longerFound = await findCounterexample(`together 2\n${NEVER_ON}`, [0, 1, 0, 0, 1], program);
-  assert.ok(longerFound.isAllowed);
-  assert.doesNotMatch(longerFound.text, /release/);
+  const longerCounterexample = await findCounterexample(`together 2\n${NEVER_ON}`, [0, 1, 0, 0, 1], program);
+  assert.ok(longerCounterexample.isAllowed);
+  assert.doesNotMatch(longerCounterexample.text, /release/);
   // What happens in the first 300 cycles does not count, so the waits are not shortened.
-  const lateFound = await findCounterexample(`begin after 300\n${NEVER_ON}`, [0, ...Array(100).fill(0), 1], PROGRAM);
-  assert.ok(lateFound.isAllowed && lateFound.cycles > 300);
+  const lateCounterexample = await findCounterexample(`begin after 300\n${NEVER_ON}`, [0, ...Array(100).fill(0), 1], PROGRAM);
+  assert.ok(lateCounterexample.isAllowed && lateCounterexample.cycles > 300);
 });
 
 test("a counterexample releases a key before it presses another one", async () => {
@@ -275,26 +277,27 @@ test("a counterexample releases a key before it presses another one", async () =
 test("the limits of a proof are printed", async () => {
   const property = { text: "never it", isGoal: false, line: 3, guards: [] };
   const tapOf = (verdict, isGoal = false) => formatJudgedTap({ property: { ...property, isGoal }, verdict }, 0, "p");
-  assert.equal(tapOf(provedWith(1)), "ok 1 - never it # proved for all inputs (1 state)\n");
-  assert.equal(tapOf(provedWith(1, "press")), 'ok 1 - never it # proved for the inputs of "press" (1 state)\n');
-  assert.equal(tapOf({ ...provedWith(1200, "press", "together 2"), leftOut: '"once"' }),
+  assert.equal(tapOf(createProvedVerdict(1)), "ok 1 - never it # proved for all inputs (1 state)\n");
+  assert.equal(tapOf(createProvedVerdict(1, "press")), 'ok 1 - never it # proved for the inputs of "press" (1 state)\n');
+  assert.equal(tapOf({ ...createProvedVerdict(1200, "press", "together 2"), leftOut: '"once"' }),
     'ok 1 - never it # proved for the inputs of "press" and "together 2" (1,200 states), even without "once"\n');
-  assert.equal(tapOf(provedWith(2, "press", "test", "together 1"), true),
+  assert.equal(tapOf(createProvedVerdict(2, "press", "test", "together 1"), true),
     'not ok 1 - never it # never reached, for the inputs of "press", "test" and "together 1" (2 states)\n');
-  assert.equal(describeVerdict({ ...property, verdict: provedWith(2, "press", "test") }), 'for the inputs of "press" and "test": 2 states');
-  assert.equal(exitStatus([{ property, verdict: provedWith(2, "press") }]), 0);
+  const verdict = createProvedVerdict(2, "press", "test");
+  assert.equal(describeVerdict({ ...property, verdict }), 'for the inputs of "press" and "test": 2 states');
+  assert.equal(exitStatus([{ property, verdict: createProvedVerdict(2, "press") }]), 0);
 });
 
 test("a proof with limits is valid until they change", () => {
   const texts = { boardText: "", programText: "", propertiesText: `press A\ntogether 1\nheld at most 9\n${NEVER_ON}` };
-  const judged = (verdict) => ({ text: NEVER_ON.trim(), line: 4, isGoal: false, verdict });
+  const createJudgedProperty = (verdict) => ({ text: NEVER_ON.trim(), line: 4, isGoal: false, verdict });
   const isValidAfter = (verdict, from, to) => (
-    isStillValid(judged(verdict), texts, { ...texts, propertiesText: texts.propertiesText.replace(from, to) }));
+    isStillValid(createJudgedProperty(verdict), texts, { ...texts, propertiesText: texts.propertiesText.replace(from, to) }));
   for (const [from, to] of [["A", "A B"], ["together 1", "together 2"], ["press A", "press A\ntest"]]) {
-    assert.ok(!isValidAfter(provedWith(2, "press"), from, to), to);
-    assert.ok(isValidAfter(provedWith(2), from, to), to);
+    assert.ok(!isValidAfter(createProvedVerdict(2, "press"), from, to), to);
+    assert.ok(isValidAfter(createProvedVerdict(2), from, to), to);
   }
-  assert.ok(isValidAfter(provedWith(2, "press"), "held at most 9\n", ""));
+  assert.ok(isValidAfter(createProvedVerdict(2, "press"), "held at most 9\n", ""));
   assert.ok(!isValidAfter({ kind: "open", reason: "why" }, "held at most 9\n", ""));
 });
 
@@ -315,8 +318,8 @@ test("a search is not needed for a property that is proved for its inputs", asyn
   const [first, ...others] = report.properties;
   const oldGoal = { ...others[0], states: 3 };
   delete oldGoal.limits;
-  const joined = joinReports([report, { ...report, properties: [{ ...first, states: 8, limits: [] }, oldGoal, ...others.slice(1)] }]);
-  assert.deepEqual(joined.properties.slice(0, 2).map(({ states, limits }) => [states, limits]), [[8, []], [3, []]]);
+  const joinedReport = joinReports([report, { ...report, properties: [{ ...first, states: 8, limits: [] }, oldGoal, ...others.slice(1)] }]);
+  assert.deepEqual(joinedReport.properties.slice(0, 2).map(({ states, limits }) => [states, limits]), [[8, []], [3, []]]);
 });
 
 test("the prover of the page applies the limits", async () => {

@@ -13,10 +13,10 @@ test("the newest three notices are shown", () => {
 });
 
 test("notices of success are removed before notices of failure", () => {
-  assert.deepEqual(kindsToRemove("session", "undo", "refusal", "kept"), ["undo"]);
-  assert.deepEqual(kindsToRemove("undo", "refusal", "session", "kept"), ["kept"]);
+  assert.deepEqual(kindsToRemove("session", "undo", "refusal", "saveError"), ["undo"]);
+  assert.deepEqual(kindsToRemove("undo", "refusal", "session", "saveError"), ["saveError"]);
 });
 
 test("the newest notice stays, whatever its kind", () => {
-  assert.deepEqual(kindsToRemove("undo", "unended", "unended", "unended"), ["unended"]);
+  assert.deepEqual(kindsToRemove("undo", "unopened", "unopened", "unopened"), ["unopened"]);
 });

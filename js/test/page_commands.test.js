@@ -50,8 +50,8 @@ test("the elements that commands use exist in the page", () => {
 });
 
 test("a command that cannot run gives the reason", () => {
-  const no = () => false;
-  const calls = { canGoForward: no, isButtonAvailable: no, hasText: no, hasNotices: no, hasKeys: no };
+  const never = () => false;
+  const calls = { canGoForward: never, isButtonAvailable: never, isTextInFront: never, hasNotices: never, hasKeys: never };
   const reasons = COMMANDS.map((command) => [command.id, command.unavailableReason(calls)]).filter(([, reason]) => reason);
   assert.ok(reasons.length > 30);
   assert.equal(commandById("time.redo").unavailableReason(calls), say.NOTHING_UNDONE);
@@ -94,16 +94,16 @@ test("no key has two commands in the same part of the page", () => {
 });
 
 test("while a dialog is open, command keys have no effect, not even in the browser", () => {
-  const [executed, prevented] = [[], []];
+  const [executedIds, preventedKeys] = [[], []];
   let listener = () => {};
   let isDialogOpen = false;
-  listenToKeys(({ id }) => executed.push(id), () => isDialogOpen, { addEventListener: (_name, callback) => { listener = callback; } });
-  const press = (key, modifiers) => listener({ ...keyEvent(key, modifiers), preventDefault: () => prevented.push(key) });
+  listenToKeys(({ id }) => executedIds.push(id), () => isDialogOpen, { addEventListener: (_name, callback) => { listener = callback; } });
+  const press = (key, modifiers) => listener({ ...keyEvent(key, modifiers), preventDefault: () => preventedKeys.push(key) });
   press("s", { ctrlKey: true });
   press("x", {});
   isDialogOpen = true;
   press("o", { ctrlKey: true });
-  assert.deepEqual([executed, prevented], [["project.save"], ["s", "o"]]);
+  assert.deepEqual([executedIds, preventedKeys], [["project.save"], ["s", "o"]]);
 });
 
 test("names of keys have the format of the table or of the editor", () => {

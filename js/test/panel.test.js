@@ -193,28 +193,28 @@ test("lamps have levels of brightness while running, and the state of an instant
   const { passTime, typeKeys, text, screen } = await openPanel({ board, program });
   await passTime(200);
   assert.match(text(), /\(:\) seldom[^]*\(\*\) mostly[^]*\(\*\) always[^]*\( \) never/);
-  const seldom = screen.buildRows(TERMINAL_SIZE).flatMap(({ pieces }) => pieces).find((piece) => piece.text.includes("seldom"));
-  assert.deepEqual([seldom.colour, seldom.level], ["red", 1]);
+  const seldomPiece = screen.buildRows(TERMINAL_SIZE).flatMap(({ pieces }) => pieces).find((piece) => piece.text.includes("seldom"));
+  assert.deepEqual([seldomPiece.colour, seldomPiece.level], ["red", 1]);
   await typeKeys(" ");
   assert.doesNotMatch(text(), /\(:\)/);
 });
 
 test("the panel shows the last lines of the printout, after running and after steps", async () => {
   const { typeKeys, passTime, rows, panel } = await openPanel(PRINTING);
-  const printout = () => {
+  const readPrintout = () => {
     const panelRows = rows().map((row) => row.slice(29, 53).trimEnd());
     return panelRows.slice(panelRows.indexOf("--- printout -----------") + 1, -2).filter(Boolean).join("/");
   };
   await typeKeys("12+30=5");
   await passTime(3 * SECOND_MS);
-  assert.equal(printout(), "12+/30=/42");
+  assert.equal(readPrintout(), "12+/30=/42");
   await typeKeys(" *");
-  for (let steps = 0; steps < 20000 && printout() === "12+/30=/42"; steps++) await panel.step();
-  assert.equal(printout(), "12+/30=/42/5");
+  for (let steps = 0; steps < 20000 && readPrintout() === "12+/30=/42"; steps++) await panel.step();
+  assert.equal(readPrintout(), "12+/30=/42/5");
   await typeKeys("* ");
   await typeKeys("6=2+2=");
   await passTime(4 * SECOND_MS);
-  assert.equal(printout(), "6=/30/2+/2=/4");
+  assert.equal(readPrintout(), "6=/30/2+/2=/4");
 });
 
 test("rows fit the terminal, and texts from files cannot send control characters to it", async () => {

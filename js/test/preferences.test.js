@@ -13,9 +13,9 @@ function createFakeStore(text = null) {
 test("a preference is stored for the next visit", () => {
   const store = createFakeStore();
   new Preferences(store).set("fold.memory", "folded");
-  const reloaded = new Preferences(store);
-  assert.equal(reloaded.get("fold.memory"), "folded");
-  assert.equal(reloaded.get("fold.ports"), "");
+  const reloadedPreferences = new Preferences(store);
+  assert.equal(reloadedPreferences.get("fold.memory"), "folded");
+  assert.equal(reloadedPreferences.get("fold.ports"), "");
 });
 
 test("two tabs keep each other's preferences", () => {

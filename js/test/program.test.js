@@ -92,8 +92,8 @@ const createFakeBench = (errors, number = 0) => {
   const requests = { sentTexts: [], refusalCount: 0 };
   return {
     requests,
-    findLineErrors: async (sent) => {
-      requests.sentTexts.push(sent);
+    findLineErrors: async (benchText) => {
+      requests.sentTexts.push(benchText);
       return errors;
     },
     findRefusal: async () => {

@@ -48,8 +48,8 @@ test("a written project is read back unchanged, for all kinds of texts", () => {
   for (const text of ["", "\n", "NOP", "NOP\n", "a\n\n", ".\n..\n...", ".", "\tx \n.y\n", "wire\n.\nasm\n", "; f\u00fcr \u{1f600}\n"]) {
     const allTexts = { boardText: text, programText: text, testText: text, propertiesText: text };
     for (const texts of [{ boardText: text }, { programText: text }, { testText: text }, { propertiesText: text }, allTexts]) {
-      const original = createProject(texts);
-      assert.deepEqual(parse(projectText(original)), original);
+      const originalProject = createProject(texts);
+      assert.deepEqual(parse(projectText(originalProject)), originalProject);
     }
   }
 });
@@ -87,9 +87,9 @@ test("each truncated project is rejected with a reason", () => {
 test("a project with any single changed byte is rejected", () => {
   const bytes = encode(projectText(createProject()));
   for (let index = 0; index < bytes.length; index++) {
-    const changed = bytes.slice();
-    changed[index] ^= 1;
-    assert.throws(() => readProject(changed, SIZE), InvalidProject, `byte ${index}`);
+    const changedBytes = bytes.slice();
+    changedBytes[index] ^= 1;
+    assert.throws(() => readProject(changedBytes, SIZE), InvalidProject, `byte ${index}`);
   }
 });
 
@@ -130,8 +130,8 @@ test("breakpoints are in the head of the project, and are read back unchanged", 
   assert.deepEqual(parse(text).breakpoints, breakpoints);
   assert.equal(parse(projectText(createProject({ breakpoints: [] }))).breakpoints, undefined);
   for (const invalidLine of ["break", "break here", "break line x", "break line 3 if r4", "break at 0x12"]) {
-    const changed = text.replace(/\ncksum .*/, "").replace("break at 0x7FF", invalidLine);
-    assert.throws(() => parse(changed), /must be a line of the head: `name`, `unended`, `break`/);
+    const changedText = text.replace(/\ncksum .*/, "").replace("break at 0x7FF", invalidLine);
+    assert.throws(() => parse(changedText), /must be a line of the head: `name`, `unended`, `break`/);
   }
 });
 

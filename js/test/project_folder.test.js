@@ -6,7 +6,7 @@ import { join } from "node:path";
 import { test } from "node:test";
 import { ProjectError, readProject } from "../core/project/project_folder.js";
 import { readProjectToml } from "../core/project/project_toml.js";
-import { projectIn } from "../node/project_on_disk.mjs";
+import { readProjectFolder } from "../node/project_on_disk.mjs";
 
 const VALID_PROJECT = "board = \"board.toml\"\nprogram = \"main.asm\" # the source\n";
 const bytesOf = (text) => new TextEncoder().encode(text);
@@ -52,16 +52,16 @@ test("a project's files must be in its folder", () => {
 test("a project on the disk", (context) => {
   const folder = mkdtempSync(join(tmpdir(), "project_folder."));
   context.after(() => rmSync(folder, { recursive: true }));
-  assert.throws(() => projectIn(folder), /mcs4\.toml: there is no such file/);
+  assert.throws(() => readProjectFolder(folder), /mcs4\.toml: there is no such file/);
   writeFileSync(join(folder, "mcs4.toml"), VALID_PROJECT);
   writeFileSync(join(folder, "main.asm"), "NOP\n");
-  assert.throws(() => projectIn(folder), /mcs4\.toml: line 1: board: there is no file board\.toml$/);
+  assert.throws(() => readProjectFolder(folder), /mcs4\.toml: line 1: board: there is no file board\.toml$/);
   symlinkSync("/etc/hostname", join(folder, "board.toml"));
-  assert.throws(() => projectIn(folder), /line 1: board: board\.toml is a link that leads out of the project's folder$/);
+  assert.throws(() => readProjectFolder(folder), /line 1: board: board\.toml is a link that leads out of the project's folder$/);
   rmSync(join(folder, "board.toml"));
   mkdirSync(join(folder, "board.toml"));
-  assert.throws(() => projectIn(folder), /line 1: board: board\.toml is a folder, not a file$/);
+  assert.throws(() => readProjectFolder(folder), /line 1: board: board\.toml is a folder, not a file$/);
   rmSync(join(folder, "board.toml"), { recursive: true });
   writeFileSync(join(folder, "board.toml"), "");
-  assert.equal(projectIn(folder).program, join(folder, "main.asm"));
+  assert.equal(readProjectFolder(folder).program, join(folder, "main.asm"));
 });

@@ -71,8 +71,8 @@ test("places, counts and times are parsed", async () => {
   assert.deepEqual(findPlace("*0x016").address, 0x016);
   assert.deepEqual(findPlace("three_lamps.asm:1").address, 0);
   assert.deepEqual(findPlace("").address, 0);
-  for (const wrong of ["nothing", "0x1000", "999", "wait + x", "-1"]) {
-    assert.throws(() => findPlace(wrong), /place|addresses|instruction/, wrong);
+  for (const invalidText of ["nothing", "0x1000", "999", "wait + x", "-1"]) {
+    assert.throws(() => findPlace(invalidText), /place|addresses|instruction/, invalidText);
   }
   assert.deepEqual([parseCountArgument("", 9), parseCountArgument(" 7 ", 9)], [1, 7]);
   for (const wrong of ["0", "10", "x", "-1", "1.5"]) assert.throws(() => parseCountArgument(wrong, 9), /a count is 1 to 9/, wrong);
@@ -203,8 +203,8 @@ test("the view shows source, registers and lamps in each size, and marks changed
   prompt.callbacks.view = { toggle: () => "no room", turn: (isOn) => { viewChanges.push(isOn); return ""; } };
   assert.deepEqual(await ask("tui enable", "layout src", "view off"), []);
   assert.deepEqual([viewChanges, await ask("view")], [[true, true, false], ["refused: no room"]]);
-  const unmarked = (text) => text;
-  const marks = { head: unmarked, nextInstruction: (text) => `[${text}]`, changedValue: (text) => `{${text}}` };
+  const leaveUnmarked = (text) => text;
+  const marks = { head: leaveUnmarked, nextInstruction: (text) => `[${text}]`, changedValue: (text) => `{${text}}` };
   const view = new View(prompt);
   assert.deepEqual(viewSize(24, 80), { rows: 14, columns: 79 });
   assert.deepEqual([viewSize(11, 80), viewSize(24, 39), viewSize(undefined, undefined)], [null, null, null]);
@@ -219,7 +219,7 @@ test("the view shows source, registers and lamps in each size, and marks changed
   assert.deepEqual(lines.slice(-3), ["lamps ..* right", "r4 = 0x1", "-".repeat(79)]);
   for (const [rows, columns] of [[12, 40], [24, 60], [50, 200]]) {
     const size = viewSize(rows, columns);
-    const printed = view.lines(size, { head: unmarked, nextInstruction: unmarked, changedValue: unmarked });
+    const printed = view.lines(size, { head: leaveUnmarked, nextInstruction: leaveUnmarked, changedValue: leaveUnmarked });
     assert.equal(printed.length, size.rows);
     assert.deepEqual(printed.filter((line) => line.length > size.columns), []);
     assert.match(printed.join("\n"), /acc 1/);

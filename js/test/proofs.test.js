@@ -26,15 +26,15 @@ const LAMP_ON_ANSWER = "may fail 0\n";
 const NO_MISTAKE_ANSWER = "holds 9\n";
 
 /**
- * The bench's module with a stand-in for the prover, which records its questions. `asked`: the bound and the number of conditions of each
- * question about properties. `times`: the limit of each question about a stopwatch, in cycles. `mistakes`: the words of each question
- * about common mistakes. `bySets`: the questions that use sets of states.
+ * The bench's module with a stand-in for the prover, which records its questions. `propertyQuestions`: the bound and the number of
+ * conditions of each question about properties. `timeLimits`: the limit of each question about a stopwatch, in cycles.
+ * `mistakeQuestions`: the words of each question about common mistakes. `setQuestions`: the questions that use sets of states.
  */
 class RecordingEngine extends Engine {
   /**
    * @param {(bound: number, nevers: string[]) => string} answer
    * @param {(words: string[]) => string} answerMistakes
-   * @param {(asked: string) => string} answerSets
+   * @param {(question: string) => string} answerSets
    * @param {(within: number) => string} answerTimes
    */
   constructor(answer, answerMistakes = () => NO_MISTAKE_ANSWER, answerSets = () => "gave up\n", answerTimes = () => "holds 7\n") {
@@ -43,10 +43,10 @@ class RecordingEngine extends Engine {
     this.answerMistakes = answerMistakes;
     this.answerSets = answerSets;
     this.answerTimes = answerTimes;
-    this.asked = [];
-    this.times = [];
-    this.mistakes = [];
-    this.bySets = [];
+    this.propertyQuestions = [];
+    this.timeLimits = [];
+    this.mistakeQuestions = [];
+    this.setQuestions = [];
   }
 
   prove(question) {
@@ -55,19 +55,19 @@ class RecordingEngine extends Engine {
     const [, words] = /^mistake (.*)$/m.exec(question) || [];
     const [, within] = /^within (\d+)$/m.exec(question) || [];
     if (within) {
-      this.times.push(Number(within));
+      this.timeLimits.push(Number(within));
       assert.ok(nevers.length === 0 && !/^sets /m.test(question));
       return this.answerTimes(Number(within));
     }
     if (/^sets \d+$/m.test(question)) {
-      this.bySets.push(words || nevers.join());
-      return this.answerSets(this.bySets[this.bySets.length - 1]);
+      this.setQuestions.push(words || nevers.join());
+      return this.answerSets(this.setQuestions[this.setQuestions.length - 1]);
     }
     if (words) {
-      this.mistakes.push(words);
+      this.mistakeQuestions.push(words);
       return this.answerMistakes(words.split(" "));
     }
-    this.asked.push([bound, nevers.length]);
+    this.propertyQuestions.push([bound, nevers.length]);
     return this.answer(bound, nevers);
   }
 }
@@ -81,11 +81,12 @@ async function runProofs(answer, { most: maximum = 50000, answerMistakes, answer
     },
     yieldToMessages: async () => {},
   });
-  const lines = proving ? (await proving.judgeAll()).map(createPropertyVerdict) : [];
-  return { errors, engine, seen: stateCounts, all: lines.filter(({ line }) => line > 0), made: lines.filter(({ line }) => line === 0) };
+  const verdicts = proving ? (await proving.judgeAll()).map(createPropertyVerdict) : [];
+  const propertyVerdicts = verdicts.filter(({ line }) => line > 0);
+  return { errors, engine, stateCounts, propertyVerdicts, mistakeVerdicts: verdicts.filter(({ line }) => line === 0) };
 }
 
-const kindsOf = (all) => all.map(({ verdict: { kind } }) => kind);
+const kindsOf = (verdicts) => verdicts.map(({ verdict: { kind } }) => kind);
 
 test("the bound on the number of states doubles up to the requested maximum", () => {
   assert.deepEqual(listBounds(77), [77]);
@@ -94,78 +95,79 @@ test("the bound on the number of states doubles up to the requested maximum", ()
 });
 
 test("a question is repeated with a larger bound while there are more states, and reports its progress", async () => {
-  const { all, engine, seen } = await runProofs((bound) => (bound < 40000 ? "too many\n" : "holds 23456\n"),
+  const { propertyVerdicts, engine, stateCounts } = await runProofs((bound) => (bound < 40000 ? "too many\n" : "holds 23456\n"),
     { propertiesText: "test\nnever lamp 1 on\n" });
-  assert.deepEqual(engine.asked, [[10000, 1], [20000, 1], [40000, 1]]);
+  assert.deepEqual(engine.propertyQuestions, [[10000, 1], [20000, 1], [40000, 1]]);
   // The question that uses sets of states comes first, the questions about mistakes last.
-  assert.deepEqual(seen, [0, 10000, 20000, 0, 0]);
+  assert.deepEqual(stateCounts, [0, 10000, 20000, 0, 0]);
   const verdict = { kind: "proved", states: 23456, bySets: false, limits: [], leftOut: "" };
-  assert.deepEqual(all, [{ text: "never lamp 1 on", line: 2, isGoal: false, verdict }]);
+  assert.deepEqual(propertyVerdicts, [{ text: "never lamp 1 on", line: 2, isGoal: false, verdict }]);
 });
 
 test("properties are proved together first, and separately only if necessary", async () => {
   const togetherResult = await runProofs((_, nevers) => (nevers.length === 2 ? "holds 3\n" : LAMP_ON_ANSWER));
-  assert.deepEqual(togetherResult.engine.asked, [[10000, 2], [10000, 1]]);
-  assert.deepEqual(kindsOf(togetherResult.all), ["proved", "found", "proved"]);
+  assert.deepEqual(togetherResult.engine.propertyQuestions, [[10000, 2], [10000, 1]]);
+  assert.deepEqual(kindsOf(togetherResult.propertyVerdicts), ["proved", "found", "proved"]);
   const aloneResult = await runProofs((_, nevers) => (nevers.length === 1 && nevers[0].includes("line1") ? "holds 3\n" : LAMP_ON_ANSWER));
-  assert.deepEqual(kindsOf(aloneResult.all), ["proved", "found", "found"]);
+  assert.deepEqual(kindsOf(aloneResult.propertyVerdicts), ["proved", "found", "found"]);
   const openResult = await runProofs((bound) => (bound < 50000 ? "too many\n" : "no 90\n"));
-  assert.deepEqual(kindsOf(openResult.all), ["open", "open", "open"]);
-  assert.deepEqual(openResult.engine.asked.map(([, nevers]) => nevers), [2, 2, 2, 2, 1, 1, 1, 1]);
-  assert.match(openResult.all[0].verdict.reason, /memory has room for only 40,000 states/);
+  assert.deepEqual(kindsOf(openResult.propertyVerdicts), ["open", "open", "open"]);
+  assert.deepEqual(openResult.engine.propertyQuestions.map(([, nevers]) => nevers), [2, 2, 2, 2, 1, 1, 1, 1]);
+  assert.match(openResult.propertyVerdicts[0].verdict.reason, /memory has room for only 40,000 states/);
   const singleResult = await runProofs(() => LAMP_ON_ANSWER, { propertiesText: "test\nnever lamp lit on\n" });
-  assert.deepEqual(singleResult.engine.asked, [[10000, 1]]);
+  assert.deepEqual(singleResult.engine.propertyQuestions, [[10000, 1]]);
 });
 
 test("seven mistakes are checked for each program: together first, and separately if one is possible", async () => {
   const noProperties = { propertiesText: "" };
-  const { made, engine } = await runProofs(() => "", noProperties);
-  assert.deepEqual(engine.mistakes, ["code call return ram rom rdr wrr"]);
-  assert.deepEqual(kindsOf(made), Array.from({ length: 7 }, () => "proved"));
+  const { mistakeVerdicts, engine } = await runProofs(() => "", noProperties);
+  assert.deepEqual(engine.mistakeQuestions, ["code call return ram rom rdr wrr"]);
+  assert.deepEqual(kindsOf(mistakeVerdicts), Array.from({ length: 7 }, () => "proved"));
   const verdict = { kind: "proved", states: 9, bySets: false, limits: [], leftOut: "" };
-  assert.deepEqual(made[0], { text: "no code outside the instruction table", line: 0, isGoal: false, verdict });
+  assert.deepEqual(mistakeVerdicts[0], { text: "no code outside the instruction table", line: 0, isGoal: false, verdict });
   // The program jumps into ROM that the board lacks.
   const programWithMistake = { ...noProperties, programText: "        JUN 256\n" };
   const mistakeResult = await runProofs(() => "",
     { ...programWithMistake, answerMistakes: (words) => (words.includes("rom") ? "may fail 0\n" : NO_MISTAKE_ANSWER) });
-  assert.deepEqual(mistakeResult.engine.mistakes.slice(1), ["code", "call", "return", "ram", "rom", "rdr", "wrr"]);
-  assert.deepEqual(kindsOf(mistakeResult.made), ["proved", "proved", "proved", "proved", "found", "proved", "proved"]);
+  assert.deepEqual(mistakeResult.engine.mistakeQuestions.slice(1), ["code", "call", "return", "ram", "rom", "rdr", "wrr"]);
+  assert.deepEqual(kindsOf(mistakeResult.mistakeVerdicts), ["proved", "proved", "proved", "proved", "found", "proved", "proved"]);
   // A report of the prover that the bench does not confirm is not a counterexample.
   const answerMistakes = (words) => (words.includes("wrr") ? "may fail 0\n" : NO_MISTAKE_ANSWER);
   const unconfirmedResult = await runProofs(() => "", { ...noProperties, answerMistakes });
-  assert.equal(unconfirmedResult.made[6].verdict.reason, "the bench does not confirm the counterexample that was found");
+  assert.equal(unconfirmedResult.mistakeVerdicts[6].verdict.reason, "the bench does not confirm the counterexample that was found");
 });
 
 test("sets of states prove the absence of mistakes, and properties that the search does not decide", async () => {
   const words = "code call return ram rom rdr wrr";
   const proved = { kind: "proved", states: 5, bySets: true, limits: [], leftOut: "" };
   const allResult = await runProofs(() => "too many\n", { answerSets: () => "holds 5\n" });
-  assert.deepEqual(allResult.engine.mistakes, []);
-  assert.deepEqual(allResult.made.map(({ verdict }) => verdict), Array.from({ length: 7 }, () => proved));
-  assert.deepEqual(allResult.all.map(({ verdict }) => verdict), Array.from({ length: 3 }, () => proved));
+  assert.deepEqual(allResult.engine.mistakeQuestions, []);
+  assert.deepEqual(allResult.mistakeVerdicts.map(({ verdict }) => verdict), Array.from({ length: 7 }, () => proved));
+  assert.deepEqual(allResult.propertyVerdicts.map(({ verdict }) => verdict), Array.from({ length: 3 }, () => proved));
   // The combined question is not decided, but one of the single questions is.
   const someResult = await runProofs(() => "", { propertiesText: "", answerMistakes: () => "too many\n",
-    answerSets: (asked) => (asked === "call" ? "holds 5\n" : "gave up\n") });
-  assert.deepEqual(someResult.engine.bySets, [words, ...words.split(" ")]);
-  assert.deepEqual(someResult.engine.mistakes, [words, words, words, words]);
-  assert.deepEqual(kindsOf(someResult.made), ["open", "proved", "open", "open", "open", "open", "open"]);
-  assert.match(someResult.made[0].verdict.reason, /more than/);
+    answerSets: (question) => (question === "call" ? "holds 5\n" : "gave up\n") });
+  assert.deepEqual(someResult.engine.setQuestions, [words, ...words.split(" ")]);
+  assert.deepEqual(someResult.engine.mistakeQuestions, [words, words, words, words]);
+  assert.deepEqual(kindsOf(someResult.mistakeVerdicts), ["open", "proved", "open", "open", "open", "open", "open"]);
+  assert.match(someResult.mistakeVerdicts[0].verdict.reason, /more than/);
 });
 
 test("each property with a stopwatch is proved separately, and never with sets of states", async () => {
   const propertiesText = "test\nnever lamp 1 on\nnever lamp lit on for 9\nevery 1 ms @look\n@look to @put within 5\n";
-  const { all, engine } = await runProofs(() => "holds 3\n", { propertiesText, most: 20000, answerSets: () => "holds 5\n",
+  const { propertyVerdicts, engine } = await runProofs(() => "holds 3\n", { propertiesText, most: 20000, answerSets: () => "holds 5\n",
     answerTimes: (within) => ({ 9: "may fail 0 0 0\n", 93: "holds 7\n", 5: "too many\n" })[within] });
-  assert.deepEqual(engine.times, [9, 93, 5, 5]);
-  assert.deepEqual(engine.asked, [[10000, 1]]);
-  assert.deepEqual(kindsOf(all), ["proved", "found", "proved", "open"]);
-  assert.deepEqual(all[2].verdict, { kind: "proved", states: 7, bySets: false, limits: [], leftOut: "" });
-  const { text } = all[1].verdict.counterexample;
+  assert.deepEqual(engine.timeLimits, [9, 93, 5, 5]);
+  assert.deepEqual(engine.propertyQuestions, [[10000, 1]]);
+  assert.deepEqual(kindsOf(propertyVerdicts), ["proved", "found", "proved", "open"]);
+  assert.deepEqual(propertyVerdicts[2].verdict, { kind: "proved", states: 7, bySets: false, limits: [], leftOut: "" });
+  const { text } = propertyVerdicts[1].verdict.counterexample;
   assert.match(text, /^test never lamp lit on for 9\n {2}press WALK\n {2}run \d+\n {2}until not lamp lit on within 9\n$/);
 });
 
 test("a counterexample contains the lines after which one step breaks the property", async () => {
-  const { all: [{ verdict }], engine } = await runProofs(() => LAMP_ON_ANSWER, { propertiesText: "test\nnever lamp lit on\n" });
+  const { propertyVerdicts: [{ verdict }], engine } =
+    await runProofs(() => LAMP_ON_ANSWER, { propertiesText: "test\nnever lamp lit on\n" });
   const { counterexample: found } = verdict;
   assert.ok(found.isTest && found.isAllowed);
   const file = engine.begin();
@@ -177,7 +179,8 @@ test("a counterexample contains the lines after which one step breaks the proper
 
 test("an unconfirmed counterexample leaves a property undecided, and an unexpected answer is an error", async () => {
   const wrongResult = await runProofs(() => "may fail 1\n", { propertiesText: "test\nnever lamp 1 on\n" });
-  assert.deepEqual(wrongResult.all[0].verdict, { kind: "open", reason: "the bench does not confirm the counterexample that was found" });
+  const reason = "the bench does not confirm the counterexample that was found";
+  assert.deepEqual(wrongResult.propertyVerdicts[0].verdict, { kind: "open", reason });
   await assert.rejects(runProofs(() => "no 25\n"), /ended without an answer: no 25/);
   const { errors } = await runProofs(() => "holds 1\n", { propertiesText: "never lamp purple on\n" });
   assert.deepEqual(errors.map(({ line }) => line), [1]);
@@ -249,7 +252,7 @@ test("the page receives each verdict and the number of states so far", async () 
     nevers) => (nevers.length === 1 ? LAMP_ON_ANSWER : bound < 20000 ? "too many\n" : "holds 12345\n"));
   const reports = [];
   const { errors, isStopped } = await createProver(engine).prove(texts, 50000, new AbortController().signal,
-    ({ verdicts: all, count, states }) => reports.push([all.length, count, states]));
+    ({ verdicts, count, states }) => reports.push([verdicts.length, count, states]));
   assert.deepEqual([errors, isStopped], [[], false]);
   assert.deepEqual(reports[0], [0, 10, 0]);
   assert.ok(reports.some(([, , states]) => states === 10000));
@@ -274,17 +277,17 @@ test("verdicts are described", () => {
   const proved = { kind: "proved", states: 96937, bySets: false, limits: [], leftOut: '"once"' };
   const verdicts = [{ ...proved, states: 1, bySets: true, limits: [], leftOut: "" }, proved, { kind: "found", counterexample: found },
     { kind: "open", reason: "why" }];
-  const all = verdicts.map((verdict, at) => ({ text: `p${at}`, line: at + 1, isGoal: false, verdict }));
-  const goals = all.map((propertyVerdict) => ({ ...propertyVerdict, isGoal: true }));
-  assert.deepEqual(all.map(markOf), ["proved", "proved", "can fail", "not decided"]);
+  const propertyVerdicts = verdicts.map((verdict, index) => ({ text: `p${index}`, line: index + 1, isGoal: false, verdict }));
+  const goals = propertyVerdicts.map((propertyVerdict) => ({ ...propertyVerdict, isGoal: true }));
+  assert.deepEqual(propertyVerdicts.map(markOf), ["proved", "proved", "can fail", "not decided"]);
   assert.deepEqual(goals.map(markOf), ["never reached", "never reached", "reached", "not decided"]);
-  assert.deepEqual(all.map(describeVerdict), [
+  assert.deepEqual(propertyVerdicts.map(describeVerdict), [
     "for all inputs: 1 set of states", 'for all inputs: 96,937 states, even without "once"', "broken by 2 steps, 1,204 cycles", "why"]);
-  assert.equal(finalSummary(all, false), "2 proved, 1 can fail, 1 not decided.");
+  assert.equal(finalSummary(propertyVerdicts, false), "2 proved, 1 can fail, 1 not decided.");
   assert.equal(finalSummary(goals, true), "Cancelled: 1 reached, 2 never reached, 1 not decided.");
-  assert.equal(progressSummary({ verdicts: all.slice(1), count: 4, states: 0 }), "Property 4 of 4");
+  assert.equal(progressSummary({ verdicts: propertyVerdicts.slice(1), count: 4, states: 0 }), "Property 4 of 4");
   assert.equal(progressSummary({ verdicts: [], count: 4, states: 20000 }), "Property 1 of 4: more than 20,000 states so far");
-  assert.equal(proofsTabMark(all), "1 can fail");
-  assert.equal(proofsTabMark(all.slice(0, 2)), "2 proved");
+  assert.equal(proofsTabMark(propertyVerdicts), "1 can fail");
+  assert.equal(proofsTabMark(propertyVerdicts.slice(0, 2)), "2 proved");
   assert.equal(proofsTabMark([]), "");
 });

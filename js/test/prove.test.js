@@ -334,10 +334,10 @@ test("a condition can be true for exactly its time, whichever instruction change
     const program = `loop:   ${first}\n        NOP\n        NOP\n        ${end}\n        JUN loop\n`;
     const loopSubject = createSubject(engine, BOARD, program);
     const campaignFor = (cycles) => readCampaign(`test\nnever ${condition} for ${cycles}`, loopSubject).campaign;
-    const findFor = (cycles) => replayCounterexample(loopSubject, campaignFor(cycles), 0, { values: [0] }, async () => {});
-    const found = await findFor(cycleCount - 1);
+    const findCounterexampleFor = (cycles) => replayCounterexample(loopSubject, campaignFor(cycles), 0, { values: [0] }, async () => {});
+    const found = await findCounterexampleFor(cycleCount - 1);
     assert.ok(found && await doesTestFail(found, program), `${first}, ${end}`);
-    assert.equal(await findFor(cycleCount), null, `${first}, ${end}`);
+    assert.equal(await findCounterexampleFor(cycleCount), null, `${first}, ${end}`);
   }
 });
 
@@ -362,26 +362,27 @@ test("simultaneous key changes can be part of a counterexample with a time", asy
   assert.ok(found && await doesTestFail(found));
 });
 
-// Programs for the board above. `made` has the common mistakes of each program: the number of cycles before the mistake, by the mistake's
-// name. The numbers of cycles follow from the instruction table.
+// Programs for the board above. `mistakes` has the common mistakes of each program: the number of cycles before the mistake, by the
+// mistake's name. The numbers of cycles follow from the instruction table.
 const PROGRAMS_WITH_MISTAKES = [
-  { program: "FIM P1, 0x80\nSRC P1\nWR2", made: { ram: 3 } }, { program: "LDM 1\nDCL\nRDM", made: { ram: 2 } },
-  { program: "LDM 1\nDCL\nFIM P1, 0x40\nSRC P1\nLDM 0\nDCL\nRDM", made: {} },
-  { program: "FIM P1, 0x40\nSRC P1\nWMP\nFIM P1, 0xC0\nSRC P1\nSBM", made: { ram: 7 } },
-  { program: "JUN 0x2FF", made: { rom: 2 } }, { program: "FIM P0, 0x20\nJUN 0x1FF\nORG 0x1FF\nFIN P2", made: { rom: 4 } },
-  { program: "JUN 0x1FF\nORG 0x1FF\nDB 0x40", made: { rom: 2 } }, { program: "JUN 0x1FF\nORG 0x1FF\nCLB", made: { rom: 3 } },
-  { program: "RDR", made: { rdr: 0 } }, { program: "FIM P1, 0x20\nSRC P1\nWRR\nRDR", made: { wrr: 3, rdr: 4 } },
-  { program: "FIM P1, 0x10\nSRC P1\nWRR\nRDR", made: {} },
+  { program: "FIM P1, 0x80\nSRC P1\nWR2", mistakes: { ram: 3 } }, { program: "LDM 1\nDCL\nRDM", mistakes: { ram: 2 } },
+  { program: "LDM 1\nDCL\nFIM P1, 0x40\nSRC P1\nLDM 0\nDCL\nRDM", mistakes: {} },
+  { program: "FIM P1, 0x40\nSRC P1\nWMP\nFIM P1, 0xC0\nSRC P1\nSBM", mistakes: { ram: 7 } },
+  { program: "JUN 0x2FF", mistakes: { rom: 2 } }, { program: "FIM P0, 0x20\nJUN 0x1FF\nORG 0x1FF\nFIN P2", mistakes: { rom: 4 } },
+  { program: "JUN 0x1FF\nORG 0x1FF\nDB 0x40", mistakes: { rom: 2 } }, { program: "JUN 0x1FF\nORG 0x1FF\nCLB", mistakes: { rom: 3 } },
+  { program: "RDR", mistakes: { rdr: 0 } }, { program: "FIM P1, 0x20\nSRC P1\nWRR\nRDR", mistakes: { wrr: 3, rdr: 4 } },
+  { program: "FIM P1, 0x10\nSRC P1\nWRR\nRDR", mistakes: {} },
 ];
 
 test("mistakes are detected before the instruction that makes them", () => {
-  for (const { program, made } of PROGRAMS_WITH_MISTAKES) {
+  for (const { program, mistakes } of PROGRAMS_WITH_MISTAKES) {
     const mistakeSubject = createSubject(engine, BOARD, `${program}\n${program.includes("ORG") ? "" : "end: JUN end\n"}`);
     for (const word of ["ram", "rom", "rdr", "wrr"]) {
-      assert.equal(countCyclesToMistake(mistakeSubject, mistakeSubject.file, word, 20), made[word] === undefined ? -1 : made[word],
+      assert.equal(countCyclesToMistake(mistakeSubject, mistakeSubject.file, word, 20), mistakes[word] === undefined ? -1 : mistakes[word],
         `${program}: ${word}`);
-      if (!(made[word] > 0)) continue;
-      assert.equal(countCyclesToMistake(mistakeSubject, mistakeSubject.file, word, made[word] - 1), -1, `${program}: ${word}, too late`);
+      if (!(mistakes[word] > 0)) continue;
+      const cycleCount = countCyclesToMistake(mistakeSubject, mistakeSubject.file, word, mistakes[word] - 1);
+      assert.equal(cycleCount, -1, `${program}: ${word}, too late`);
     }
   }
 });

@@ -77,13 +77,13 @@ test("a session that is open in another tab is not deleted; a failed restoration
 test("the browser is asked once for persistent storage", async () => {
   let requestCount = 0;
   const persistence = new Persistence({ persist: async () => { requestCount += 1; return true; } });
-  assert.equal(persistence.isPromised, false);
+  assert.equal(persistence.isGranted, false);
   await persistence.request();
   await persistence.request();
-  assert.deepEqual([requestCount, persistence.isPromised], [1, true]);
+  assert.deepEqual([requestCount, persistence.isGranted], [1, true]);
   const blockedPersistence = new Persistence({ persist: async () => { throw new Error("blocked"); } });
   await blockedPersistence.request();
-  assert.equal(blockedPersistence.isPromised, false);
+  assert.equal(blockedPersistence.isGranted, false);
   await new Persistence(null).request();
 });
 

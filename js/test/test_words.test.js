@@ -60,8 +60,8 @@ test("test results are described", () => {
   assert.equal(testDuration({ cycles: 1 }), "1 cycle, 0.0 ms");
   const error = { text: "tests", line: 3, number: 0, words: "a condition is missing" };
   assert.equal(textErrorsMessage([error, error], () => ""), "Nothing was run: Tests, line 3: a condition is missing, and 1 more.");
-  const refused = { text: "board", line: 0, number: 25, words: "" };
-  assert.equal(textErrorsMessage([refused], (number) => `refusal ${number}`), "Nothing was run: Board: no 25: refusal 25.");
+  const refusal = { text: "board", line: 0, number: 25, words: "" };
+  assert.equal(textErrorsMessage([refusal], (number) => `refusal ${number}`), "Nothing was run: Board: no 25: refusal 25.");
   const jump = { line: 2, count: 3, isJump: true, jumpCount: 3 };
   const coverage = { lines: [jump], instructions: 2, instructionsRun: 1, directions: 2, directionsRun: 1, unexecutedRanges: [] };
   assert.equal(coverageMessage({ coverage }), "1 of 2 instructions were run (50.0 %), 1 of 2 branch directions (50.0 %). "

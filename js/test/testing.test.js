@@ -65,8 +65,8 @@ test("a comment can follow a line unless its mark is the name of a key", async (
   assert.deepEqual(outcomes.map(({ name, failure }) => [name, failure]), [["a # 1 ; 2", null]]);
   const lock = textsOf("lock");
   const keys = "test b\n press 1 # 2 ; keys\n release # ; the key #\n keys # ; #\n press x ; y\n";
-  const [error, ...more] = parseTestedTexts(engine, { ...lock, testText: keys }).errors;
-  assert.deepEqual([error.line, more], [5, []]);
+  const [error, ...moreErrors] = parseTestedTexts(engine, { ...lock, testText: keys }).errors;
+  assert.deepEqual([error.line, moreErrors], [5, []]);
 });
 
 test("failures in `repeat` and shared steps have their iteration and the last passed label", async () => {

@@ -10,8 +10,8 @@ import { cannotSearchForMessage } from "../words/time.js";
 test("cycles of the 4004: eight periods of a clock of 740,740.7 Hz", () => {
   const countCycles = (seconds) => (seconds * (5185185.185 / 7)) / 8;
   assert.ok(Math.abs(CYCLE_US * countCycles(1) - 1e6) < 0.001);
-  const rounded = [1, 0.03, 0.001, 0.02].map((time) => Math.round(countCycles(time)));
-  assert.deepEqual([CYCLES_PER_SECOND, EYE_CYCLES, cyclesFromMilliseconds(1), cyclesFromMilliseconds(20)], rounded);
+  const roundedCycles = [1, 0.03, 0.001, 0.02].map((time) => Math.round(countCycles(time)));
+  assert.deepEqual([CYCLES_PER_SECOND, EYE_CYCLES, cyclesFromMilliseconds(1), cyclesFromMilliseconds(20)], roundedCycles);
   assert.equal(FRAME_CYCLES, Math.floor(countCycles(FRAME_MS / 1000)));
 });
 
@@ -60,9 +60,9 @@ function countSimulatedCycles(frame, keys) {
   events.push({ now: 1000.5, earlyMs: 0 });
   let sum = 0;
   for (const { now, earlyMs } of events.sort((a, b) => a.now - b.now)) {
-    const due = time.takeDueCycles(now, earlyMs);
-    assert.ok(due >= 0, `${due} at ${now}`);
-    sum += due;
+    const dueCycles = time.takeDueCycles(now, earlyMs);
+    assert.ok(dueCycles >= 0, `${dueCycles} at ${now}`);
+    sum += dueCycles;
     assert.ok(sum <= ((now + MAX_EARLY_MS) / 1000) * CYCLES_PER_SECOND, `ahead of its time at ${now}`);
     const expectedTime = (sum + Math.max(0, time.dueCycles)) * (1000 / CYCLES_PER_SECOND);
     assert.ok(Math.abs(time.simulatedUntil - expectedTime) < 0.001, `reached at ${now}`);

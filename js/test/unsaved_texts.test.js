@@ -31,9 +31,9 @@ test("texts that the store lacks are restored at each opening until the store ha
     nextUnsavedTexts.markStored(record);
     nextUnsavedTexts.saveOnLeave(record);
   }
-  const written = createRecord("; after", 5);
-  new UnsavedTexts(store).restore(written);
-  assert.equal(written.programText, "; after");
+  const writtenRecord = createRecord("; after", 5);
+  new UnsavedTexts(store).restore(writtenRecord);
+  assert.equal(writtenRecord.programText, "; after");
   assert.equal(store.items.size, 0);
 });
 

@@ -67,14 +67,14 @@ test("links that lead out of a folder are detected", () => {
 
 test("a replaced file keeps its mode, and links are followed", () => {
   const folder = createFolder("write");
-  const [file, link, dangling] = ["file", "link", "dangling"].map((name) => join(folder, name));
+  const [file, link, danglingLink] = ["file", "link", "dangling"].map((name) => join(folder, name));
   writeUserFile(file, "new");
   assert.equal(modeOf(file), (0o666 & ~process.umask()).toString(8));
   chmodSync(file, 0o640);
   symlinkSync("file", link);
-  symlinkSync("there", dangling);
+  symlinkSync("there", danglingLink);
   writeUserFile(link, "by a link");
-  writeUserFile(dangling, "where it leads");
+  writeUserFile(danglingLink, "where it leads");
   assert.deepEqual([lstatSync(link).isSymbolicLink(), readFileSync(file, "utf8"), modeOf(file)], [true, "by a link", "640"]);
   assert.equal(readFileSync(join(folder, "there"), "utf8"), "where it leads");
   assert.deepEqual(readdirSync(folder).sort(), ["dangling", "file", "link", "there"]);

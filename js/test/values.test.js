@@ -193,8 +193,8 @@ test("watched expressions can have names, and invalid expressions are reported",
     ["x = st 0 1 4", "st 0 1 4: no such place; "], ["p8", "p8: no such place; "], ["ram0.4", "ram0.4: no such place; ports are "],
     ["coumt + 1", "coumt: no such place; perhaps count (column 1)"], ["R4 + (1", "this parenthesis is not closed (column 6)"],
   ]) {
-    const parsed = parseWatch(text, names);
-    assert.ok(parsed.error.startsWith(error), `${text}: ${parsed.error}`);
+    const parsedWatch = parseWatch(text, names);
+    assert.ok(parsedWatch.error.startsWith(error), `${text}: ${parsedWatch.error}`);
   }
   // An expression with names is checked only when the names are known.
   assert.equal(parseWatch("r16").error, "");

@@ -63,9 +63,9 @@ test("names and colours are stored by line name", () => {
   rows.change("b", { title: "clock" });
   rows.change("b", { colour: "red" });
   rows.fold("x");
-  const stored = JSON.parse(JSON.stringify(rows.storedRows));
-  assert.deepEqual(stored, { order: [], looks: { b: { title: "clock", colour: "red" } }, folded: ["x"] });
-  assert.deepEqual(new WaveRows(stored).arrange(LINES, [1]), [
+  const storedRows = JSON.parse(JSON.stringify(rows.storedRows));
+  assert.deepEqual(storedRows, { order: [], looks: { b: { title: "clock", colour: "red" } }, folded: ["x"] });
+  assert.deepEqual(new WaveRows(storedRows).arrange(LINES, [1]), [
     { line: 1, name: "b", title: "clock", colour: "red", group: "", isFolded: false }]);
 });
 

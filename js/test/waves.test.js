@@ -244,10 +244,10 @@ test("a recording can be extended, and cut at both ends", () => {
   addRun(builder, LEVELS, PROGRAM.slice(0, 1), "ok 9 ran 1 end", { pc: "00B" });
   const recording = wavesOf(builder);
   const after = { ...LEVELS, "rom0.1": 0 };
-  const shifted = PROGRAM.slice(1, 3).map(([cycles, ...rest]) => [cycles - 1, ...rest]);
+  const shiftedProgram = PROGRAM.slice(1, 3).map(([cycles, ...rest]) => [cycles - 1, ...rest]);
   const pc = lineIndexOf(recording.lines, "pc");
   assert.deepEqual([...recording.changesOf(pc)], [1]);
-  addRun(builder, after, shifted, "ok 10 ran 3 end", { pc: "00A" });
+  addRun(builder, after, shiftedProgram, "ok 10 ran 3 end", { pc: "00A" });
   recording.append({ ...builder.take(), listing: [] });
   assert.equal(textOf(recording, recording.lines.map((_, line) => line)), textOf(whole, whole.lines.map((_, line) => line)));
   recording.beginAt(2);

@@ -19,8 +19,8 @@ const wholeText = (waves) => [...vcdParts(waves, waves.lines.map((_, line) => li
 function startRecording(calls, texts, { maxCycles = 1000000, cyclesAfterTrigger = 0, trigger = "", stopsTime = false } = {}) {
   const { recording, error } = calls.recordLive(texts, { trigger, cyclesAfterTrigger, stopsMachine: stopsTime });
   assert.equal(error, "");
-  const live = new LiveWaves(recording, { maxCycles, cyclesAfterTrigger, trigger, stopsTime });
-  return { live, addPart: (answer) => live.append(answer.waves) };
+  const liveWaves = new LiveWaves(recording, { maxCycles, cyclesAfterTrigger, trigger, stopsTime });
+  return { live: liveWaves, addPart: (answer) => liveWaves.append(answer.waves) };
 }
 
 test("a live recording of frames, keys, lines and steps equals a recording of the past", async () => {

@@ -12,7 +12,7 @@ const [module, examples] = [pageModule, examplesOfPage];
 async function begin(name, shouldContinue = async () => true) {
   const calls = new BenchCalls(shouldContinue);
   await calls.load(module, examples);
-  const example = examples.find((each) => each.name === name);
+  const example = examples.find((candidate) => candidate.name === name);
   calls.open(calls.createFile(example));
   return { calls, texts: { board: example.board, program: example.program } };
 }
@@ -41,7 +41,7 @@ test("the stopwatch counts every 926 cycles, and recording leaves its session un
 test("recordings of the past and of the future are equal", async () => {
   const { calls, texts } = await begin("stopwatch");
   await calls.serve("test 0\nrun 1001\n");
-  const later = new Waves(await calls.record(4000, false, texts));
+  const futureWaves = new Waves(await calls.record(4000, false, texts));
   await calls.serve("run 1500\n");
   calls.advance(2000);
   await calls.serve("break 0x00C\nrun 500\nunbreak 0x00C\nstep\n");
@@ -50,10 +50,10 @@ test("recordings of the past and of the future are equal", async () => {
   const cycles = whole.cycles - 1001;
   assert.ok(cycles > 3500 && cycles < 4000);
   assert.equal(calls.ask("seq\n").length, 1);
-  const earlier = new Waves(await calls.record(cycles, true, texts));
-  assert.equal(earlier.cycles, cycles);
-  const short = wholeText(earlier).split("\n").slice(0, -2).join("\n");
-  assert.ok(wholeText(later).startsWith(short));
+  const pastWaves = new Waves(await calls.record(cycles, true, texts));
+  assert.equal(pastWaves.cycles, cycles);
+  const pastText = wholeText(pastWaves).split("\n").slice(0, -2).join("\n");
+  assert.ok(wholeText(futureWaves).startsWith(pastText));
   assert.deepEqual(calls.bench.session.file, before);
 });
 
@@ -66,18 +66,18 @@ test("a recording of the past contains key presses, and ends in the current stat
   assert.deepEqual([up - down, waves.numberAt(key, down), others], [4000, 1, []]);
   assert.equal(waves.counterAt(5000), parseInt(/ pc (...)/.exec(calls.ask("regs\n")[0])[1], 16));
   const lamps = calls.ask("lamps\n")[0].slice("lamps ".length);
-  const shown = waves.lines.map((line, at) => [line, at]).filter(([line]) => line.group === "lamps")
+  const shownLamps = waves.lines.map((line, at) => [line, at]).filter(([line]) => line.group === "lamps")
     .map(([, at]) => (waves.numberAt(at, 5000) ? "*" : ".")).join("");
-  assert.equal(shown, lamps);
+  assert.equal(shownLamps, lamps);
 });
 
 test("the recorded past begins with the board, and is empty for a new session", async () => {
   const { calls, texts } = await begin("three lamps");
   assert.equal((await calls.record(100, true, texts)).cycles, 0);
   await calls.serve("run 500\nwire\n[[rom]]\nchip = 0\nport = \"0000\"\n.\nrun 30\n");
-  const recorded = await calls.record(100, true, texts);
+  const recording = await calls.record(100, true, texts);
   const names = ["rom0.0", "rom0.1", "rom0.2", "rom0.3", "test", "rom0[3:0]", "pc", "label"];
-  assert.deepEqual([recorded.cycles, recorded.lines.map(({ name }) => name)], [30, names]);
+  assert.deepEqual([recording.cycles, recording.lines.map(({ name }) => name)], [30, names]);
 });
 
 test("a code that is not an instruction ends a recording, and is reported", async () => {
@@ -133,26 +133,27 @@ test("recorded registers, pairs, characters and ports are those that the bench r
 });
 
 test("a recording in pieces gives the same VCD file, also for some lines, ports and values", async () => {
-  const begun = [["stopwatch", "test 0\nrun 1001\n", ["acc", "p2"]], ["calculator", "press 0 1\nrun 7\nstep\n", ["r5"]]];
-  for (const [name, lines, values] of begun) {
+  const settings = [["stopwatch", "test 0\nrun 1001\n", ["acc", "p2"]], ["calculator", "press 0 1\nrun 7\nstep\n", ["r5"]]];
+  for (const [name, lines, values] of settings) {
     const { calls, texts } = await begin(name);
     await calls.serve(lines);
     const whole = new Waves(await calls.record(50001, false, { ...texts, values }));
     const numbers = whole.lines.map((_, line) => line);
-    for (const some of [numbers, numbers.filter((line) => line % 7 === 3), numbers.filter((line) => whole.lines[line].kind === "port")]) {
-      const wanted = linesWithMembers(whole.lines, some);
+    const portNumbers = numbers.filter((line) => whole.lines[line].kind === "port");
+    for (const selectedLines of [numbers, numbers.filter((line) => line % 7 === 3), portNumbers]) {
+      const { lines: recordedLines, chosenIndexes } = linesWithMembers(whole.lines, selectedLines);
       let [text, parts] = [null, []];
       const state = calls.bench.session.file.slice();
       const { program } = whole;
-      for await (const waves of recordPieces(calls.bench.engine, state, { lines: wanted.lines, program, cycles: 50001 }, async () => {})) {
+      for await (const waves of recordPieces(calls.bench.engine, state, { lines: recordedLines, program, cycles: 50001 }, async () => {})) {
         if (!text) {
-          text = new VcdText(waves, wanted.chosenIndexes);
+          text = new VcdText(waves, chosenIndexes);
           parts.push(text.formatHead());
         }
         parts = [...parts, ...text.formatChanges()];
         assert.ok(waves.length <= 20000);
       }
-      assert.equal([...parts, text.formatEnd()].join(""), [...vcdParts(whole, some)].join(""));
+      assert.equal([...parts, text.formatEnd()].join(""), [...vcdParts(whole, selectedLines)].join(""));
     }
   }
 });

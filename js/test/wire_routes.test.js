@@ -1,4 +1,4 @@
-// Tests the routes of wires in the picture of a board. No part hides a wire, and almost none does after parts were moved at random.
+// Tests the routes of wires in the picture of a board: no part hides a wire. After random moves of the parts, almost no part does.
 import assert from "node:assert/strict";
 import { test } from "node:test";
 import { readBoard } from "../core/bench/answers.js";

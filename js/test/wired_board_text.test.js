@@ -17,16 +17,16 @@ test("a text that was changed since does not describe the wired board", () => {
 });
 
 test("a text with other comments still describes the wired board", () => {
-  const renamed = TEXT_WITH_TITLE.replace("Mine", "Other");
-  assert.equal(describesBoard(renamed, WIRED), true);
-  assert.deepEqual(currentWiredText(BOARD_LINES, renamed, [WIRED]), { ...WIRED, text: renamed });
+  const renamedText = TEXT_WITH_TITLE.replace("Mine", "Other");
+  assert.equal(describesBoard(renamedText, WIRED), true);
+  assert.deepEqual(currentWiredText(BOARD_LINES, renamedText, [WIRED]), { ...WIRED, text: renamedText });
 });
 
 test("a text that the page reads differently is recognized as the wired text", () => {
-  const dotted = { text: "# title: Dotted\nx.y = 1\n", board: BOARD_LINES.join("\n") };
-  assert.deepEqual(currentWiredText(BOARD_LINES, "", [dotted]), dotted);
-  assert.equal(describesBoard("# title: Again\nx.y = 1\n", dotted), true);
-  assert.equal(describesBoard("x.y = 2\n", dotted), false);
+  const dottedWiredText = { text: "# title: Dotted\nx.y = 1\n", board: BOARD_LINES.join("\n") };
+  assert.deepEqual(currentWiredText(BOARD_LINES, "", [dottedWiredText]), dottedWiredText);
+  assert.equal(describesBoard("# title: Again\nx.y = 1\n", dottedWiredText), true);
+  assert.equal(describesBoard("x.y = 2\n", dottedWiredText), false);
 });
 
 test("a board that was wired before gets its text again, and an unknown board has no text", () => {

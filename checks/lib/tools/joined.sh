@@ -21,7 +21,7 @@ status 2" "node $words"
     cp -R tools/lib tools/join_commands.mjs "$tree/tools"
     node "$tree/tools/join_commands.mjs" "$tree/shipped/commands" listing keys
     print_loader() {
-        node --input-type=module -e "import { joinedCommand } from '$tree/js/node/joined_loader.cjs'; console.log(joinedCommand('$1') ? 'joined' : 'modules')"
+        node --input-type=module -e "import { loadJoinedCommand } from '$tree/js/node/joined_loader.cjs'; console.log(loadJoinedCommand('$1') ? 'joined' : 'modules')"
     }
     verdict "$(print_loader listing) $(print_loader keys) $(print_loader test) $(print_loader ../keys)" "joined joined modules modules" "the commands that are joined"
     for words in "listing $lock/lock.asm" "listing -h" "listing --none" "keys $lock/board.toml 1" "keys $lock/board.toml x" "listing none"; do

@@ -11,7 +11,7 @@ const LINE_NUMBER = /^\d{1,9}$/;
 
 /**
  * Parses the range of answer lines with the runs to add up. Returns the numbers of the first and the last line, from 1; `last` is 0 for all
- * lines from `first` to the end. Throws a UsageError if the words are not such a range.
+ * lines from `first` to the end. Throws a UsageError if the words are not a valid range.
  * @param {string[]} words
  */
 function parseRange(words) {

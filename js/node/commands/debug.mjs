@@ -31,13 +31,13 @@ const isInteractive = process.stdin.isTTY === true && process.stdout.isTTY === t
  * @param {{ line: number }} position the number of the current line, which this function updates
  */
 async function runScript(prompt, position) {
-  let hasRejected = false;
+  let hasRejection = false;
   for await (const line of createInterface({ input: process.stdin, crlfDelay: Infinity })) {
     position.line += 1;
-    if (!(await prompt.enterLine(line))) hasRejected = true;
+    if (!(await prompt.enterLine(line))) hasRejection = true;
     if (prompt.isEnded) break;
   }
-  return hasRejected ? 1 : 0;
+  return hasRejection ? 1 : 0;
 }
 
 /**
@@ -58,7 +58,7 @@ const viewCalls = {
  */
 async function runInteractive(prompt) {
   const terminal = new TerminalPrompt(prompt, {
-    output: process.stdout, onServed: () => view.draw(), onLeave: () => view.leave(), onReturn: () => view.redraw(),
+    output: process.stdout, onLineExecuted: () => view.draw(), onLeave: () => view.leave(), onReturn: () => view.redraw(),
   });
   const view = new TerminalView(prompt, process.stdout, process.env, () => {
     if (!prompt.machine.isMoving) terminal.show();
@@ -86,10 +86,10 @@ async function debugFiles(names) {
   const launchResult = await launch(engine, { ...names, cwd: process.cwd() }, host, new ErrorMessages(data.refusals));
   const position = { line: 0 };
   const prompt = new Prompt(launchResult, data, {
-    print: (words) => process.stdout.write(`${escapeControls(words)}\n`),
-    printError: (words) => {
-      if (screen.terminal) screen.terminal.printError(words);
-      else process.stderr.write(`debug: line ${position.line}: ${escapeControls(words)}\n`);
+    print: (message) => process.stdout.write(`${escapeControls(message)}\n`),
+    printError: (message) => {
+      if (screen.terminal) screen.terminal.printError(message);
+      else process.stderr.write(`debug: line ${position.line}: ${escapeControls(message)}\n`);
     },
     pause: host.pause,
     read: (name) => readDecodedFile(expandTilde(name), MAX_TEXT_BYTES).text,

@@ -17,8 +17,8 @@ export async function run({ source }, positionals) {
   const answers = texts.readAnswers("explain");
   const engine = await startEngine();
   const describeAddress = source === undefined ? null : await makeAddressDescriber(texts, engine, source, positionals[0]);
-  const { inputs, message: words } = matchScriptAnswers(script, answers);
-  if (words !== "") throw new CommandError(answersOfOtherScript(words));
+  const { inputs, message } = matchScriptAnswers(script, answers);
+  if (message !== "") throw new CommandError(answersOfOtherScript(message));
   const lines = script.split("\n").map((line) => line.replace(/\r$/, ""));
   const report = new RejectedLines(engine, lines, describeAddress).createReport(inputs, answers[0]);
   print(joinLines(report));

@@ -32,7 +32,7 @@ async function serve() {
   const connection = new Connection((bytes) => process.stdout.write(bytes), end);
   const server = new LanguageServer(connection, await Engine.load(readPageModule()), readPageData(), { readFile, pause });
   // A client must send a shutdown request before it closes the stream. Otherwise the exit status is 1.
-  listenToInput(connection, (words) => end(server.connection.state === "shut" && words === "" ? 0 : 1, words));
+  listenToInput(connection, (reason) => end(server.connection.state === "shut" && reason === "" ? 0 : 1, reason));
 }
 
 /** @type {import("./table.mjs").CommandModule["run"]} */

@@ -74,10 +74,10 @@ export async function run(_, positionals) {
   // If there is no native program, fail before anything else.
   findProgramPath();
   const engine = await startEngine();
-  const { lineCount, message: words, differingLines } = await compareWithScript(
+  const { lineCount, message, differingLines } = await compareWithScript(
     engine, await openSession(engine, texts, session), bytes.toString("latin1"), yieldToMessages,
   );
-  if (words !== "") throw new CommandError(scriptDoesNotMatch(session, scriptName, words, differingLines));
+  if (message !== "") throw new CommandError(scriptDoesNotMatch(session, scriptName, message, differingLines));
   if (!texts.read(session, MAX_TEXT_BYTES).equals(sessionBytes)) throw new CommandError(changedMeanwhile(session));
   return serveBytes(session, skipLines(bytes, lineCount));
 }

@@ -45,12 +45,12 @@ async function resolveNames({ folder, board, names }) {
  * Throws an error if a board's text does not describe the session's board, or if its front panel names chips or lines that the board does not have.
  * @param {OpenedSession["engine"]} engine
  * @param {InputText} boardFile
- * @param {string[]} wantedAnswers the session's answers to `board`
+ * @param {string[]} sessionAnswers the session's answers to `board`
  */
-async function checkBoard(engine, boardFile, wantedAnswers) {
+async function checkBoard(engine, boardFile, sessionAnswers) {
   const { errors, answers } = wireBoard(engine, boardFile.text);
   if (errors.length > 0) throw await createRejectedTextsError(engine, { board: boardFile }, errors);
-  if (answers.join() !== wantedAnswers.join()) throw new CommandError(say.boardDiffers(boardFile.name));
+  if (answers.join() !== sessionAnswers.join()) throw new CommandError(say.boardDiffers(boardFile.name));
   const nameErrors = findNameErrors(new Face(boardFile.text), readBoard(answers));
   if (nameErrors.length > 0) throw await createRejectedTextsError(engine, { board: boardFile }, nameErrors);
 }
@@ -94,10 +94,10 @@ function convertLineErrors(choose) {
 /**
  * Prints a message if the program stopped before the recording was complete.
  * @param {import("../../core/waves/wave_recording.js").Waves} waves
- * @param {number} wantedCycles the length of a complete recording
+ * @param {number} requestedCycles the length of a complete recording
  */
-function reportStop({ isStuck, cycles }, wantedCycles) {
-  if (isStuck && cycles < wantedCycles) printError(`wave: ${say.stoppedAtCode(cycles)}\n`);
+function reportStop({ isStuck, cycles }, requestedCycles) {
+  if (isStuck && cycles < requestedCycles) printError(`wave: ${say.stoppedAtCode(cycles)}\n`);
 }
 
 /**

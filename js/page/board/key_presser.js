@@ -10,7 +10,7 @@ import { formatKey } from "../../core/board/key_place.js";
 /**
  * The callbacks of KeyPresser.
  * @typedef {object} KeyPresserCalls
- * @property {() => boolean} isRunning Returns true if time is running, so that presses are queued.
+ * @property {() => boolean} isRunning Returns true if time is running. Presses and releases are then queued.
  * @property {(key: Key) => boolean} isDown Returns true if a key will be down after all queued presses and releases.
  * @property {(key: Key) => void} press Queues a press of a key while time is running.
  * @property {(key: Key) => void} release Queues a release of a key while time is running.
@@ -53,7 +53,7 @@ export class KeyPresser {
    */
   listen(button, boardKey) {
     const { key } = boardKey;
-    let liftTime = -Infinity;
+    let pointerUpTime = -Infinity;
     button.addEventListener("pointerdown", (event) => {
       if (event.button !== 0) return;
       event.preventDefault();
@@ -62,7 +62,7 @@ export class KeyPresser {
       else this.pressOrRelease(boardKey, event.shiftKey);
     });
     button.addEventListener("pointerup", (event) => {
-      liftTime = event.timeStamp;
+      pointerUpTime = event.timeStamp;
       // A tap shorter than SWIPE_DELAY_MS has not pressed the key yet.
       if (this.cancelTouch(event.pointerId)) this.pressOrRelease(boardKey, false);
       this.endPress(key);
@@ -76,7 +76,7 @@ export class KeyPresser {
     button.addEventListener("keyup", (event) => this.performOnActivation(event, () => this.endPress(key)));
     // A click without a pointer or a keyboard, for example from a screen reader, presses and releases the key.
     button.addEventListener("click", (event) => {
-      if (event.detail !== 0 || event.timeStamp - liftTime < TAP_CLICK_MS) return;
+      if (event.detail !== 0 || event.timeStamp - pointerUpTime < TAP_CLICK_MS) return;
       if (event instanceof PointerEvent && event.pointerId > 0) return;
       this.pressOrRelease(boardKey, false);
       this.endPress(key);

@@ -121,7 +121,7 @@ export class LampsView {
   }
 
   /**
-   * @param {number} index the index of the lamp whose colour is used
+   * @param {number} index the index of the board's lamp whose colour the new element gets
    * @param {LampReader} reader
    * @param {string} name
    * @param {string} lineNames

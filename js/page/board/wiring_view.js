@@ -43,7 +43,7 @@ export class WiringView {
     this.parts = new Map();
     /** @type {Map<string, string[]>} the pins at the ends of each line's wires, by line name */
     this.linePins = new Map();
-    /** @type {WeakMap<Element, string>} the part or pin to which an element belongs */
+    /** @type {WeakMap<Element, string>} the name of the part or pin to which each element belongs */
     this.names = new WeakMap();
     /**
      * @type {{ mask: string, levels: Levels }[]} the line levels of each ROM chip; `mask` is the chip's `port` string in the board's text
@@ -53,7 +53,7 @@ export class WiringView {
     this.chains = [];
     /** @type {Map<string, Levels>} the line levels of each RAM chip, by `bank.chip` */
     this.rams = new Map();
-    /** The name of the highlighted part, in the form that `mark` takes; "" for none. */
+    /** The name of the highlighted part, in the form that `mark` accepts; "" for none. */
     this.markedName = "";
     /** The name of the part or pin that the Tab key moves the focus to. */
     this.tabStop = "";

@@ -48,8 +48,8 @@ import * as say from "../../words/page_commands.js";
  *   the field with the id `field`.
  * @property {(text: TextName) => void} sendText Sends a text to the bench, like the first button of the text's editor.
  * @property {(box: string) => void} toggleCheckBox Toggles the check box with the id `box`.
- * @property {(isSource: boolean) => boolean} hasText Returns true if a text editor is in front. If `isSource` is true, only the source's
- *   editor counts.
+ * @property {(isSource: boolean) => boolean} isTextInFront Returns true if a text editor is in front. If `isSource` is true, only the
+ *   source's editor counts.
  * @property {(textAction: TextAction) => void} performTextAction Performs an editing action in the editor that is in front.
  * @property {(fieldName?: import("../machine/breakpoint_form.js").BreakpointField) => void} toggleOrEditBreakpoint Toggles the
  *   breakpoint at the caret's line. With `fieldName`, opens that field of the breakpoint instead.
@@ -115,7 +115,7 @@ function buttonCommand(id, group, button, containerName, reason = say.NOT_NOW, o
  */
 function textCommand(id, textAction, keys, isSource = false) {
   return command(id, "text", (calls) => calls.performTextAction(textAction), { keys, place: isSource ? "source" : "texts",
-    unavailableReason: (calls) => (calls.hasText(isSource) ? "" : isSource ? say.NO_NAMES : say.NO_EDITOR) });
+    unavailableReason: (calls) => (calls.isTextInFront(isSource) ? "" : isSource ? say.NO_NAMES : say.NO_EDITOR) });
 }
 
 /** @type {Command[]} */

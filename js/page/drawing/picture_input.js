@@ -92,7 +92,7 @@ export class PictureInput {
     if (heldItem.name === "" || (heldItem.isPart && event.pointerType === "touch")) return;
     if (!heldItem.isDragged && !heldItem.isPart && this.startPin !== heldItem.name) this.calls.pressItem(heldItem.name);
     heldItem.isDragged = true;
-    // The part's position depends on the pointer, so the picture keeps its size until the drop.
+    // A change of the picture's size would move the part away from the pointer, so the picture keeps its size until the drop.
     view.isDragging = heldItem.isPart;
     const { name, startPosition: { x, y }, downPoint } = heldItem;
     if (heldItem.isPart) this.calls.movePart(name, { x: x + point.x - downPoint.x, y: y + point.y - downPoint.y });

@@ -62,12 +62,12 @@ export class Guide {
    * @param {Example} example
    */
   async openTourExample(example) {
-    const hasOpened = await this.calls.openExample(example);
-    if (hasOpened) {
+    const wasOpened = await this.calls.openExample(example);
+    if (wasOpened) {
       this.help.close();
       this.calls.showSource();
     }
-    return hasOpened;
+    return wasOpened;
   }
 
   /**

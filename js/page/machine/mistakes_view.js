@@ -15,7 +15,7 @@ import * as say from "../../words/machine.js";
  * @typedef {object} MistakesCalls
  * @property {(address: number) => string} describeAddress Returns a text with an address, its name and its source line.
  * @property {(address: number) => void} goTo Shows an address in the source and in the disassembly.
- * @property {(kinds: Kind[]) => void} stopAtMistakes Asks the bench to stop time at mistakes of these kinds.
+ * @property {(kinds: Kind[]) => void} stopAtMistakes Asks the bench to pause time at mistakes of these kinds.
  * @property {(count: number) => void} showCount Reports the number of mistakes in the list.
  * @property {() => string} storedKinds Returns the kinds that `storeKinds` stored last, or "".
  * @property {(kinds: string) => void} storeKinds Stores the chosen kinds, separated by spaces.
@@ -28,7 +28,7 @@ export class MistakesView {
     this.block = block("usual");
     this.list = block("usual-list");
     const storedKinds = calls.storedKinds().split(" ");
-    /** @type {Set<Kind>} the kinds of mistakes at which time stops */
+    /** @type {Set<Kind>} the kinds of mistakes that pause time */
     this.stopKinds = new Set(/** @type {Kind[]} */ (Object.keys(KINDS)).filter((kind) => storedKinds.includes(kind)));
   }
 

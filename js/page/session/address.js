@@ -21,7 +21,7 @@ export function readRequestedStory(search) {
   return new URLSearchParams(search).get("story")?.replace(/_/g, " ") || "";
 }
 
-/** Removes the story from the address bar. */
+/** Removes the name of the story from the page's address. */
 export function forgetStory() {
   const address = new URL(location.href);
   address.search = "";

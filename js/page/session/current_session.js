@@ -103,7 +103,7 @@ export class CurrentSession {
     document.body.classList.remove("settling");
   }
 
-  /** Restores the history from before a page reload, so that the user can go back beyond the reload. */
+  /** Restores the history that was stored before a page reload, so that the user can go back to moments before the reload. */
   async restoreHistory() {
     const { bench, storedHistory } = this;
     const segments = storedHistory.takeStoredSegments();

@@ -99,7 +99,7 @@ export class OpeningGuard {
     try {
       if (this.store) action(this.store);
     } catch {
-      // Without storage, no saved session is opened automatically.
+      // Without local storage, no opening counts as unfinished.
     }
   }
 }

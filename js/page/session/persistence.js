@@ -18,14 +18,14 @@ export class Persistence {
     this.storageManager = storageManager;
     this.hasRequested = false;
     /** True if the browser has promised not to delete the page's data. */
-    this.isPromised = false;
+    this.isGranted = false;
   }
 
   async request() {
     if (this.hasRequested || !this.storageManager) return;
     this.hasRequested = true;
     try {
-      this.isPromised = await this.storageManager.persist();
+      this.isGranted = await this.storageManager.persist();
     } catch {
       // A browser that blocks site data can reject the request.
     }

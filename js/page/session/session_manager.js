@@ -193,10 +193,10 @@ export class SessionManager {
       const folder = await read();
       name = folder.name || name;
       const { texts, speed, message } = await readFolderTexts(folder);
-      const hasOpened = await this.openSession(await this.makeExampleRecord(texts));
-      if (hasOpened && speed) this.calls.setSpeed(speed);
-      if (hasOpened && message) this.calls.showNotice(message);
-      return hasOpened;
+      const wasOpened = await this.openSession(await this.makeExampleRecord(texts));
+      if (wasOpened && speed) this.calls.setSpeed(speed);
+      if (wasOpened && message) this.calls.showNotice(message);
+      return wasOpened;
     } catch (error) {
       return this.rejectAction(say.fileNotOpened(name, this.errorMessages.errorMessage(error)));
     }

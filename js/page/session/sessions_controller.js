@@ -86,16 +86,16 @@ export class SessionsController {
       restoreSessions: (records) => trash.restoreSessions(records),
       openExample: (example) => this.openExample(example),
       openStory: async (example) => {
-        const hasOpened = await this.openExample(example);
-        if (hasOpened) this.showStory(example);
-        return hasOpened;
+        const wasOpened = await this.openExample(example);
+        if (wasOpened) this.showStory(example);
+        return wasOpened;
       },
       openFile: (file) => manager.openFile(file),
       openFolder: (read) => manager.openFolder(read),
       rename: (name) => calls.rename(name),
       describeStorage: () => (
         this.store.isPersistent
-          ? say.SAVED_IN_BROWSER_ONLY + (this.persistence.isPromised ? say.STORAGE_IS_PERSISTENT : "")
+          ? say.SAVED_IN_BROWSER_ONLY + (this.persistence.isGranted ? say.STORAGE_IS_PERSISTENT : "")
           : say.NOT_SAVED_ANYWHERE),
     });
   }
@@ -134,8 +134,8 @@ export class SessionsController {
    * @param {Example} example
    */
   async openExample(example) {
-    const hasOpened = await this.manager.openExample(example);
-    if (!hasOpened) return false;
+    const wasOpened = await this.manager.openExample(example);
+    if (!wasOpened) return false;
     this.offeredLines.offer(example.lines);
     if (example.lines !== "" && example.board === "") this.calls.showLines();
     return true;
@@ -224,7 +224,7 @@ export class SessionsController {
     const message = say.notOpenedAutomaticallyMessage(shortenName(record.name));
     const openAction = { word: say.OPEN_IT, act: () => this.open(record.id) };
     const deleteAction = { word: say.DELETE_IT, act: () => this.remove([record]) };
-    this.notice.show(message, "unended", openAction, deleteAction);
+    this.notice.show(message, "unopened", openAction, deleteAction);
   }
 
   /** Opens the session, example or link that the changed URL names, unless it is already open. */

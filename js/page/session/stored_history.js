@@ -79,8 +79,8 @@ export class StoredHistory {
   }
 
   /**
-   * Adds a report's entries to the history. A report that begins a new past, or that has too many cycles, restarts the history at the
-   * current state.
+   * Adds a report's entries to the history. The history restarts at the current state if the report replaces all earlier entries, or if its
+   * entries have too many cycles.
    * @param {PastChanges} report
    * @param {{ file: Uint8Array, total: number, reset: number }} currentState the session after the report's entries
    */

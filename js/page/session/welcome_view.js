@@ -17,7 +17,7 @@ import * as say from "../../words/example_notes.js";
  * @property {(name: string) => Promise<boolean>} openExample Opens a new session from the example with this name. Resolves to true if the
  *   session was created.
  * @property {() => void} showWiring Brings the Wiring tab to the front.
- * @property {() => void} storeSeen Stores the fact that the cards were shown.
+ * @property {() => void} storeWelcomeShown Stores the fact that the cards were shown.
  */
 
 export class WelcomeView {
@@ -31,7 +31,7 @@ export class WelcomeView {
     /** @type {HTMLButtonElement[]} the cards, once they have been drawn */
     this.cards = [];
     this.dialog = element("dialog", { "id": "welcome", "aria-labelledby": "welcome-title" });
-    this.dialog.addEventListener("close", () => calls.storeSeen());
+    this.dialog.addEventListener("close", () => calls.storeWelcomeShown());
     document.body.append(this.dialog);
   }
 

@@ -1,5 +1,5 @@
 // The clock. At the chip's real speed or below, each animation frame runs the cycles that are due. At full speed, the worker continues on
-// its own. Below full speed, no cycles run while the page is hidden, and while the browser or the computer suspends the page. At real
+// its own. Below full speed, no cycles run while the page is hidden, or while the browser or the computer suspends the page. At real
 // speed, a key press does not wait for the next frame. The cycles until that frame are simulated early.
 
 import { CYCLES_PER_SECOND } from "../../core/time/mcs4_time.js";
@@ -17,7 +17,7 @@ import { REAL_TIME_SPEED, canFollowLine, togglesKeys } from "../../core/time/spe
  * @property {(cycles: number, key: Key | null) => Promise<void>} advance Presses `key`, unless it is null, and runs cycles. Resolves when
  *   the cycles have run.
  * @property {() => Promise<void>} runInstruction Runs one instruction. Called at the speed of one instruction per second.
- * @property {() => Promise<void>} runFull Starts a run at full speed, which the worker continues on its own.
+ * @property {() => Promise<void>} runAtFullSpeed Starts a run at full speed, which the worker continues on its own.
  * @property {(time: number, wasHidden: boolean) => void} reportStandstill Reports that no cycles ran for `time` milliseconds. The cycles of
  *   that time are skipped. `wasHidden` is true if the page was hidden.
  * @property {(error: unknown) => void} reportFailure Reports an error that a call threw.
@@ -89,7 +89,7 @@ export class Clock {
   continueRun() {
     cancelAnimationFrame(this.frameRequest);
     if (this.isFull) {
-      this.calls.runFull().catch(this.calls.reportFailure);
+      this.calls.runAtFullSpeed().catch(this.calls.reportFailure);
       return;
     }
     this.realTime.restart(performance.now(), Date.now());

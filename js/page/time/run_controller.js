@@ -86,7 +86,7 @@ export class RunController {
     return new Clock({
       advance: (cycles, key) => this.advance(cycles, key),
       runInstruction: () => this.runInstruction(),
-      runFull: () => bench.call("run", [document.hidden]),
+      runAtFullSpeed: () => bench.call("run", [document.hidden]),
       reportStandstill: (time, wasHidden) => this.reportStandstill(time, wasHidden),
       reportFailure: calls.reportFailure,
     });
@@ -310,8 +310,8 @@ export class RunController {
     currentSession.markChanged();
     if (word === "press" && this.clock.simulateKeyPress(key)) return;
     const removePending = this.pendingKeys.send({ word, key });
-    bench.call(word, [key]).finally(removePending).then((waiting) => {
-      this.pendingKeys.waitingChanges = waiting;
+    bench.call(word, [key]).finally(removePending).then((waitingChanges) => {
+      this.pendingKeys.waitingChanges = waitingChanges;
     }, calls.reportFailure);
   }
 

@@ -8,14 +8,14 @@ import * as say from "../../words/page.js";
 
 /**
  * The kinds of notices:
- * - `kept`, `store`: lasting errors;
+ * - `saveError`, `store`: lasting errors;
  * - `session`, `refusal`: rejected actions;
  * - `share`: a copied link; `file`: a loaded file;
  * - `left`: a session that the user has left for a new session;
- * - `unended`: a session that was not opened automatically;
+ * - `unopened`: a session that was not opened automatically;
  * - `undo`: an action that can be undone;
  * - "": any other error.
- * @typedef {"" | "kept" | "session" | "store" | "refusal" | "share" | "file" | "left" | "unended" | "undo"} NoticeKind
+ * @typedef {"" | "saveError" | "session" | "store" | "refusal" | "share" | "file" | "left" | "unopened" | "undo"} NoticeKind
  * @typedef {{ word: string, act: () => void }} NoticeAction a button in the notice
  * @typedef {{ kind: NoticeKind, text: string, node: HTMLElement, message: import("./notice_list.js").Message, timer: number }} Row
  */
@@ -24,9 +24,9 @@ import * as say from "../../words/page.js";
  * The kinds of errors that are reported repeatedly while their cause persists. A notice that the user has dismissed appears again only if
  * its cause was gone in the meantime.
  */
-const LASTING_KINDS = new Set(["kept", "store"]);
+const LASTING_KINDS = new Set(["saveError", "store"]);
 /** The kinds that have a separate notice for each event. */
-const MULTIPLE_KINDS = new Set(["undo", "unended"]);
+const MULTIPLE_KINDS = new Set(["undo", "unopened"]);
 /** The kinds that report a success. */
 const SUCCESS_KINDS = new Set(["undo", "file", "share", "left"]);
 /** The time in milliseconds for which a success notice stays. */

@@ -31,7 +31,7 @@ export class Splitter {
     this.options = options;
     this.node = block(options.id);
     this.panel = block(options.panel);
-    this.isUpright = options.side === "left" || options.side === "right";
+    this.isVertical = options.side === "left" || options.side === "right";
     this.node.setAttribute("aria-valuemin", String(options.min));
     this.node.setAttribute("aria-valuemax", String(options.max));
     /** The panel's size minus the pointer's position at the start of the drag. */
@@ -58,7 +58,7 @@ export class Splitter {
   /** The panel's current width or height in pixels. */
   get size() {
     const { width, height } = this.panel.getBoundingClientRect();
-    return this.isUpright ? width : height;
+    return this.isVertical ? width : height;
   }
 
   /**
@@ -67,7 +67,7 @@ export class Splitter {
    */
   axisPosition({ clientX, clientY }) {
     const { side } = this.options;
-    const coordinate = this.isUpright ? clientX : clientY;
+    const coordinate = this.isVertical ? clientX : clientY;
     return side === "left" || side === "top" ? -coordinate : coordinate;
   }
 
