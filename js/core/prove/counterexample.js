@@ -1,4 +1,4 @@
-// Converts a counterexample of the prover, which is a list of input values, to steps. Runs the steps on the bench to confirm the violation,
+// Converts a counterexample of the prover, which is a list of inputs, to steps. Runs the steps on the bench to confirm the violation,
 // minimises the steps, and formats them as a test.
 
 import { readCounter } from "../bench/answers.js";
@@ -9,7 +9,7 @@ import { Minimiser } from "../explore/minimiser.js";
 import { Watcher } from "../explore/walk_watcher.js";
 import { initialDownInputs, areStepsAllowed, walkLines } from "../explore/walks.js";
 import { countCyclesToMistake } from "./mistakes.js";
-import { listInputs, replayValues } from "./input_replay.js";
+import { listInputs, replayReads } from "./input_replay.js";
 
 /**
  * @typedef {import("../explore/campaign.js").Campaign} Campaign
@@ -17,6 +17,7 @@ import { listInputs, replayValues } from "./input_replay.js";
  * @typedef {import("../explore/search.js").Violation} Violation
  * @typedef {import("../explore/subject.js").Subject} Subject
  * @typedef {import("../explore/walks.js").WalkStep} WalkStep
+ * @typedef {import("./question.js").Reads} Reads
  *
  * A counterexample. `steps`: the number of changes of inputs. `cycles`: the time of the violation. `isAllowed`: true if the properties text
  * allows these changes. `text`: a test, or bench lines if a pressed key has no name (`isTest` is then false). `linesBefore`: the bench
@@ -99,6 +100,21 @@ function listStepsBefore(steps, time) {
   });
 }
 
+/**
+ * Returns the smallest number of cycles between two successive changes of inputs; Infinity if there are fewer than two changes.
+ * @param {WalkStep[]} steps
+ */
+function findShortestWait(steps) {
+  let [shortest, cycles] = [Infinity, Infinity];
+  for (const { wait, kind } of steps) {
+    cycles += wait;
+    if (kind === "none") continue;
+    shortest = Math.min(shortest, cycles);
+    cycles = 0;
+  }
+  return shortest;
+}
+
 /** Replays the prover's counterexample to one property. */
 class Replay {
   /**
@@ -130,13 +146,13 @@ class Replay {
   }
 
   /**
-   * Returns the violation that happens if the program reads these input values; null if the bench does not confirm the violation.
-   * @param {number[]} values
+   * Returns the violation that happens if the program reads these inputs; null if the bench does not confirm the violation.
+   * @param {Reads} reads
    * @returns {Violation | null}
    */
-  findViolation(values) {
+  findViolation(reads) {
     const { subject, allowedCampaign, freeCampaign, needsFullWalk } = this;
-    const { steps, time, file, remainingCycles } = replayValues(subject, freeCampaign.inputs, values, allowedCampaign);
+    const { steps, time, file, remainingCycles } = replayReads(subject, freeCampaign.inputs, reads, allowedCampaign);
     if (this.excludesMistake) {
       const cycles = countCyclesToMistake(subject, file, this.mistake, remainingCycles);
       return cycles < 0 ? null : { property: 0, steps, time: time + cycles };
@@ -203,7 +219,8 @@ class Replay {
     const remainingCycles = allowedSteps.reduce((remaining, { wait }) => remaining - wait, time);
     const isChecked = time > allowedCampaign.checkStart || allowedCampaign.checkStart === 0;
     return isChecked && allowedSteps.every(({ kind, input }) => kind === "none" || input >= 0)
-      && areStepsAllowed(allowedCampaign, [...allowedSteps, { wait: remainingCycles, kind: "none", input: -1 }]);
+      && areStepsAllowed(allowedCampaign, [...allowedSteps, { wait: remainingCycles, kind: "none", input: -1 }])
+      && (!allowedCampaign.hasWait || findShortestWait(steps) >= allowedCampaign.minWait);
   }
 
   /**
@@ -238,17 +255,17 @@ class Replay {
 }
 
 /**
- * Resolves to the minimised counterexample that results if the program reads these input values; null if the bench does not confirm the
+ * Resolves to the minimised counterexample that results if the program reads these inputs; null if the bench does not confirm the
  * violation.
  * @param {Subject} subject
  * @param {Campaign} campaign
  * @param {number} property the index of the property in the campaign
- * @param {number[]} values the input values, in the order in which the program reads them
+ * @param {Reads} reads the inputs, in the order in which the program reads them
  * @param {() => Promise<void>} yieldToMessages
  * @param {string} [mistake] the word for the common mistake that the property excludes
  */
-export async function replayCounterexample(subject, campaign, property, values, yieldToMessages, mistake = "") {
+export async function replayCounterexample(subject, campaign, property, reads, yieldToMessages, mistake = "") {
   const replay = new Replay(subject, campaign, property, mistake);
-  const violation = replay.findViolation(values);
+  const violation = replay.findViolation(reads);
   return violation && replay.formatCounterexample(await replay.minimise(violation, yieldToMessages));
 }
