@@ -2,8 +2,6 @@
 
 import { formatCycles } from "../core/time/cycles.js";
 
-import { formatCycles } from "../core/time/cycles.js";
-
 // --- prompt/breakpoint_commands.js ---
 export const BREAKPOINT_NUMBER_MISSING = "which one? info breakpoints shows their numbers";
 /** @type {(id: number, address: string) => string} */
