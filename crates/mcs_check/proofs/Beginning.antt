@@ -1,11 +1,11 @@
 -- The machine at which a check begins.
-use Rattle.std.proofs.Common.{◌≡◌, ℕ, List, true, refl, sym, ap, subst}
+use Rattle.std.proofs.Common.{◌≡◌, ℕ, List, Result, Ok, Err, IfOk, true, refl, sym, ap, subst}
 use Rattle.mcs_model.specs.Validity.{IsValidBus, IsValidRegs}
 use Rattle.mcs_drive.specs.DrivenRuns.{InputLimits}
 use Rattle.mcs_drive.specs.TrackedMachine.{TrackedMachine, without_levels}
 use Rattle.mcs_check.specs.declared.checking.Outcome.{Outcome}
 use Rattle.mcs_check.specs.declared.checking.Outcome.TheVariants as outcome
-use Rattle.mcs_check.specs.OutcomeMeaning.{IsProved}
+use Rattle.mcs_check.specs.OutcomeMeaning.{IsProved, IsProvedAt}
 use Rattle.mcs_check.specs.declared.cells.KeyByte.{KeyByte}
 use Rattle.mcs_check.specs.Cells.{key_of}
 use Rattle.mcs_check.specs.Conditions.{PropertyConditions, meets_none, observer_of_property}
@@ -34,3 +34,9 @@ is_proved-before_keys_set limits property s m (outcome.MayFailWith levels) e is 
 is_proved-before_keys_set limits property s m outcome.TooMany e is = is
 is_proved-before_keys_set limits property s m (outcome.NoMemory n) e is = is
 is_proved-before_keys_set limits property s m outcome.GaveUp e is = is
+
+-- the same for the result of a search from the key of the machine with each key at its highest level
+pub outcome-before_keys_set : {E : Type 0} (limits : InputLimits) (layout : List KeyByte) (property : PropertyConditions) (key : List ℕ) (s m : TrackedMachine) (r : Result Outcome E) → m ≡ with_highest_keys limits s → IsKeyOf (setting_of m limits layout property) key m → IfOk r (IsProvedAt (setting_of m limits layout property) key) →
+    IfOk r (IsProved limits (observer_of_property property) (meets_none property.never_lists) s)
+outcome-before_keys_set limits layout property key s m (Ok o) e is proved = is_proved-before_keys_set limits property s m o e (proved m is)
+outcome-before_keys_set limits layout property key s m (Err f) e is proved = tt

@@ -1,15 +1,15 @@
-use Rattle.std.proofs.Common.{◌≡◌, ◌∙◌, ◌++◌, ℕ, List, IfOk, length, true, take, drop, sym, ap, subst, arith}
+use Rattle.std.proofs.Common.{◌≡◌, ◌∙◌, ◌++◌, ℕ, List, length, true, take, drop, sym, ap, subst, arith}
 use Rattle.std.proofs.Math.Seq.{take-append_seam}
 use Rattle.std.proofs.lemmas.List.{length-map}
 use Rattle.mcs_check.specs.declared.cells.KeyByte.{KeyByte}
 use Rattle.mcs_check.specs.Cells.{key_byte_value, key_of}
 use Rattle.mcs_check.specs.Conditions.{meets_none}
 use Rattle.mcs_check.specs.Keys.{IsKeyOf, setting_of}
-use Rattle.mcs_check.proofs.Beginning.{is_key-of_machine_with_highest_keys, is_proved-before_keys_set}
+use Rattle.mcs_check.proofs.Beginning.{is_key-of_machine_with_highest_keys, outcome-before_keys_set}
 use Rattle.mcs_check.proofs.checking.check_all.Goals as goal
 use Rattle.mcs_check.proofs.checking.check_all.Goals.{After-wait}
 
--- (the lemma `starts`: the saved key identifies the machine with each key at its highest level)
+-- the saved key identifies the machine with each key at its highest level
 starts : (c : After-wait) → IsKeyOf (setting_of c.set_highest_keys.new.self c.args.limits c.in_ok-layout.layout.items c.args.property) c.deref-3.result.now c.set_highest_keys.new.self
 starts c =
     let m = c.set_highest_keys.new.self in
@@ -34,3 +34,9 @@ search_by_levels-requires-clause-state c = (c.set_highest_keys.new.self, starts 
 
 pub search_by_values-requires-clause-state : goal.search_by_values-requires-clause-state
 search_by_values-requires-clause-state c = (c.set_highest_keys.new.self, starts c)
+
+pub returns-then-wait-gt1 : goal.returns-then-wait-gt1
+returns-then-wait-gt1 c = outcome-before_keys_set c.args.limits c.in_ok-layout.layout.items c.args.property c.deref-3.result.now c.args.replica c.set_highest_keys.new.self c.search_by_levels.result c.set_highest_keys.ensures (starts c) c.search_by_levels.ensures
+
+pub returns-else-wait-gt1 : goal.returns-else-wait-gt1
+returns-else-wait-gt1 c = outcome-before_keys_set c.args.limits c.in_ok-layout.layout.items c.args.property c.deref-3.result.now c.args.replica c.set_highest_keys.new.self c.search_by_values.result c.set_highest_keys.ensures (starts c) c.search_by_values.ensures
