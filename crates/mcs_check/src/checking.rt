@@ -12,8 +12,7 @@ use crate::limits::InputLimits;
 use crate::machine_search::MachineSearch;
 use crate::property::Property;
 use crate::replica::SearchMachine;
-use crate::spaced_search::{SpacedSearch, first_spaced_key};
-use crate::spacing::MAX_WAIT;
+use crate::spaced_checking::search_by_levels;
 use mcs_search::{MAX_STATES, Verdict, search_all};
 use std::alloc::{AllocError, Global};
 
@@ -41,7 +40,7 @@ pub enum Outcome {
 const STATE_BYTES: usize = 24;
 
 /// Returns the number of states with keys of `key_len` bytes that fit into `memory` bytes.
-fn states_that_fit(memory: usize, key_len: usize) -> usize {
+pub(crate) fn states_that_fit(memory: usize, key_len: usize) -> usize {
     memory / key_len.saturating_add(STATE_BYTES)
 }
 
@@ -62,41 +61,6 @@ fn search_by_values(
     match search_all(alloc, &mut machines, key, limit)? {
         Verdict::Holds(states) => Ok(Outcome::Holds(states)),
         Verdict::Broken(values) => Ok(Outcome::MayFail(values)),
-        Verdict::TooMany if limit < most => Ok(Outcome::NoMemory(limit)),
-        Verdict::TooMany => Ok(Outcome::TooMany),
-        Verdict::NoMemory(states) => Ok(Outcome::NoMemory(states)),
-        Verdict::GaveUp => Ok(Outcome::GaveUp),
-    }
-}
-
-/// Searches all runs of the machine that `key` identifies, for inputs whose changes are at least `wait` cycles apart.
-/// Gives up if the limits allow more than 255 levels. See `check_all` for `most` and `memory`. Fails if memory for the
-/// levels or for the first state runs out.
-fn search_by_levels(
-    alloc: Global,
-    machines: MachineSearch,
-    key: &[u8],
-    most: usize,
-    memory: usize,
-) -> Result<Outcome, AllocError>
-    requires most { most ≤ MAX_STATES }
-    requires state { IsState machines key.now }
-    ensures { IfOk result (IsProvedAt machines key.now) }
-{
-    let wait = machines.wait().min(MAX_WAIT);
-    let Some(levels) = machines.all_levels(alloc)? else {
-        return Ok(Outcome::GaveUp);
-    };
-    let start = first_spaced_key(alloc, key)?;
-    let limit = most.min(states_that_fit(memory, start.len()));
-    let mut search = SpacedSearch {
-        machines,
-        levels,
-        wait,
-    };
-    match search_all(alloc, &mut search, &start, limit)? {
-        Verdict::Holds(states) => Ok(Outcome::Holds(states)),
-        Verdict::Broken(indices) => Ok(Outcome::MayFailWith(search.levels_at(alloc, &indices)?)),
         Verdict::TooMany if limit < most => Ok(Outcome::NoMemory(limit)),
         Verdict::TooMany => Ok(Outcome::TooMany),
         Verdict::NoMemory(states) => Ok(Outcome::NoMemory(states)),

@@ -26,6 +26,7 @@ mod reading;
 mod replica;
 mod scope;
 mod search_step;
+mod spaced_checking;
 mod spaced_search;
 mod spacing;
 mod stopwatch;

@@ -2,7 +2,7 @@ use Rattle.std.proofs.Common.{◌≡◌, subst, sym, ap, ◌∙◌, ◌++◌, Li
 use Rattle.mcs_search.specs.Verdicts.{IsProved}
 use Rattle.mcs_check.specs.SpacedInputs.{SpacedSetting, spaced_rules}
 use Rattle.mcs_check.proofs.SpacedOutcome.{first_bytes, holds-by_spaced_search, is_state-of_first_spaced_key}
-use Rattle.mcs_check.proofs.checking.search_by_levels.Goals as goal
+use Rattle.mcs_check.proofs.spaced_checking.search_by_levels.Goals as goal
 
 pub search_all-requires-clause-start : goal.search_all-requires-clause-start
 search_all-requires-clause-start c =
