@@ -2,6 +2,7 @@
 //! the search remembers of its inputs.
 ghost use Rattle.std.specs.Prelude.{[], ◌∷◌, ◌++◌, ◌≡◌, ◌<◌, ◌≤◌, ℕ, length, true, IfOk, OnOk};
 ghost use Rattle.std.specs.List.{Contains};
+ghost use Rattle.mcs_check.specs.declared.spacing.TheConstants.{NO_LEVELS};
 ghost use Rattle.mcs_check.specs.SpacedInputs.{can_begin_at};
 
 use crate::level_sets::Levels;
