@@ -26,7 +26,8 @@ const TEST_AT_1: [u8; 20] = [
 ];
 
 /// A program that reaches address 18 if TEST is at 1, then at 0, then at 1, at three reads that are
-/// 2 cycles apart: (0) JCN 9 4, JUN 0, (4) JCN 1 8, JUN 0, (8) JCN 9 18, JUN 0, .., (18) JUN 18.
+/// 2 cycles apart. From address 0: JCN 9 4, JUN 0, JCN 1 8, JUN 0. From address 8: JCN 9 18,
+/// JUN 0. At address 18: JUN 18.
 const TEST_CHANGES_TWICE: [u8; 20] = [
     0x19, 4, 0x40, 0, 0x11, 8, 0x40, 0, 0x19, 18, 0x40, 0, 0, 0, 0, 0, 0, 0, 0x40, 18,
 ];
