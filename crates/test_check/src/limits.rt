@@ -34,7 +34,7 @@ const TEST_CHANGES_TWICE: [u8; 20] = [
 
 /// Checks that a machine never reaches the address `OPEN_ADDRESS`, and returns the outcome. The
 /// limits of the inputs are `keys` (1 for each key that can be down), the highest level `test` of
-/// TEST, at most `together` keys down at once, and `wait` cycles between two changes.
+/// TEST, and at most `together` keys down at once. Two changes are at least `wait` cycles apart.
 fn check_with_limits(
     alloc: Global,
     rt: &impl Abort,
