@@ -69,20 +69,19 @@ impl System for SpacedSearch {
 
     fn apply_choice(&mut self, key: &[u8], choice: u8, into: &mut [u8]) -> Option<bool> {
         let len = self.machines.key_len();
-        if key.len() != len + SPACING_BYTES {
+        if key.len() < len || key.len() - len != SPACING_BYTES {
             return None;
         }
         let machine = &key[..len];
         let levels = self.levels.get(usize::from(choice))?;
         let value = self.machines.value_at_key(machine, levels)?;
         let (next, spacing) = into.split_at_mut(len);
-        match self.machines.run(machine, value, next)? {
-            StepEnd::Failed => Some(false),
-            StepEnd::Reached(cycles) => {
-                let before = Spacing::of_key(key, len);
-                before.after(self.wait, choice, cycles).write(spacing);
-                Some(true)
-            }
-        }
+        let end = self.machines.run(machine, value, next)?;
+        let StepEnd::Reached(cycles) = end else {
+            return Some(false);
+        };
+        let before = Spacing::of_key(key, len);
+        before.after(self.wait, choice, cycles).write(spacing);
+        Some(true)
     }
 }
