@@ -23,3 +23,4 @@ pub mod Matrices
 pub mod Spaced
 pub mod LevelSets
 pub mod SpacedSteps
+pub mod SpacedOutcome

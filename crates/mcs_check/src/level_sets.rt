@@ -61,6 +61,18 @@ impl Levels {
         self.test
     }
 
+    /// Returns a copy of these levels. Fails if memory runs out.
+    pub(crate) fn copy(&self, alloc: Global) -> Result<Levels, AllocError>
+        ensures { IfOk result (λ l. l ≡ self.now) }
+    {
+        let mut keys = Vec::new(alloc);
+        keys.extend_from_slice(&self.keys)?;
+        Ok(Levels {
+            keys,
+            test: self.test,
+        })
+    }
+
     /// Returns these levels with the level of one more key. Fails if memory runs out.
     fn with_next_key(&self, alloc: Global, level: Bit) -> Result<Levels, AllocError>
         ensures { IfOk result (λ l. l ≡ with_next_key self.now level) }

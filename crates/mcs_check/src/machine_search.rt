@@ -1,16 +1,19 @@
 //! The transition system that a search explores. Each key identifies a machine with the same board and ROM bytes.
-ghost use Rattle.std.specs.Prelude.{◌≡◌, length, IfSome};
+ghost use Rattle.std.specs.Prelude.{◌≡◌, ◌≤◌, length, IfOk, IfSome};
+ghost use Rattle.mcs_model.specs.declared.board.BoardParts.{BoardParts};
+ghost use Rattle.mcs_model.specs.Boards.{key_count};
+ghost use Rattle.mcs_check.specs.LevelSets.{AreAllAllowedLevels};
 ghost use Rattle.mcs_check.specs.SearchStep.{IfReached, IsState, LeadsIn, ReadsAt};
 
 use crate::cells::KeyByte;
 use crate::last_key::LastKey;
-use crate::level_sets::Levels;
+use crate::level_sets::{Levels, all_allowed_levels};
 use crate::limits::InputLimits;
 use crate::property::Property;
 use crate::replica::SearchMachine;
 use crate::search_step::{StepEnd, list_readable_values, run_to_next_key, value_at_key};
 use mcs_search::System;
-use std::alloc::AllocError;
+use std::alloc::{AllocError, Global};
 use std::marker::Model;
 
 /// The machines with one board and one program, the limits of their inputs, and the property to check in their runs.
@@ -47,6 +50,22 @@ impl MachineSearch {
         ensures { result ≡ length self.now.layout }
     {
         self.layout.len()
+    }
+
+    /// Returns the smallest number of cycles between two changes of the inputs.
+    pub(crate) fn wait(&self) -> u32
+        ensures { result ≡ self.now.limits.wait }
+    {
+        self.limits.wait()
+    }
+
+    /// Returns all levels of the inputs that the limits allow (see `all_allowed_levels`).
+    pub(crate) fn all_levels(&self, alloc: Global) -> Result<Option<Vec<Levels>>, AllocError>
+        ensures few { IfOk result (λ found. IfSome found (λ all. length all.items ≤ 255)) }
+        ensures all { IfOk result (λ found. IfSome found (λ all.
+            (b : BoardParts) → key_count b ≡ length self.now.limits.keys → AreAllAllowedLevels self.now.limits b all.items)) }
+    {
+        all_allowed_levels(alloc, &self.limits)
     }
 
     /// Returns the value that the machine of a key reads in its next cycle at these input levels. Returns `None` if the

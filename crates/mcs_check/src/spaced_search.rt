@@ -1,6 +1,6 @@
 //! The transition system that a search through spaced inputs explores. Each spaced key identifies a machine and what
 //! the search remembers of its inputs.
-ghost use Rattle.std.specs.Prelude.{◌≡◌, ◌<◌, ◌≤◌, ℕ, length, true, OnOk};
+ghost use Rattle.std.specs.Prelude.{[], ◌∷◌, ◌++◌, ◌≡◌, ◌<◌, ◌≤◌, ℕ, length, true, IfOk, OnOk};
 ghost use Rattle.std.specs.List.{Contains};
 ghost use Rattle.mcs_check.specs.SpacedInputs.{can_begin_at};
 
@@ -9,7 +9,7 @@ use crate::machine_search::MachineSearch;
 use crate::search_step::StepEnd;
 use crate::spacing::{NO_LEVELS, SPACING_BYTES, Spacing};
 use mcs_search::System;
-use std::alloc::AllocError;
+use std::alloc::{AllocError, Global};
 use std::marker::Model;
 
 /// The machines of a search, and the levels at which their steps can begin.
@@ -32,6 +32,33 @@ impl Model for SpacedSearch {
     ghost view = { λ w. record { machines = w.machines; wait = w.wait; levels = w.levels.items } };
 
     ghost invariant = { λ w. (w.wait ≤ MAX_WAIT) × (length w.levels.items ≤ NO_LEVELS) };
+}
+
+impl SpacedSearch {
+    /// Returns the levels with these indices. Fails if memory runs out.
+    pub(crate) fn levels_at(
+        &self,
+        alloc: Global,
+        indices: &[u8],
+    ) -> Result<Vec<Levels>, AllocError> {
+        let mut found = Vec::new(alloc);
+        for index in indices {
+            if let Some(levels) = self.levels.get(usize::from(*index)) {
+                found.push(levels.copy(alloc)?)?;
+            }
+        }
+        Ok(found)
+    }
+}
+
+/// Returns the spaced key of a machine before its first step. Fails if memory runs out.
+pub(crate) fn first_spaced_key(alloc: Global, key: &[u8]) -> Result<Vec<u8>, AllocError>
+    ensures { IfOk result (λ spaced. spaced.items ≡ key.now ++ NO_LEVELS ∷ 0 ∷ 0 ∷ 0 ∷ 0 ∷ []) }
+{
+    let mut spaced = Vec::new(alloc);
+    spaced.extend_from_slice(key)?;
+    spaced.extend_from_slice(&[NO_LEVELS, 0, 0, 0, 0])?;
+    Ok(spaced)
 }
 
 /// Appends the index of all levels at which the next step can begin. Fails if memory runs out.

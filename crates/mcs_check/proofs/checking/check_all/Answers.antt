@@ -1,17 +1,17 @@
 use Rattle.std.proofs.Common.{◌≡◌, ◌∙◌, ◌++◌, ℕ, List, length, true, take, drop, sym, ap, subst, arith}
 use Rattle.std.proofs.Math.Seq.{take-append_seam}
 use Rattle.std.proofs.lemmas.List.{length-map}
-use Rattle.mcs_search.specs.Verdicts.{IsProved}
 use Rattle.mcs_check.specs.declared.cells.KeyByte.{KeyByte}
 use Rattle.mcs_check.specs.Cells.{key_byte_value, key_of}
 use Rattle.mcs_check.specs.Conditions.{meets_none}
-use Rattle.mcs_check.specs.Keys.{setting_of}
-use Rattle.mcs_check.specs.SearchRules.{rules_of}
-use Rattle.mcs_check.proofs.Beginning.{property_holds-before_keys_set, is_key-of_machine_with_highest_keys}
+use Rattle.mcs_check.specs.Keys.{IsKeyOf, setting_of}
+use Rattle.mcs_check.proofs.Beginning.{is_key-of_machine_with_highest_keys, outcome-before_keys_set}
 use Rattle.mcs_check.proofs.checking.check_all.Goals as goal
+use Rattle.mcs_check.proofs.checking.check_all.Goals.{After-wait}
 
-pub returns-in-Holds : goal.returns-in-Holds
-returns-in-Holds c =
+-- the saved key identifies the machine with each key at its highest level
+starts : (c : After-wait) → IsKeyOf (setting_of c.set_highest_keys.new.self c.args.limits c.in_ok-layout.layout.items c.args.property) c.deref-3.result.now c.set_highest_keys.new.self
+starts c =
     let m = c.set_highest_keys.new.self in
     let limits = c.args.limits in
     let layout = c.in_ok-layout.layout.items in
@@ -27,6 +27,16 @@ returns-in-Holds c =
     let whole = subst (λ (n : ℕ). take n (c.save.new.key ++ rest) ≡ c.save.new.key) len (take-append_seam c.save.new.key rest) in
     let cells : key ≡ key_of layout m = c.deref-3.ensures.value ∙ (whole ∙ saved) in
     let property_holds : meets_none property.never_lists m ≡ true = sym c.keeps.ensures ∙ c.if-not-keeps.false in
-    let is = is_key-of_machine_with_highest_keys limits layout property key c.args.replica m c.set_highest_keys.ensures c.show_state_is_valid.ensures.registers c.show_state_is_valid.ensures.bus property_holds cells in
-    property_holds-before_keys_set limits layout property key c.in-Holds.states c.args.replica m c.set_highest_keys.ensures is
-    (subst (IsProved (rules_of (setting_of m limits layout property)) key) c.in-Holds.is c.in_ok-states.ensures.proved)
+    is_key-of_machine_with_highest_keys limits layout property key c.args.replica m c.set_highest_keys.ensures c.show_state_is_valid.ensures.registers c.show_state_is_valid.ensures.bus property_holds cells
+
+pub search_by_levels-requires-clause-state : goal.search_by_levels-requires-clause-state
+search_by_levels-requires-clause-state c = (c.set_highest_keys.new.self, starts c)
+
+pub search_by_values-requires-clause-state : goal.search_by_values-requires-clause-state
+search_by_values-requires-clause-state c = (c.set_highest_keys.new.self, starts c)
+
+pub returns-then-wait-gt1 : goal.returns-then-wait-gt1
+returns-then-wait-gt1 c = outcome-before_keys_set c.args.limits c.in_ok-layout.layout.items c.args.property c.deref-3.result.now c.args.replica c.set_highest_keys.new.self c.search_by_levels.result c.set_highest_keys.ensures (starts c) c.search_by_levels.ensures
+
+pub returns-else-wait-gt1 : goal.returns-else-wait-gt1
+returns-else-wait-gt1 c = outcome-before_keys_set c.args.limits c.in_ok-layout.layout.items c.args.property c.deref-3.result.now c.args.replica c.set_highest_keys.new.self c.search_by_values.result c.set_highest_keys.ensures (starts c) c.search_by_values.ensures
