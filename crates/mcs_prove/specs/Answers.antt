@@ -1,5 +1,5 @@
 -- The line and the exit status of an answer.
-use Rattle.std.specs.Prelude.{◌≡◌, ◌==◌, ◌+◌, ◌*◌, ◌/◌, ℕ, suc, false, List, [], ◌++◌, codes, length, nat_lt, slice_index, Result, Ok, Err, IfOk, if◌then◌else◌}
+use Rattle.std.specs.Prelude.{◌≡◌, ◌==◌, ◌+◌, ◌*◌, ◌/◌, ℕ, zero, suc, false, List, [], ◌++◌, codes, length, nat_lt, slice_index, Result, Ok, Err, IfOk, if◌then◌else◌}
 use Rattle.std.specs.Fmt.{decimal, digits}
 use Rattle.std.specs.List.{flat_map}
 use Rattle.mcs_model.specs.declared.refusal_numbers.TheConstants.{NO_MEMORY, NO_ROM}
@@ -31,7 +31,7 @@ digit_at l d = level_at l (4 * d) + 2 * level_at l (4 * d + 1) + 4 * level_at l 
 
 -- the first digits for the levels of all keys and TEST, in lower-case hexadecimal
 abbrev pub first_digits : Levels → ℕ → List ℕ
-first_digits l 0 = []
+first_digits l zero = []
 first_digits l (suc n) = first_digits l n ++ digits 16 false (digit_at l n)
 
 -- a space and a word with all digits for the levels of all keys and TEST

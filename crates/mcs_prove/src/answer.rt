@@ -1,5 +1,5 @@
 //! The answer to a question: one line and an exit status.
-ghost use Rattle.std.specs.Prelude.{◌≡◌, ◌<◌, ◌++◌, string_bytes, IfOk, OnOk};
+ghost use Rattle.std.specs.Prelude.{◌≡◌, ◌<◌, ◌≤◌, ◌^◌, ◌++◌, string_bytes, IfOk, OnOk};
 ghost use Rattle.std.specs.List.{flat_map};
 ghost use Rattle.mcs_prove.specs.Answers.{AnswersQuestion, digit_at, digit_count, first_digits, level_at, line_of_answer, outcome_line, refusal_line, refusal_status, space_and_decimal, space_and_word, status_of_answer};
 ghost use Rattle.mcs_prove.specs.Questions.{IsAnswerTo};
@@ -58,14 +58,15 @@ fn level_at(levels: &Levels, index: usize) -> Bit
 
 /// Returns the number of digits for the levels of all keys and TEST. Each digit has four levels.
 fn digit_count(levels: &Levels) -> usize
-    ensures { result ≡ digit_count levels.now }
+    ensures value { result ≡ digit_count levels.now }
+    ensures few { result ≤ 2 ^ 61 }
 {
     levels.keys().len() / 4 + 1
 }
 
 /// Returns one of the digits for the levels of all keys and TEST. It has four levels, the first one in its lowest bit.
 fn digit_at(levels: &Levels, index: usize) -> u8
-    requires { index < digit_count levels.now }
+    requires { index < 2 ^ 61 }
     ensures { result ≡ digit_at levels.now index }
 {
     let first = 4 * index;
