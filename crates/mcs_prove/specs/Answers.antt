@@ -1,6 +1,6 @@
 -- The line and the exit status of an answer.
-use Rattle.std.specs.Prelude.{◌≡◌, ◌==◌, ◌+◌, ◌*◌, ◌/◌, ℕ, zero, suc, false, List, [], ◌++◌, codes, length, nat_lt, slice_index, Result, Ok, Err, IfOk, if◌then◌else◌}
-use Rattle.std.specs.Fmt.{decimal, digits}
+use Rattle.std.specs.Prelude.{◌≡◌, ◌==◌, ◌+◌, ◌*◌, ◌/◌, ℕ, zero, suc, List, [], ◌++◌, codes, length, nat_lt, slice_index, Result, Ok, Err, IfOk, if◌then◌else◌}
+use Rattle.std.specs.Fmt.{decimal}
 use Rattle.std.specs.List.{flat_map}
 use Rattle.mcs_model.specs.declared.refusal_numbers.TheConstants.{NO_MEMORY, NO_ROM}
 use Rattle.mcs_source.specs.RefusalNumbers.{source_fault_number}
@@ -29,10 +29,21 @@ digit_count l = length l.keys / 4 + 1
 abbrev pub digit_at : Levels → ℕ → ℕ
 digit_at l d = level_at l (4 * d) + 2 * level_at l (4 * d + 1) + 4 * level_at l (4 * d + 2) + 8 * level_at l (4 * d + 3)
 
+-- the hexadecimal digit for a number below 16
+abbrev pub hex_digit : ℕ → List ℕ
+hex_digit n =
+    if n == 10 then codes "a"
+    else if n == 11 then codes "b"
+    else if n == 12 then codes "c"
+    else if n == 13 then codes "d"
+    else if n == 14 then codes "e"
+    else if n == 15 then codes "f"
+    else decimal n
+
 -- the first digits for the levels of all keys and TEST, in lower-case hexadecimal
 abbrev pub first_digits : Levels → ℕ → List ℕ
 first_digits l zero = []
-first_digits l (suc n) = first_digits l n ++ digits 16 false (digit_at l n)
+first_digits l (suc n) = first_digits l n ++ hex_digit (digit_at l n)
 
 -- a space and a word with all digits for the levels of all keys and TEST
 abbrev pub space_and_word : Levels → List ℕ

@@ -1,7 +1,7 @@
 //! The answer to a question: one line and an exit status.
 ghost use Rattle.std.specs.Prelude.{◌≡◌, ◌<◌, ◌≤◌, ◌^◌, ◌++◌, string_bytes, IfOk, OnOk};
 ghost use Rattle.std.specs.List.{flat_map};
-ghost use Rattle.mcs_prove.specs.Answers.{AnswersQuestion, digit_at, digit_count, first_digits, level_at, line_of_answer, outcome_line, refusal_line, refusal_status, space_and_decimal, space_and_word, status_of_answer};
+ghost use Rattle.mcs_prove.specs.Answers.{AnswersQuestion, digit_at, digit_count, first_digits, hex_digit, level_at, line_of_answer, outcome_line, refusal_line, refusal_status, space_and_decimal, space_and_word, status_of_answer};
 ghost use Rattle.mcs_prove.specs.Questions.{IsAnswerTo};
 
 use crate::proving::{Goal, prove, prove_by_sets};
@@ -76,14 +76,28 @@ fn digit_at(levels: &Levels, index: usize) -> u8
         + 8 * level_at(levels, first + 3).get()
 }
 
+/// Appends a hexadecimal digit for a number below 16. Fails if memory runs out.
+fn push_digit(out: &mut String, number: u8) -> Result<(), AllocError>
+    ensures { OnOk result (string_bytes out.new ≡ string_bytes out.old ++ hex_digit number) }
+{
+    match number {
+        10 => out.push_str("a"),
+        11 => out.push_str("b"),
+        12 => out.push_str("c"),
+        13 => out.push_str("d"),
+        14 => out.push_str("e"),
+        15 => out.push_str("f"),
+        _ => write!(out, "{number}"),
+    }
+}
+
 /// Appends all digits for the levels of all keys and TEST, in hexadecimal. Fails if memory runs out.
 fn push_digits(out: &mut String, levels: &Levels) -> Result<(), AllocError>
     ensures { OnOk result (string_bytes out.new
         ≡ string_bytes out.old ++ first_digits levels.now (digit_count levels.now)) }
 {
     for index in 0..digit_count(levels) {
-        let digit = digit_at(levels, index);
-        write!(out, "{digit:x}")?;
+        push_digit(out, digit_at(levels, index))?;
     }
     Ok(())
 }
