@@ -40,14 +40,17 @@ def all_levels(board: Board) -> list[Levels]:
     return sorted(itertools.islice(levels, MAX_LEVELS + 1), key=lambda each: (each[1], [key in each[0] for key in keys]))
 
 
-def levels_of_word(board: Board, word: int) -> Levels:
-    """Returns the levels that a word of an answer describes."""
-    return frozenset(key for bit, key in enumerate(all_keys(board)) if word >> bit + 1 & 1), word & 1
+def levels_of_word(board: Board, word: str) -> Levels:
+    """Returns the levels that a word of an answer describes. The word has the levels of all keys, row by row, and then of TEST. Each hexadecimal digit
+    has four of them, the first one in its lowest bit."""
+    keys, levels = all_keys(board), [int(digit, 16) >> bit & 1 for digit in word for bit in range(4)]
+    return frozenset(key for key, level in zip(keys, levels, strict=False) if level), levels[len(keys)]
 
 
-def max_word(board: Board) -> int:
-    """Returns the largest word of an answer."""
-    return (2 << len(all_keys(board))) - 1
+def max_word(board: Board) -> str:
+    """Returns the word for levels that are all 1."""
+    full_digits, levels_in_last = divmod(len(all_keys(board)) + 1, 4)
+    return "f" * full_digits + (f"{(1 << levels_in_last) - 1:x}" if levels_in_last else "")
 
 
 def set_levels(board: Board, levels: Levels) -> None:

@@ -22,7 +22,8 @@
 //!     test                        TEST may be 0 or 1
 //!     prove                       the question is complete; every question must end with this line
 //!
-//! Without a line `together`, any number of keys may be down at a time. Of several such lines, the last one counts.
+//! Without a line `together`, any number of keys may be down at a time. Without a line `wait`, the levels may change
+//! before each cycle. A `wait` is 2 to 100000. Of several lines `together` or `wait`, the last one of each counts.
 //! Without a line `only`, all keys may be pressed and TEST may be 0 or 1. `press` and `test` lines then have no effect.
 ghost use Rattle.std.specs.Prelude.{◌≡◌};
 ghost use Rattle.std.specs.Str.{bytes_eq};
