@@ -1,5 +1,5 @@
-"""The part of checks/page about the page's commands: the palette, which lists all commands, and their keys. Also about the toolbar with its menus and
-tooltips, the theme, the notes on examples, and the first visit with its cards and its tour."""
+"""The part of checks/page about the page's commands: the palette, which lists all commands, and their keys. It also covers the toolbar with its menus
+and tooltips, the theme, the notes on examples, and the first visit with its cards and its tour."""
 
 import re
 
@@ -271,8 +271,8 @@ IS_MENU_EXPANDED = "return document.getElementById('menu-button').getAttribute('
 
 
 def check_toolbar(browser):
-    """Checks that the toolbar is a row of 44 pixels, that each button has an icon, a name and at least 24 pixels, and that exactly one button is
-    filled. Also checks the File menu by keyboard, and the theme menu."""
+    """Checks that the toolbar is 44 pixels high, and that exactly one button is filled. Each button must have a name, a size of at least 24 pixels, and
+    (except for TEST) an icon. Also checks the File menu by keyboard, and the theme menu."""
     verdict("the height of the toolbar", browser.script("return document.getElementById('toolbar').offsetHeight"), 44)
     tools = browser.script(MEASURE_TOOLS)
     verdict("the buttons without an icon", [tool["id"] for tool in tools if tool["icons"] == 0 and tool["id"] != "test"], [])

@@ -1,5 +1,5 @@
 """The part of checks/page about the debugger: breakpoints that stay at their lines while the source is edited, conditions, hit counts, log messages,
-and going back. Also about the form and the menu for editing a breakpoint, and about saving.
+and going back. It also covers the form and the menu for editing a breakpoint, and saving.
 
 An earlier version of the page moved breakpoints of PROGRAM away from their lines. The addresses in this check were counted manually.
 """

@@ -1,5 +1,5 @@
-"""The part of checks/page about a board's front panel: names, colours and positions of lamps, digits, and TEST as a button or a switch. Also about
-errors in the comments that describe the front panel."""
+"""The part of checks/page about a board's front panel: names, colours and positions of lamps, digits, and TEST as a button or a switch. It also
+covers errors in the comments that describe the front panel."""
 
 import base64
 import re
@@ -49,7 +49,8 @@ return [document.getElementById("digits").textContent,
 # The number of segments that are on when a digit is shown.
 SEGMENT_COUNTS = {"0": 6, "1": 2, "2": 5, "3": 5, "4": 4, "5": 5, "6": 6, "7": 3, "8": 7, "9": 6}
 # Records all announcements in `said`. Announcements less than half a second after a change of the display are also recorded in `saidEarly`. The page
-# must not announce the display until it has been unchanged for a second. On a busy machine, that can happen even while the stopwatch is running.
+# must not announce the display until it has been unchanged for a second. On a busy machine, the display can be unchanged for so long even while the
+# stopwatch is running.
 WATCH_ANNOUNCEMENTS = """
 const watch = (id, then) => new MutationObserver(then)
   .observe(document.getElementById(id), { childList: true, characterData: true, attributes: true, subtree: true });

@@ -1,5 +1,5 @@
-"""The part of checks/page about the layout: the positions of panels and controls at each window size, and the scrolling of the disassembly. Also
-about the marks of changes, cells that are edited in place, printing, and accessible names."""
+"""The part of checks/page about the layout: the positions of panels and controls at each window size, and the scrolling of the disassembly. It also
+covers the marks of changes, cells that are edited in place, printing, and accessible names."""
 
 import re
 import time

@@ -1,5 +1,5 @@
-"""The part of checks/page about unusual input: markup in fields and names, files of all kinds, and numbers out of range. Also about many clicks at
-once, and a reload immediately after an edit. No input may become an element or a script, and the bench must still answer afterwards."""
+"""The part of checks/page about unusual input: markup in fields and names, files of all kinds, and numbers out of range. It also covers many clicks
+at once, and a reload immediately after an edit. No input may become an element or a script, and the bench must still answer afterwards."""
 
 import base64
 import re

@@ -1,5 +1,5 @@
-"""The part of checks/page about the printer tape. Calculations by pointer and keyboard must be printed, in real time and at full speed. Also
-about going back, a reload, clearing, and errors in the description of a printer."""
+"""The part of checks/page about the printer tape. Calculations by pointer and keyboard must be printed, in real time and at full speed. The check
+also covers going back, a reload, clearing, and errors in the description of a printer."""
 
 import re
 import time

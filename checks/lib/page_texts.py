@@ -226,7 +226,7 @@ def open_link(browser, page, link):
     """Opens the page at an address that contains a link."""
     browser.go("about:blank")
     browser.go(f"{page.as_uri()}#{link}")
-    # The page is not ready before the user answers its question.
+    # The page does not become ready until the user answers its question.
     browser.until("return Boolean(document.body.dataset.ready) || document.getElementById('ask').open", True, 90)
 
 

@@ -1,5 +1,5 @@
 """The part of checks/page about the layout of panels. Splitters move by mouse, touch and keyboard. Panels can be closed, reopened and maximised. The
-page remembers the layout, and can reset it. Also about what a new user sees, and the number of clicks that a new user needs."""
+page remembers the layout, and can reset it. The check also covers what a new user sees, and the number of clicks that a new user needs."""
 
 import re
 
@@ -264,7 +264,7 @@ def position_of_word(browser, word):
 
 
 def check_watch_rows(browser):
-    """Checks that the rows of four watched values have 24 pixels each."""
+    """Checks that the rows of four watched values are 24 pixels high each."""
     pause_running_time(browser)
     for expression in ("count = R5", "R6", "acc", "P2"):
         browser.type_into("#watched-field", expression + ENTER)

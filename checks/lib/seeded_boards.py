@@ -25,7 +25,7 @@ class Wiring:
     def __init__(self, rng: random.Random) -> None:
         self.rng = rng
         pages = {0, *rng.choices([1, 1, 2, 14, 15, rng.randrange(16)], k=rng.randrange(1, 3))}
-        # Often add the page after a page, because instructions at the end of a page continue on the next page.
+        # Often also add the page after a chosen one, because instructions at the end of a page continue on the next page.
         self.pages = sorted(pages | {(page + 1) % 16 for page in pages if rng.random() < 0.4})
         ports = {*self.pages, *rng.sample(range(16), rng.randrange(4))}
         self.ports = {chip: rng.choice(["0000", "0000", "1111", "".join(rng.choices("i01", k=4)), "iiii"]) for chip in sorted(ports)}

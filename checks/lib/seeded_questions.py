@@ -64,7 +64,7 @@ class ReadingProgram(Program):
         return [f"FIM P{pair}, 0x{self.rng.choice(inputs) if inputs and self.rng.random() < 0.8 else self.src_byte():02X}", f"SRC P{pair}"]
 
     def loop_phrases(self) -> list[str]:
-        """Returns instructions for the loop, usually a read of keys or TEST with a use of the value."""
+        """Returns instructions for the loop, which usually read keys or TEST and use the value."""
         rng = self.rng
         register = rng.choice(self.registers)
         kind = rng.random()
@@ -113,7 +113,7 @@ class KeyReadingProgram(ReadingProgram):
         return [phrase for _n in range(2) for phrase in self.clock_phrases("rom0.0", "rom0.1")]
 
     def loop_phrases(self) -> list[str]:
-        """Returns instructions for the loop, usually a read of the columns with a use of the value."""
+        """Returns instructions for the loop, which usually read the columns and use the value."""
         if self.rng.random() < 0.6:
             return self.selection_phrases(self.rng.randrange(8)) + ["RDR"] + self.use_phrases(self.rng.choice(self.registers))
         return super().loop_phrases()

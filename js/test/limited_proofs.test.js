@@ -326,8 +326,9 @@ test("a search is not needed for a property that is proved for its inputs", asyn
 test("the prover of the page applies the limits", async () => {
   const judge = async (propertiesText, programText = PROGRAM) => {
     const texts = { boardText: BOARD, programText, testText: "", propertiesText };
-    const { judge } = beginProving(moduleEngine, texts, 10000, { reportStates: async () => {}, yieldToMessages: async () => {} });
-    const { verdict } = await judge.judgeNext();
+    const calls = { reportStates: async () => {}, yieldToMessages: async () => {} };
+    const { judge: propertyJudge } = beginProving(moduleEngine, texts, 10000, calls);
+    const { verdict } = await propertyJudge.judgeNext();
     return verdict.kind === "proved" ? verdict.limits : verdict.kind;
   };
   assert.deepEqual(await judge(`press B C\n${NEVER_ON}`), ["press"]);

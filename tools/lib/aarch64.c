@@ -4,7 +4,9 @@
 #include <stdint.h>
 #include <stdlib.h>
 
-/* The result of an allocation: whether it succeeded, and the block. After a failure the pointer is to a byte that no block contains. */
+/*
+ * The result of an allocation: whether it succeeded, and the block. After a failure, the pointer points to a byte that no block contains.
+ */
 typedef struct { uint64_t ok; void *at; } Tried;
 
 static unsigned char nothing;

@@ -130,7 +130,7 @@ find_installed() {
     fi
 }
 
-# Sets `program` to the program that was built from these sources, either here or before it was shipped, or sets `reason`.
+# Sets `program` to the program that was built from these sources, either here or before it was shipped. If there is none, sets `reason`.
 find_by_sources() {
     sources=$(sum_of_crate mcs4)
     if is_built "$sources"; then

@@ -25,8 +25,8 @@ BEGINNING_EVENTS = 20
 # The phase of a cut: before the program's first answer, soon after it, while a snapshot is written, or at any other time.
 Phase = Literal["opening", "beginning", "snapshot", "serving"]
 PHASES: tuple[Phase, ...] = ("opening", "beginning", "snapshot", "serving")
-# The part of a pending write that an image contains: None for the complete write. Otherwise the size of its units (sectors or blocks) in bytes, and a
-# number with a bit for each unit that is new.
+# The part of a pending write that an image contains: None if it contains the complete write. Otherwise the size of its units (sectors or blocks) in
+# bytes, and a number with a bit for each unit that is new.
 Part = tuple[int, int] | None
 
 

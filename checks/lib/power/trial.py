@@ -285,9 +285,9 @@ class Runner:
         return is_good
 
     def choose_next_disk(self, trial: Trial, generation: int, examined_images: list[ExaminedImage]) -> ExaminedImage:
-        """Returns the image that becomes the disk of the next generation. Alternates between an image that was cut while a snapshot was
-        written and one that was cut while the session was opened, if there are any. For a session of version 1, prefers one that still has
-        version 1. For the first generation of a new session, prefers a blank file."""
+        """Returns the image that becomes the disk of the next generation. Alternates between an image of a cut while a snapshot was written
+        and one of a cut while the session was opened, if there are any. For a session of version 1, prefers one that still has version 1.
+        For the first generation of a new session, prefers a blank file."""
         case = CASES[trial.case]
         is_carried = case.name.startswith("carried")
         preferred_phase: Phase = "opening" if is_carried or generation % 2 else "snapshot"
