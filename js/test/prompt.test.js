@@ -7,6 +7,7 @@ import { COMMANDS, findCommand, commandHelp } from "../core/prompt/prompt_comman
 import { Prompt } from "../core/prompt/debugger_prompt.js";
 import { View, viewSize } from "../core/prompt/view.js";
 import { parseCountArgument, parseCycles, findInstruction } from "../core/prompt/argument_parsers.js";
+import { stepBackBy } from "../core/prompt/prompt_moves.js";
 import { Engine } from "../core/engine/engine.js";
 import { readPageData } from "../node/page_parts.mjs";
 import { pageModule } from "./page_session.js";
@@ -80,6 +81,15 @@ test("places, counts and times are parsed", async () => {
   }
   assert.deepEqual([parseCycles("538"), parseCycles("20 ms"), parseCycles("1s")], [538, 1852, 92593]);
   assert.throws(() => parseCycles("soon"), /soon is not a time/);
+});
+
+test("several steps back end early when the user pauses", async () => {
+  const { session, ask } = await createPrompt();
+  await ask("step 5");
+  let stepsLeft = 2;
+  const { message } = await stepBackBy(session, 5, async () => stepsLeft-- > 0);
+  assert.match(message, /^Back at 00. .* earlier: this instruction has not run yet\.$/);
+  assert.notEqual(session.address, 0);
 });
 
 test("steps forward and back", async () => {

@@ -24,9 +24,9 @@ export async function stepBackBy(session, count, shouldContinue) {
   let result = await session.goBack(goal, shouldContinue);
   if (!result.isDone) return result;
   let { cycles } = result;
-  for (let done = 1; done < count; done++) {
-    const next = await shouldContinue(0) && await session.goBack(goal, shouldContinue);
-    if (!next || !next.isDone) return { ...result, message: say.fewerStepsBackMessage(session.counterText, cycles, done, count) };
+  for (let done = 1; done < count && await shouldContinue(0); done++) {
+    const next = await session.goBack(goal, shouldContinue);
+    if (!next.isDone) return { ...result, message: say.fewerStepsBackMessage(session.counterText, cycles, done, count) };
     result = next;
     cycles += next.cycles;
   }
