@@ -31,7 +31,7 @@ const FATAL_INPUTS = [
   { name: "a Content-Length that is not a number", bytes: "Content-Length: many\r\n\r\n{}", pattern: /^a message begins with/ },
   { name: "a Content-Length below 0", bytes: "Content-Length: -2\r\n\r\n{}", pattern: /^a message begins with/ },
   { name: "two Content-Lengths", bytes: "Content-Length: 2\r\nContent-Length: 3\r\n\r\n{}", pattern: /^a message begins with/ },
-  { name: "a header that does not end", bytes: "x".repeat(5000), pattern: /^the head of a message has more than/ },
+  { name: "a header that does not end", bytes: "x".repeat(5000), pattern: /^the header of a message has more than/ },
   { name: "binary bytes", bytes: Buffer.from(Array.from({ length: 6000 }, (_, index) => (index * 7919) % 256)), pattern: /^the head|^a message begins/ },
 ];
 

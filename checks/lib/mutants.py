@@ -12,9 +12,11 @@ from unittest import mock
 
 import board4004
 import second_search
+import second_waits
 import expected_tool_output
 from board4004 import Board, Chips
 from second_search import Comparison, Condition, Levels, Mark
+from second_waits import Spacing
 
 
 def replace_instruction(name: str, execute: Callable[[Board, int, int], None]) -> Callable[[], AbstractContextManager]:
@@ -302,4 +304,53 @@ LIMIT_MUTANTS: dict[str, Callable[[], AbstractContextManager]] = {
         [0, 1] if second_search.limits_of(board).test else [0])),
     "TEST stays at 1": replace_function(second_search, "allowed_test_levels", lambda board: (
         [1] if CORRECT_TEST_LEVELS(board) == [0] else [0, 1])),
+}
+
+
+# ---- changes that are apart
+
+def begins_with_free(part: int) -> Callable[[int, Spacing, Levels], bool]:
+    """Lets TEST (part 1) or the keys (part 0) change at any time, if the other levels do not change."""
+    return lambda wait, spacing, levels: (
+        CORRECT_CAN_BEGIN_AT(wait, spacing, levels) or spacing.last is not None and spacing.last[1 - part] == levels[1 - part])
+
+
+def age_of_late_change(wait: int, spacing: Spacing, levels: Levels) -> int:
+    """Makes a change at the beginning of the step, and not as early as possible."""
+    return CORRECT_AGE_AT_BEGIN(wait, spacing, levels) if spacing.last in (None, levels) else 0
+
+
+def age_of_free_change(wait: int, spacing: Spacing, levels: Levels) -> int:
+    """Forgets a change: it does not delay the next one."""
+    return CORRECT_AGE_AT_BEGIN(wait, spacing, levels if spacing.last is None else spacing.last)
+
+
+def age_without_maximum(is_same: bool) -> Callable[[int, Spacing, Levels], int]:
+    """Allows a next change before the beginning of the step, after a step at the same levels or at other ones."""
+    def age(wait: int, spacing: Spacing, levels: Levels) -> int:
+        if spacing.last is None or is_same != (spacing.last == levels):
+            return CORRECT_AGE_AT_BEGIN(wait, spacing, levels)
+        return spacing.age if is_same else spacing.age - wait
+    return age
+
+
+CORRECT_CAN_BEGIN_AT, CORRECT_AGE_AT_BEGIN, CORRECT_AGE_AFTER = second_waits.can_begin_at, second_waits.age_at_begin, second_waits.age_after
+WAIT_MUTANTS: dict[str, Callable[[], AbstractContextManager]] = {
+    "a change is a cycle early": replace_function(second_waits, "can_begin_at", lambda wait, spacing, levels: (
+        CORRECT_CAN_BEGIN_AT(wait - 1, spacing, levels))),
+    "a change is a cycle late": replace_function(second_waits, "can_begin_at", lambda wait, spacing, levels: (
+        CORRECT_CAN_BEGIN_AT(wait + 1, spacing, levels))),
+    "keys change at any time": replace_function(second_waits, "can_begin_at", begins_with_free(0)),
+    "TEST changes at any time": replace_function(second_waits, "can_begin_at", begins_with_free(1)),
+    "the first levels are a change": replace_function(second_waits, "age_at_begin", lambda wait, spacing, levels: (
+        0 if spacing.last is None else CORRECT_AGE_AT_BEGIN(wait, spacing, levels))),
+    "a change is made as late as possible": replace_function(second_waits, "age_at_begin", age_of_late_change),
+    "a change does not delay the next one": replace_function(second_waits, "age_at_begin", age_of_free_change),
+    "a change is made before a step at the same levels": replace_function(second_waits, "age_at_begin", age_without_maximum(True)),
+    "a change is made before a step at other levels": replace_function(second_waits, "age_at_begin", age_without_maximum(False)),
+    "a step takes one cycle": replace_function(second_waits, "age_after", lambda wait, age, _cycles: CORRECT_AGE_AFTER(wait, age, 1)),
+    "the first cycle of a step is not counted": replace_function(second_waits, "age_after", lambda wait, age, cycles: (
+        CORRECT_AGE_AFTER(wait, age, cycles - 1))),
+    "an age is at most `wait`": replace_function(second_waits, "age_after", lambda wait, age, cycles: (
+        min(CORRECT_AGE_AFTER(wait, age, cycles), wait))),
 }

@@ -170,7 +170,7 @@ def board_of_lamps(count):
 
 
 def check_port_names(browser):
-    """Checks that the panel of ports names the parts of the lock at its ports and chains."""
+    """Checks the panel of ports for the lock example: it names the parts at each port and chain."""
     choose_example(browser, "lock")
     eventually(browser, "the number of colours of the lamps", f"{GET_COLOURS.replace('return', 'return new Set(')}).size", 3)
     verdict("the names of ports and chains", browser.text("#ports-status"),

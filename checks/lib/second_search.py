@@ -44,17 +44,20 @@ def condition_lines(word: str, rows: list[Row]) -> list[str]:
 @dataclass
 class InputLimits:
     """The inputs that a question allows. At most `together` keys are down at a time, or any number if it is None. If `only` is true, a key can be
-    pressed only if it is one of `keys`, and TEST can be 1 only if `test` is true. Otherwise all keys can be pressed, and TEST can be 0 or 1."""
+    pressed only if it is one of `keys`, and TEST can be 1 only if `test` is true. Otherwise all keys can be pressed, and TEST can be 0 or 1. Two
+    changes of the levels are at least `wait` cycles apart. `search` ignores `wait`, and second_waits.py does not."""
 
     together: int | None = None
     only: bool = False
     keys: list[Key] = field(default_factory=list)
     test: bool = False
+    wait: int = 0
 
     def lines(self) -> list[str]:
         """Returns the lines of a question for these limits."""
         return [*([] if self.together is None else [f"together {self.together}"]), *(["only"] if self.only else []),
-                *(f"press {row} {column}" for row, column in self.keys), *(["test"] if self.test else [])]
+                *(f"press {row} {column}" for row, column in self.keys), *(["test"] if self.test else []),
+                *([f"wait {self.wait}"] if self.wait else [])]
 
     def allow(self, levels: Levels) -> bool:
         """Returns true if the limits allow these levels of keys and TEST."""

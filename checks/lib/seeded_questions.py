@@ -230,7 +230,8 @@ def add_marks(question: Question, rng: random.Random, wiring: Wiring) -> None:
 
 def key_waiting_question(rng: random.Random, wiring: Wiring) -> Question:
     """Returns a question about a program that waits until keys of a row are pressed, one after another, and then stores a number in a register. Some
-    of these programs do not wait until a key is up, some drive other rows as well, and some questions have marks of other keys."""
+    of these programs do not wait until a key is up, and some drive other rows as well. Some questions have marks of keys for which the program does
+    not wait."""
     row, register, number = rng.randrange(wiring.rows), rng.randrange(12), rng.randrange(1, 16)
     program, marks = [" FIM P7, 0", " SRC P7"], []
     for bit in range(wiring.first + row + 1):
@@ -362,15 +363,15 @@ def limited_question(seed: int, max_states: int) -> Question:
 
 def lines_in_random_order(question: Question, rng: random.Random) -> list[str]:
     """Returns the lines of a question, with the lines of its limits at random positions outside the texts. One of these lines is repeated. If there
-    is a `together` line, another one with another number precedes it, because only the last one counts."""
+    is a `together` or `wait` line, another one with another number precedes it, because only the last one counts."""
     limits = question.limits.lines()
-    together = [line for line in limits if line.startswith("together")]
-    other_values = [line for line in limits if line not in together]
+    numbered = [line for line in limits if line.startswith(("together", "wait"))]
+    other_values = [line for line in limits if line not in numbered]
     parts = without_limits(question).parts()
     for line in [*other_values, *rng.sample(other_values, min(len(other_values), 1))]:
         parts.insert(rng.randrange(len(parts)), [line])
-    for line in together:
+    for line in numbered:
         position = rng.randrange(len(parts))
         parts.insert(position, [line])
-        parts.insert(rng.randrange(position + 1), [f"together {rng.randrange(256)}"])
+        parts.insert(rng.randrange(position + 1), [f"{line.split()[0]} {rng.randrange(2, 256)}"])
     return [line for part in parts for line in part]

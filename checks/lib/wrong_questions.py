@@ -13,7 +13,8 @@ INVALID_LINES = [
     "together", "together x", "together -1", "together 256", "together 1 2", f"together {'9' * 5000}", "together 0x", "together 1.5", "Together 1",
     "togethers 1", "only x", "only 1", "only only", "only press 0 0", "Only", "press", "press 1", "press 1 2 3", "press 256 0", "press 0 256",
     "press x 0", "press 0 x", "press 0 -1", "press 1.0", "press 1,0", "Press 0 0", "presses 0 0", "test 0", "test 1", "test x", "test test", "Test",
-    "tests", "release 0 0", "together 1\0", "only\0", "press 0 0\0", "test\0", "press 0 0 0 0 0", "test register 0 whole 0 0",
+    "tests", "wait", "wait x", "wait -1", "wait 0", "wait 1", "wait 100001", "wait 2 3", f"wait {'9' * 5000}", "wait 0x", "wait 2.5", "Wait 2",
+    "waits 2", "release 0 0", "together 1\0", "only\0", "press 0 0\0", "test\0", "wait 2\0", "press 0 0 0 0 0", "test register 0 whole 0 0",
     "open x", "opens", "up", "up 0", "up 0 0 0", "up x 0", "up 0 256", "up 0 -1", "Up 0 0", "ups 0 0", "down", "down 256 0", "in 0 0",
     "\0", "most 1\0", "\x7f", "x" * 100000, "in register 0 whole 0 0", "out register 0 whole 0 0", "mistake code"]
 # Invalid comparisons.
@@ -28,6 +29,12 @@ INVALID_COMPARISONS = [
 NEVER_STARTED = ["begin", "in register 0 whole 9 3"]
 # Lines that limit the inputs of the question in QUESTION_LINES, whose board has no inputs.
 LIMIT_LINES = ["together 0", "together 255", " together\t0xFF ", "only", "\tonly ", "test", "press 0 0", "press 255 255", "press 0x0  0xff"]
+# Lines that limit the times of changes, with which the search of this question finds three states.
+WAIT_LINES = ["wait 2", "\twait  0x2 ", "wait 3"]
+# A question about a board with eight keys, which allows the keys alone.
+EIGHT_KEYS = ["most 9", "wire", "[[rom]]", "chip = 0", 'port = "0000"', "[[rom]]", "chip = 1", 'port = "000i"', "[[chain]]", 'clock = "rom0.0"',
+              'data = "rom0.1"', "chips = 1", "[keys]", "chain = 0", "first = 0", "rows = 8", 'columns = ["rom1.0"]', ".", *PROGRAM, "only",
+              *(f"press {row} 0" for row in range(8))]
 # The lines of each question, with the exit status and the answer.
 ANSWERS: list[tuple[list[str], int, str]] = [
     ([], 2, "no question"), ([""], 2, "no question"), (["prove"], 2, "no question"), ([*BOARD, "prove"], 2, "no question"),
@@ -73,6 +80,19 @@ ANSWERS: list[tuple[list[str], int, str]] = [
     *(([*BOARD, "asm", " NOP", line, ".", "prove"], 3, "no 30 2") for line in LIMIT_LINES),
     *((["wire", line, ".", *PROGRAM, "prove"], 3, "no 20") for line in LIMIT_LINES),
     *(([line, "prove"], 2, "no question") for line in LIMIT_LINES), ([*QUESTION_LINES, *LIMIT_LINES], 2, "no question"),
+    # So are lines that limit the times of changes. With them, the levels are parts of the states.
+    *(([*lines, "prove"], 0, "holds 3") for line in WAIT_LINES for lines in (
+        [line, *QUESTION_LINES], [*QUESTION_LINES[:2], *BOARD, line, *PROGRAM], [*QUESTION_LINES, line, line],
+        [*QUESTION_LINES, "wait 100000", line])),
+    *(([*QUESTION_LINES, "never", line, "in register 0 whole 0 0", "prove"], 0, "may fail") for line in WAIT_LINES),
+    *(([*QUESTION_LINES, "never", "in register 0 whole 0 0", line, "in register 1 whole 1 1", "prove"], 0, "holds 3") for line in WAIT_LINES),
+    *(([*QUESTION_LINES, "prove", line], 2, f"wrong line {len(QUESTION_LINES) + 2}") for line in WAIT_LINES),
+    *(([*BOARD, "asm", " NOP", line, ".", "prove"], 3, "no 30 2") for line in WAIT_LINES), ([*QUESTION_LINES, *WAIT_LINES], 2, "no question"),
+    *(([line, "prove"], 2, "no question") for line in WAIT_LINES), ([*QUESTION_LINES, "wait 2", "wait 100000", "prove"], 0, "too many"),
+    ([*QUESTION_LINES, "wait 100000", "only", "prove"], 0, "holds 2"), ([*QUESTION_LINES, "wait 3", "most 2", "prove"], 0, "too many"),
+    # There may be at most 255 levels.
+    ([*EIGHT_KEYS, "wait 2", "prove"], 0, "gave up"), ([*EIGHT_KEYS, "wait 2", "together 7", "prove"], 0, "too many"),
+    ([*EIGHT_KEYS, "wait 2", "together 7", "test", "prove"], 0, "gave up"), ([*EIGHT_KEYS, "wait 2", "together 0", "prove"], 0, "holds 2"),
     ([*QUESTION_LINES, "only", *1000 * ["press 255 255"], "prove"], 0, "holds 1"), ([*QUESTION_LINES, *1000 * ["together 0"], *1000 * ["only"], "prove"], 0, "holds 1"),
     (["wire", "x", ".", *PROGRAM, "prove"], 3, "no 20"), (["wire", "[[rim]]", ".", *PROGRAM, "prove"], 3, "no 21"),
     (["wire", "[[rom]]", "chip = 0", ".", *PROGRAM, "prove"], 3, "no 22"),

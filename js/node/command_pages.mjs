@@ -88,7 +88,7 @@ function listCompletions() {
   const builtIns = Object.entries(say.BUILT_IN_COMPLETIONS).map(([name, description]) => (
     { name, description, words: /** @type {string[]} */ ([]) }));
   const names = [...builtIns, ...commands].map(({ name }) => name);
-  return [...builtIns.map((word) => (word.name === "help" ? { ...word, words: [...names, "refusals"] } : word)), ...commands];
+  return [...builtIns.map((entry) => (entry.name === "help" ? { ...entry, words: [...names, "refusals"] } : entry)), ...commands];
 }
 
 /** @type {(text: string) => string} */
@@ -96,16 +96,16 @@ const quoteForShell = (text) => `'${text.replace(/'/g, "'\\''")}'`;
 
 /**
  * Returns the completion script for bash.
- * @param {ReturnType<typeof listCompletions>} words
+ * @param {ReturnType<typeof listCompletions>} completions
  */
-function formatBashCompletion(words) {
-  const commands = words.filter((word) => word.words.length > 0);
-  const cases = commands.map((word) => `            ${word.name}) words=${quoteForShell(word.words.join(" "))} ;;`);
+function formatBashCompletion(completions) {
+  const cases = completions.filter(({ words }) => words.length > 0).map(({ name, words: nextWords }) => (
+    `            ${name}) words=${quoteForShell(nextWords.join(" "))} ;;`));
   return `# Completion of mcs4 for bash.
 _mcs4() {
     local words= word=\${COMP_WORDS[COMP_CWORD]}
     if [ "$COMP_CWORD" -eq 1 ]; then
-        words=${quoteForShell(words.map(({ name }) => name).join(" "))}
+        words=${quoteForShell(completions.map(({ name }) => name).join(" "))}
     else
         case \${COMP_WORDS[1]} in
 ${cases.join("\n")}
@@ -122,15 +122,15 @@ complete -o default -F _mcs4 mcs4
 
 /**
  * Returns the completion script for zsh.
- * @param {ReturnType<typeof listCompletions>} words
+ * @param {ReturnType<typeof listCompletions>} completions
  */
-function formatZshCompletion(words) {
-  const otherCommands = words.filter((word) => word.name !== "help" && word.words.length > 0);
+function formatZshCompletion(completions) {
+  const otherCommands = completions.filter(({ name, words }) => name !== "help" && words.length > 0);
   return `#compdef mcs4
 # Completion of mcs4 for zsh.
 local -a commands words_here
 commands=(
-${words.map(({ name, description }) => `    ${quoteForShell(`${name}:${description.replace(/:/g, "\\:")}`)}`).join("\n")}
+${completions.map(({ name, description }) => `    ${quoteForShell(`${name}:${description.replace(/:/g, "\\:")}`)}`).join("\n")}
 )
 if (( CURRENT == 2 )); then
     _describe command commands
@@ -147,12 +147,12 @@ _files
 
 /**
  * Returns the completion script for fish.
- * @param {ReturnType<typeof listCompletions>} words
+ * @param {ReturnType<typeof listCompletions>} completions
  */
-function formatFishCompletion(words) {
+function formatFishCompletion(completions) {
   const quoteForFish = (/** @type {string} */ text) => `'${text.replace(/\\/g, "\\\\").replace(/'/g, "\\'")}'`;
   const completeAfter = (/** @type {string} */ name) => `complete -c mcs4 -n '__fish_seen_subcommand_from ${name}'`;
-  const lines = words.flatMap(({ name, description, words: nextWords }) => [
+  const lines = completions.flatMap(({ name, description, words: nextWords }) => [
     `complete -c mcs4 -n __fish_use_subcommand -f -a ${name} -d ${quoteForFish(description)}`,
     ...(name === "help" ? [`${completeAfter(name)} -f -a ${quoteForFish(nextWords.join(" "))}`]
       : nextWords.map((word) => `${completeAfter(name)} ${word.startsWith("--") ? `-l ${word.slice(2)}` : `-a ${word}`}`)),
@@ -165,13 +165,13 @@ function formatFishCompletion(words) {
 /** Returns the names and contents of all files. */
 export function createFiles() {
   const names = Object.keys(COMMANDS);
-  const words = listCompletions();
+  const completions = listCompletions();
   return [
     ["help/mcs4.txt", formatMcs4Help("")], ["man/mcs4.1", formatMcs4ManualPage()],
     ...names.flatMap((name) => [[`help/${name}.txt`, formatCommandHelp(name)], [`man/mcs4-${name}.1`, formatManualPage(name)]]),
-    ["completions/bash", formatBashCompletion(words)],
-    ["completions/zsh", formatZshCompletion(words)],
-    ["completions/fish", formatFishCompletion(words)],
+    ["completions/bash", formatBashCompletion(completions)],
+    ["completions/zsh", formatZshCompletion(completions)],
+    ["completions/fish", formatFishCompletion(completions)],
   ];
 }
 

@@ -127,7 +127,7 @@ class Exploration {
 
   /**
    * Runs one search, with the seed in the settings. Prints each counterexample when it is found. Resolves to the report.
-   * @param {Awaited<ReturnType<Exploration["readTexts"]>>} search
+   * @param {Awaited<ReturnType<Exploration["readTexts"]>>} searchInputs
    * @returns {Promise<Report>}
    */
   async search({ subject, campaign, texts }) {
@@ -135,19 +135,23 @@ class Exploration {
     const model = allowsModel ? (/** @type {string[]} */ keySequences) => askModel(campaign.command, keySequences) : null;
     /** @type {import("../core/explore/campaign_run.js").ConfirmTest} */
     const confirm = (test, isGoal) => this.confirm(test, isGoal);
-    const run = new CampaignRun(subject, campaign, seed, confirm, minimisingCycleLimit(seconds), model, yieldToMessages, initialProofTime(seconds));
+    const campaignRun = new CampaignRun(
+      subject, campaign, seed, confirm, minimisingCycleLimit(seconds), model, yieldToMessages, initialProofTime(seconds),
+    );
     const startUsage = process.cpuUsage();
-    const end = performance.now() + 1000 * seconds;
-    while (performance.now() < end && !isStopped && !run.isDone) {
-      const counterexample = await run.runFor(SLICE_TIME);
-      if (run.error && !isStopped) throw new CommandError(`${names.properties}:${campaign.properties[run.modelIndex].line}: ${run.error}`);
+    const endTime = performance.now() + 1000 * seconds;
+    while (performance.now() < endTime && !isStopped && !campaignRun.isDone) {
+      const counterexample = await campaignRun.runFor(SLICE_TIME);
+      if (campaignRun.error && !isStopped) {
+        throw new CommandError(`${names.properties}:${campaign.properties[campaignRun.modelIndex].line}: ${campaignRun.error}`);
+      }
       if (counterexample) this.printCounterexample(campaign.properties[counterexample.property], counterexample.counterexample);
       await yieldToMessages();
     }
     const { user, system } = process.cpuUsage(startUsage);
-    for (const test of run.unconfirmedTests) printError(`explore: ${say.testDoesNotFail(test)}`);
+    for (const test of campaignRun.unconfirmedTests) printError(`explore: ${say.testDoesNotFail(test)}`);
     const sums = createHash("sha256").update(JSON.stringify(texts)).digest("hex");
-    return run.report({ names, sums, seconds: (user + system) / 1e6, isStopped });
+    return campaignRun.report({ names, sums, seconds: (user + system) / 1e6, isStopped });
   }
 
   /**
@@ -165,10 +169,10 @@ class Exploration {
    */
   async runJob(seed) {
     const { settings } = this;
-    const report = join(settings.folder, `report.${seed}`);
-    const name = join(settings.folder, `job.${seed}`);
-    writeFileSync(name, JSON.stringify({ ...settings, seed, report }));
-    return { status: await rerunCommand({ ...process.env, [JOB_VARIABLE]: name }), report };
+    const reportFile = join(settings.folder, `report.${seed}`);
+    const settingsFile = join(settings.folder, `job.${seed}`);
+    writeFileSync(settingsFile, JSON.stringify({ ...settings, seed, reportFile }));
+    return { status: await rerunCommand({ ...process.env, [JOB_VARIABLE]: settingsFile }), reportFile };
   }
 
   /** Runs all jobs in parallel, or a single job in this process. Resolves to the combined report. Throws an error if a job fails. */
@@ -176,13 +180,13 @@ class Exploration {
     const { files, settings: { jobs, seed, texts } } = this;
     writeFileSync(files.board, texts.board.text);
     writeFileSync(files.program, texts.program.text);
-    const search = await this.readTexts();
-    this.announceModel(search.campaign);
-    if (jobs === 1) return this.search(search);
+    const searchInputs = await this.readTexts();
+    this.announceModel(searchInputs.campaign);
+    if (jobs === 1) return this.search(searchInputs);
     const jobResults = await Promise.all([...Array(jobs).keys()].map((job) => this.runJob(seed + job)));
     const failedJob = jobResults.find(({ status }) => status === null || status > 1);
     if (failedJob) throw new CommandError(say.jobEnded(failedJob.status));
-    return mergeReports(jobResults.map(({ report }) => report));
+    return mergeReports(jobResults.map(({ reportFile }) => reportFile));
   }
 }
 
@@ -237,7 +241,7 @@ export async function exploreTexts(settings) {
 
 /**
  * Returns the settings of this process if it is a job of another process, otherwise null.
- * @returns {Settings & { report: string } | null}
+ * @returns {Settings & { reportFile: string } | null}
  */
 export function readJobSettings() {
   const name = process.env[JOB_VARIABLE];
@@ -246,11 +250,11 @@ export function readJobSettings() {
 
 /**
  * Runs a search as a job of another process, and writes its report. Resolves to the exit status.
- * @param {Settings & { report: string }} settings
+ * @param {Settings & { reportFile: string }} settings
  */
 export async function exploreAsJob(settings) {
   const exploration = await startExploration(settings);
   const report = await exploration.search(await exploration.readTexts());
-  writeUserFile(settings.report, `${JSON.stringify(report)}\n`);
+  writeUserFile(settings.reportFile, `${JSON.stringify(report)}\n`);
   return 0;
 }

@@ -30,12 +30,12 @@ function readProcFile(name) {
 function findLockHolders(name) {
   const { dev, ino } = statSync(name);
   const locks = readProcFile("/proc/locks").split("\n").flatMap((line) => {
-    const [, process, major, minor, inode] = FLOCK_LINE.exec(line) || [];
-    return Number(inode) === ino ? [{ process: Number(process), device: [major, minor].map((part) => parseInt(part, 16)) }] : [];
+    const [, pid, major, minor, inode] = FLOCK_LINE.exec(line) || [];
+    return Number(inode) === ino ? [{ pid: Number(pid), device: [major, minor].map((part) => parseInt(part, 16)) }] : [];
   });
   // Compose the device number as makedev(3) does. On some file systems, the device of a lock differs from the device of its file.
   const deviceLocks = locks.filter(({ device: [major, minor] }) => dev === ((major & 0xFFF) * 256) + (minor & 0xFF) + ((minor & 0xFFF00) * 4096));
-  return (deviceLocks.length > 0 ? deviceLocks : locks).map(({ process }) => process).filter((process) => process > 0);
+  return (deviceLocks.length > 0 ? deviceLocks : locks).map(({ pid }) => pid).filter((pid) => pid > 0);
 }
 
 /**
@@ -44,10 +44,10 @@ function findLockHolders(name) {
  * @param {string} name
  */
 export function findLockHolder(name) {
-  const [process] = findLockHolders(name);
-  if (process === undefined) return "";
-  const words = readProcFile(`/proc/${process}/cmdline`).split("\0").filter(Boolean).map((word) => word.replace(/^.*\//, ""));
-  return `${words.join(" ") || readProcFile(`/proc/${process}/comm`).trim()} (process ${process})`;
+  const [pid] = findLockHolders(name);
+  if (pid === undefined) return "";
+  const words = readProcFile(`/proc/${pid}/cmdline`).split("\0").filter(Boolean).map((word) => word.replace(/^.*\//, ""));
+  return `${words.join(" ") || readProcFile(`/proc/${pid}/comm`).trim()} (process ${pid})`;
 }
 
 /**

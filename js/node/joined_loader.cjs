@@ -61,11 +61,11 @@ function belongsToUser(name) {
  */
 function findCacheFolder() {
   const { XDG_CACHE_HOME = "", HOME = "", LOCALAPPDATA = "" } = process.env;
-  const cache = IS_WINDOWS ? LOCALAPPDATA : XDG_CACHE_HOME.startsWith("/") ? XDG_CACHE_HOME : /^\/./.test(HOME) ? join(HOME, ".cache") : "";
-  if (cache === "") return "";
-  const folder = join(cache, "fethsaim");
+  const cacheRoot = IS_WINDOWS ? LOCALAPPDATA : XDG_CACHE_HOME.startsWith("/") ? XDG_CACHE_HOME : /^\/./.test(HOME) ? join(HOME, ".cache") : "";
+  if (cacheRoot === "") return "";
+  const folder = join(cacheRoot, "fethsaim");
   try {
-    if (!existsSync(folder) && (belongsToUser(cache) || (!existsSync(cache) && belongsToUser(dirname(cache))))) {
+    if (!existsSync(folder) && (belongsToUser(cacheRoot) || (!existsSync(cacheRoot) && belongsToUser(dirname(cacheRoot))))) {
       mkdirSync(folder, { recursive: true, mode: OWNER_ONLY_MODE });
     }
     return belongsToUser(folder) && (IS_WINDOWS || (statSync(folder).mode & OTHERS_ACCESS_BITS) === 0) ? folder : "";
@@ -117,10 +117,10 @@ function areUnchanged(folder, name, files, checksum) {
   if (folder === "") return hashFiles(files) === checksum;
   const path = join(folder, `${TOP.replace(/[/\\:]/g, "%")}.${name}.joined`);
   const { stamps, hasRecentChange } = readFileStamps(files);
-  const entry = `${checksum}\n${stamps}`;
-  if (existsSync(path) && readFileSync(path, "utf8") === entry) return true;
+  const stampRecord = `${checksum}\n${stamps}`;
+  if (existsSync(path) && readFileSync(path, "utf8") === stampRecord) return true;
   if (hashFiles(files) !== checksum) return false;
-  if (!hasRecentChange && readFileStamps(files).stamps === stamps) writeToCache(path, entry);
+  if (!hasRecentChange && readFileStamps(files).stamps === stamps) writeToCache(path, stampRecord);
   return true;
 }
 

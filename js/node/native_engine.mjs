@@ -412,14 +412,14 @@ export class NativeEngine {
   /** A message saying that the folder for temporary files has no room for a session; "" if the folder has room. */
   get roomError() {
     const { folder, root } = this.starter;
-    const room = join(folder, "room");
+    const probePath = join(folder, "room");
     try {
-      writeFileSync(room, new Uint8Array(SESSION_BYTES));
+      writeFileSync(probePath, new Uint8Array(SESSION_BYTES));
       return "";
     } catch {
       return `${root} has no room for temporary files; make some, or name another place: TMPDIR`;
     } finally {
-      rmSync(room, { force: true });
+      rmSync(probePath, { force: true });
     }
   }
 
@@ -540,9 +540,11 @@ export class NativeEngine {
    */
   collectCommands(stateIndex) {
     const commands = [];
-    let from = stateIndex;
-    for (; from > 0 && this.states[from].copy === ""; from = this.states[from].parent) commands.push(this.states[from].commands);
-    return { lines: commands.reverse().join(""), copy: this.states[from].copy };
+    let ancestorIndex = stateIndex;
+    for (; ancestorIndex > 0 && this.states[ancestorIndex].copy === ""; ancestorIndex = this.states[ancestorIndex].parent) {
+      commands.push(this.states[ancestorIndex].commands);
+    }
+    return { lines: commands.reverse().join(""), copy: this.states[ancestorIndex].copy };
   }
 
   /**

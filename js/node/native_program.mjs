@@ -24,8 +24,8 @@ import {
 
 const SIGNAL_STATUSES = /** @type {const} */ ({ SIGHUP: 129, SIGINT: 130, SIGTERM: 143 });
 const STARTER_SCRIPT = 'top=$0; . "$top/tools/lib/start.sh"; ';
-const FIND_PROGRAM = `${STARTER_SCRIPT}find_or_build >&2; printf "%s\\n%s" "$program" "$reason"`;
-const FIND_PROVER = `${STARTER_SCRIPT}find_prover; printf "%s\\n%s\\n" "$program" "$reason"; if is_without_program; then echo 1; fi`;
+const FIND_PROGRAM_SCRIPT = `${STARTER_SCRIPT}find_or_build >&2; printf "%s\\n%s" "$program" "$reason"`;
+const FIND_PROVER_SCRIPT = `${STARTER_SCRIPT}find_prover; printf "%s\\n%s\\n" "$program" "$reason"; if is_without_program; then echo 1; fi`;
 
 const IS_WINDOWS = process.platform === "win32";
 const hasStarter = existsSync(join(TOP, "tools/lib/start.sh"));
@@ -58,7 +58,7 @@ let foundProgram = null;
  */
 function findProgram() {
   if (process.env.MCS4) return { program: process.env.MCS4, reason: "", isUnsupported: false };
-  foundProgram ||= runStarter(FIND_PROGRAM) || createNoProgramResult();
+  foundProgram ||= runStarter(FIND_PROGRAM_SCRIPT) || createNoProgramResult();
   return foundProgram;
 }
 
@@ -78,7 +78,7 @@ export function findProverPath() {
   const { MCS4_PROVE: proverName } = process.env;
   if (proverName && !existsSync(proverName)) throw new CommandError(noNamedProverMessage(proverName));
   if (proverName) return proverName;
-  const { program, reason, isUnsupported } = runStarter(FIND_PROVER) || createNoProgramResult();
+  const { program, reason, isUnsupported } = runStarter(FIND_PROVER_SCRIPT) || createNoProgramResult();
   if (program === "" && !isUnsupported) throw new CommandError(noProverMessage(reason));
   return program;
 }

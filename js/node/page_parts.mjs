@@ -2,14 +2,14 @@
 import { readFileSync } from "node:fs";
 import { inflateRawSync } from "node:zlib";
 
-const PAGE = new URL("../../page/fethsaim.html", import.meta.url);
+const PAGE_URL = new URL("../../page/fethsaim.html", import.meta.url);
 
 /**
  * Returns the text of a script element of the page. Throws an error if the page does not have the element.
  * @param {string} id
  */
 function readPagePart(id) {
-  const match = new RegExp(`<script type="[a-z/]+" id="${id}">([^<]*)<`).exec(readFileSync(PAGE, "utf8"));
+  const match = new RegExp(`<script type="[a-z/]+" id="${id}">([^<]*)<`).exec(readFileSync(PAGE_URL, "utf8"));
   if (!match) throw new Error("page/fethsaim.html is not the page of the bench");
   return match[1];
 }

@@ -30,14 +30,14 @@ export function readProjectFolder(folder) {
   if (!stat) throw new ProjectError(file, "there is no such file; it names the files of a project");
   if (!stat.isFile()) throw new ProjectError(file, "it is not a file");
   const project = readProject(readUserFile(file, MAX_USER_TEXT), (path) => findPathError(folder, path), file);
-  const inFolder = (/** @type {string} */ path) => join(folder, path);
+  const pathInFolder = (/** @type {string} */ path) => join(folder, path);
   return {
     ...project,
     folder,
     file,
-    board: inFolder(project.board),
-    program: inFolder(project.program),
-    tests: project.tests.map(inFolder),
-    properties: project.properties.map(inFolder),
+    board: pathInFolder(project.board),
+    program: pathInFolder(project.program),
+    tests: project.tests.map(pathInFolder),
+    properties: project.properties.map(pathInFolder),
   };
 }

@@ -101,10 +101,10 @@ class ProofSession {
   async confirm({ isTest, text }, isGoal) {
     if (!isTest) return true;
     const folder = createTemporaryFolder("prove");
-    const names = ["board_text", "program_text", "found.test"].map((name) => join(folder, name));
-    [this.texts.board.text, this.texts.program.text, text].forEach((content, index) => writeFileSync(names[index], content));
+    const paths = ["board_text", "program_text", "found.test"].map((name) => join(folder, name));
+    [this.texts.board.text, this.texts.program.text, text].forEach((content, index) => writeFileSync(paths[index], content));
     try {
-      const { status } = await runCommand(process.execPath, [process.argv[1], "test", ...names]);
+      const { status } = await runCommand(process.execPath, [process.argv[1], "test", ...paths]);
       return status === (isGoal ? 0 : 1);
     } finally {
       removeFolder(folder);

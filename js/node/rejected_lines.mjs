@@ -53,9 +53,9 @@ export class RejectedLines {
     const makeUnnamedText = (/** @type {string} */ text) => ({ name: "", text, linesBefore: 0 });
     const text = textLines.map((textLine) => `${textLine}\n`).join("");
     const board = this.boardText === null ? undefined : makeUnnamedText(this.boardText);
-    const texts = new RejectedTexts(this.engine, { board, program: makeUnnamedText(text) });
+    const rejectedTexts = new RejectedTexts(this.engine, { board, program: makeUnnamedText(text) });
     const textKind = TEXT_KINDS[kind];
-    return texts.findError({ text: textKind, line: textKind === "board" ? 0 : line, number, words: "" }, text);
+    return rejectedTexts.findError({ text: textKind, line: textKind === "board" ? 0 : line, number, words: "" }, text);
   }
 
   /**
@@ -65,9 +65,9 @@ export class RejectedLines {
    */
   formatAddressLines({ input: { line, words: [kind, first = "", second = ""] } }) {
     if (!this.describeAddress || opensText(line)) return [];
-    const word = /^(break|unbreak|list)$/.test(kind) ? first : kind !== "poke" ? "" : first === "pc" ? second
+    const addressWord = /^(break|unbreak|list)$/.test(kind) ? first : kind !== "poke" ? "" : first === "pc" ? second
       : first.startsWith("rom.") ? first.slice("rom.".length) : "";
-    const address = parseNumber(word);
+    const address = parseNumber(addressWord);
     return address >= 0 && address < ADDRESS_COUNT ? [`    ${this.describeAddress(address)}`] : [];
   }
 

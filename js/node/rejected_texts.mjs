@@ -99,9 +99,9 @@ export class RejectedTexts {
   findLineWithoutRom(text) {
     const { engine, givenTexts: { board } } = this;
     if (!board) return null;
-    const file = engine.begin();
-    engine.serve(file, `wire\n${sentText(board.text, "#")}.\n`, file);
-    const roms = new Set(readBoard(engine.ask(file, "board\n").answers).roms.map(({ chip }) => chip));
+    const state = engine.begin();
+    engine.serve(state, `wire\n${sentText(board.text, "#")}.\n`, state);
+    const roms = new Set(readBoard(engine.ask(state, "board\n").answers).roms.map(({ chip }) => chip));
     const sentSource = sentText(text, ";");
     const [error = null] = findMissingRoms(sentSource.split("\n"), new SourceMap(readProgram(engine, sentSource).map, sentSource), roms)
       .sort((first, second) => first.line - second.line);
@@ -119,8 +119,8 @@ export class RejectedTexts {
     if (number === MISSING_ROM) return this.findLineWithoutRom(text);
     if (line === 0 || number < UNKNOWN_FORM) return null;
     const lines = toAsciiComments(text, ";").split("\n");
-    const facts = { instructions: readManual().instructions, names: findDefinedNames(lines) };
-    return createLineError(lines, { line, number }, facts, describeRefusal);
+    const knownWords = { instructions: readManual().instructions, names: findDefinedNames(lines) };
+    return createLineError(lines, { line, number }, knownWords, describeRefusal);
   }
 
   /**

@@ -11,7 +11,7 @@ import { programEnded, sessionRejectedForReason } from "../words/commands.js";
 const SIGNAL_STATUS_OFFSET = 128;
 
 /** The error that is thrown if the program ends before it has answered. */
-export class ProgramEnded extends CommandError {}
+export class ProgramEndedError extends CommandError {}
 
 /** A running program that serves a session file. */
 export class SessionProcess {
@@ -66,12 +66,12 @@ export class SessionProcess {
   }
 
   /**
-   * Resolves to the next answer lines. Throws ProgramEnded if the program ends before it has printed them.
+   * Resolves to the next answer lines. Throws ProgramEndedError if the program ends before it has printed them.
    * @param {number} count the number of lines
    */
   async readLines(count) {
     while (this.lines.length < count) {
-      if (this.hasEnded) throw new ProgramEnded(programEnded([...this.lines, this.errorOutput.trim()].filter(Boolean).join("; ")));
+      if (this.hasEnded) throw new ProgramEndedError(programEnded([...this.lines, this.errorOutput.trim()].filter(Boolean).join("; ")));
       await /** @type {Promise<void>} */ (new Promise((resolve) => {
         this.wake = resolve;
       }));

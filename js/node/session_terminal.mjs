@@ -8,7 +8,7 @@ import { MAX_SCRIPT_BYTES, readDecodedFile } from "./input_texts.mjs";
 import { print } from "./output.mjs";
 import { readPageData } from "./page_parts.mjs";
 import { describeRefusal } from "./rejected_texts.mjs";
-import { ProgramEnded, SessionProcess } from "./session_process.mjs";
+import { ProgramEndedError, SessionProcess } from "./session_process.mjs";
 import { TerminalPrompt } from "./terminal_prompt.mjs";
 
 /**
@@ -19,10 +19,10 @@ import { TerminalPrompt } from "./terminal_prompt.mjs";
  */
 function makePromptCalls(program, terminal) {
   /** @type {import("./page_parts.mjs").PageData | null} */
-  let data = null;
-  const manual = () => {
-    if (!data) data = readPageData();
-    return data.manual;
+  let pageData = null;
+  const getManual = () => {
+    if (!pageData) pageData = readPageData();
+    return pageData.manual;
   };
   return {
     serve: async (input) => {
@@ -45,10 +45,10 @@ function makePromptCalls(program, terminal) {
     files: completePath,
     findErrors: async (word, text, board) => {
       const { findTextErrors } = await import("./text_errors.mjs");
-      return findTextErrors(word, text, board, { manual: manual(), wordsOf: describeRefusal });
+      return findTextErrors(word, text, board, { manual: getManual(), wordsOf: describeRefusal });
     },
     messageOf: describeRefusal,
-    manual,
+    manual: getManual,
   };
 }
 
@@ -86,7 +86,7 @@ export async function servePrompt(word, name) {
       unservedInput = signalStatus === 0 ? prompt.unfinishedText : "";
     }
   } catch (thrown) {
-    if (!(thrown instanceof ProgramEnded)) throw thrown;
+    if (!(thrown instanceof ProgramEndedError)) throw thrown;
   }
   await endProgram(program, unservedInput);
   return signalStatus || program.status;

@@ -18,7 +18,7 @@ import { CommandError, UsageError, print, printError } from "./output.mjs";
  * `formatOutcome` formats the result of each test. `printCounts` prints the counts at the end.
  * @typedef {{ name: string, RecorderClass: typeof import("../core/testing/recorders.js").ExecutionRecorder,
  *   checkNames?: (names: string[]) => void, formatOutcome?: (outcome: Outcome, number: number, total: number) => string,
- *   printCounts?: (counts: { coverage: Coverage, profile: Profile }, program: InputText) => void }} Tool
+ *   printCounts?: (counts: { coverage: Coverage, profile: Profile }, program: InputText) => void }} TestCommand
  */
 
 /** The maximum number of cycles to run in a session. */
@@ -41,12 +41,12 @@ async function resolveNames(folder, givenNames) {
 /**
  * Runs tests, and prints their results. Resolves to the exit status: 0 if all tests pass, otherwise 1. Throws an error if the board or the
  * program is rejected.
- * @param {Tool} tool
+ * @param {TestCommand} command
  * @param {string | undefined} folder
  * @param {string[]} givenNames
  */
-export async function runTestCommand(tool, folder, givenNames) {
-  const { RecorderClass, checkNames = () => {}, formatOutcome = () => "", printCounts = () => {} } = tool;
+export async function runTestCommand(command, folder, givenNames) {
+  const { RecorderClass, checkNames = () => {}, formatOutcome = () => "", printCounts = () => {} } = command;
   const allNames = await resolveNames(folder, givenNames);
   checkNames(allNames);
   const [boardName, programName, ...names] = allNames;
@@ -70,7 +70,7 @@ export async function runTestCommand(tool, folder, givenNames) {
 /**
  * Runs a copy of a session for a number of cycles, and prints the counts. Resolves to the exit status. Throws an error if the program is
  * rejected, or if ROM contains another program.
- * @param {Tool} tool
+ * @param {TestCommand} command
  * @param {string} session
  * @param {string[]} givenNames
  */
@@ -97,12 +97,12 @@ export async function countCycles({ name, RecorderClass, checkNames = () => {}, 
 
 /**
  * Runs the next cycles of a session if one is named; otherwise runs tests. Resolves to the exit status.
- * @param {Tool} tool
+ * @param {TestCommand} command
  * @param {{ folder?: string, session?: string }} values
  * @param {string[]} givenNames
  */
-export function runTestsOrSession(tool, { folder, session }, givenNames) {
-  if (session === undefined) return runTestCommand(tool, folder, givenNames);
+export function runTestsOrSession(command, { folder, session }, givenNames) {
+  if (session === undefined) return runTestCommand(command, folder, givenNames);
   if (folder !== undefined) throw new UsageError(excludeEachOther("-C", "--session"));
-  return countCycles(tool, session, givenNames);
+  return countCycles(command, session, givenNames);
 }

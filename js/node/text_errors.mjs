@@ -26,7 +26,7 @@ export async function findTextErrors(word, text, board, { manual, wordsOf }) {
   const textBench = await loadBench();
   const isBoard = word === "wire" || word === "wiring";
   if (!isBoard) textBench.setBoard(word === "asm" ? board : null);
-  const search = new TextErrorFinder(textBench.createQueries(), { instructions: readInstructions(manual), tables: boardTables(manual) }, wordsOf);
-  const result = await (isBoard ? search.findInBoard(text, () => true) : search.findInProgram(text, () => true));
+  const finder = new TextErrorFinder(textBench.createQueries(), { instructions: readInstructions(manual), tables: boardTables(manual) }, wordsOf);
+  const result = await (isBoard ? finder.findInBoard(text, () => true) : finder.findInProgram(text, () => true));
   return result ? result.errors : [];
 }

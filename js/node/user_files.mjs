@@ -313,11 +313,11 @@ function readBeginning(name, count) {
  * Throws a UserFileError if a command must not overwrite a file. A command may overwrite an empty file or a file of the kind that it writes, but none
  * of its inputs. New files, devices and pipes are accepted.
  * @param {string} name
- * @param {string} begin the text at the beginning of files of this kind
+ * @param {string} header the text at the beginning of files of this kind
  * @param {string} reason the reason to reject a file of another kind
  * @param {string[]} inputs the names of the files that the command reads
  */
-export function checkOutputFile(name, begin, reason, inputs) {
+export function checkOutputFile(name, header, reason, inputs) {
   const stat = withFileError(`cannot write ${name}`, () => statSync(name, { throwIfNoEntry: false }));
   if (inputs.some((input) => isSameFile(name, input))) throw new UserFileError(say.outputIsInputMessage(name));
   if (stat && stat.isDirectory()) throw new UserFileError(say.fileIsFolderMessage(name));
@@ -328,7 +328,7 @@ export function checkOutputFile(name, begin, reason, inputs) {
     return stat && checkWritable(target, stat);
   });
   const hasContents = stat && stat.isFile() && stat.size > 0;
-  if (hasContents && readBeginning(name, begin.length) !== begin) throw new UserFileError(say.fileOfOtherKindMessage(name, reason));
+  if (hasContents && readBeginning(name, header.length) !== header) throw new UserFileError(say.fileOfOtherKindMessage(name, reason));
 }
 
 // --- new files in a folder ---

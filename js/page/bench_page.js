@@ -72,7 +72,7 @@ export class Page {
     this.confirmDialog = new ConfirmDialog();
     this.testsTab = makeTestsTab(this, manual);
     this.exploreTab = makeExploreTab(this, manual, makeBench);
-    this.appearance = new TextAppearance(this.layout.preferences, this.textEditors.map(({ editor }) => editor.editor));
+    this.appearance = new TextAppearance(this.layout.preferences, this.textEditors.map(({ editor }) => editor.lineEditor));
     this.mistakesView = makeMistakesView(this, makeProblemsView(this));
     this.textsController = makeTextsController(this);
     this.romFiles = makeRomFiles(this);

@@ -132,7 +132,7 @@ export function makeDrawingController(page) {
  */
 export function makeScope(page) {
   /** @type {(values: string[]) => { board: string, program: string, values: string[], watched: string[] }} */
-  const textsWithValues = (values) => ({ board: page.boardEditor.text, program: page.programEditor.text, values,
+  const collectRecordedTexts = (values) => ({ board: page.boardEditor.text, program: page.programEditor.text, values,
     watched: page.breakpoints.manager.watchTexts });
   const scope = new Scope({
     goTo: (address) => page.snapshotView.goTo.show(address),
@@ -144,14 +144,14 @@ export function makeScope(page) {
     name: () => page.currentSession.name,
     boardLines: () => listRecordableLines(page.snapshotView.board, page.boardEditor.text),
     showRecording: (isOn) => page.layout.dock.setMark("waves", isOn ? "records" : ""),
-    startLive: (setup, values) => resultOrReport(page, page.bench.call("recordLive", [textsWithValues(values), setup])),
-    endLive: () => resultOrReport(page, page.bench.call("endRecording", [])),
+    startLive: (setup, values) => awaitOrReport(page, page.bench.call("recordLive", [collectRecordedTexts(values), setup])),
+    endLive: () => awaitOrReport(page, page.bench.call("endRecording", [])),
     record: async (cycles, isBefore, values) => {
       // A recording ends or begins at the current state, so time must be paused.
       await page.runController.pause();
       try {
         return await page.progressView.show(say.RECORDING_LINES,
-          (signal, progress) => page.bench.call("record", [cycles, isBefore, textsWithValues(values)], { signal, progress }));
+          (signal, progress) => page.bench.call("record", [cycles, isBefore, collectRecordedTexts(values)], { signal, progress }));
       } catch (error) {
         if (error instanceof CancelledError) scope.status.set(say.NOTHING_RECORDED);
         else page.recovery.reportFailure(error);
@@ -168,7 +168,7 @@ export function makeScope(page) {
  * @param {Page} page
  * @param {Promise<Result>} call
  */
-async function resultOrReport(page, call) {
+async function awaitOrReport(page, call) {
   try {
     return await call;
   } catch (error) {

@@ -38,20 +38,20 @@ const EDITOR_NAMES = ["board", "program", "tests", "properties"];
  * @param {Page} page
  * @param {string} name the name of the text or panel; with "", nothing changes
  */
-function show({ layout }, name) {
+function showTextOrPanel({ layout }, name) {
   if (name in say.TEXTS) layout.showText(name);
   else if (name) layout.showPanel(name);
 }
 
 /**
  * The components that are created before the page: the theme, the tooltips and the toolbar.
- * @typedef {{ theme: Theme, tips: Tooltips, toolbar: ToolbarView }} PageFrame
+ * @typedef {{ theme: Theme, tooltips: Tooltips, toolbar: ToolbarView }} PageFrame
  * @returns {PageFrame}
  */
 export function makePageFrame() {
   const theme = new Theme(new Preferences());
-  const tips = new Tooltips();
-  return { theme, tips, toolbar: new ToolbarView(tips, theme) };
+  const tooltips = new Tooltips();
+  return { theme, tooltips, toolbar: new ToolbarView(tooltips, theme) };
 }
 
 /**
@@ -90,7 +90,7 @@ function makeTimeCalls(page) {
     goBack: travel.goBack.bind(travel),
     goForward: () => void travel.goForward(),
     canGoForward: () => !button("forward").disabled,
-    runToCursor: () => runToLine(page, programEditor.editor.editor.getCursor().line + 1),
+    runToCursor: () => runToLine(page, programEditor.editor.lineEditor.getCursor().line + 1),
     /** @param {string} line */
     sendLine: (line) => void lineServer.serveLines(line),
     toggleTestPin: () => void lineServer.serveLines(`test ${snapshotView.testSwitch.isOn ? 0 : 1}\n`),
@@ -113,7 +113,7 @@ function makeTextCalls(page) {
   return {
     /** @param {TextName} name */
     sendText: (name) => {
-      show(page, name);
+      showTextOrPanel(page, name);
       page.textEditors[EDITOR_NAMES.indexOf(name)].calls.send();
     },
     /** @param {boolean} isSource */
@@ -122,7 +122,7 @@ function makeTextCalls(page) {
     performTextAction: (textAction) => findFrontEditor() && findFrontEditor().performAction(textAction),
     /** @param {import("./machine/breakpoint_form.js").BreakpointField} [fieldName] */
     toggleOrEditBreakpoint: (fieldName) => {
-      show(page, "program");
+      showTextOrPanel(page, "program");
       if (fieldName) programEditor.editBreakpoint(fieldName);
       else programEditor.toggleBreakpoint();
     },
@@ -134,10 +134,10 @@ function makeTextCalls(page) {
  * @param {Page} page
  */
 function wordAtCaret({ textEditors }) {
-  const focusedEditor = textEditors.find(({ editor }) => editor.editor.view.hasFocus);
+  const focusedEditor = textEditors.find(({ editor }) => editor.lineEditor.view.hasFocus);
   if (!focusedEditor) return "";
-  const { line, ch } = focusedEditor.editor.editor.getCursor();
-  const text = focusedEditor.editor.editor.getLine(line) || "";
+  const { line, ch } = focusedEditor.editor.lineEditor.getCursor();
+  const text = focusedEditor.editor.lineEditor.getLine(line) || "";
   const wordStart = (/[A-Za-z]\w*$/.exec(text.slice(0, ch)) || [""])[0];
   return wordStart + (/^\w*/.exec(text.slice(ch)) || [""])[0];
 }
@@ -183,14 +183,14 @@ export class Commands {
       ...makeTextCalls(page),
       ...makeProjectCalls(page),
       setTheme: (name) => theme.set(name),
-      show: (name) => show(page, name),
+      show: (name) => showTextOrPanel(page, name),
       clickButton: (id, containerName) => {
-        show(page, containerName);
+        showTextOrPanel(page, containerName);
         button(id).click();
       },
       isButtonAvailable: (id) => isAvailable(button(id)),
       focusField: (id, containerName) => {
-        show(page, containerName);
+        showTextOrPanel(page, containerName);
         const details = block(id).closest("details");
         if (details) details.open = true;
         block(id).focus();
@@ -214,7 +214,7 @@ export class Commands {
     return new WelcomeView(this.examples, {
       startTour: () => void guide.tour.startTour(),
       openExample: (name) => sessionsController.openExampleByName(name),
-      showWiring: () => show(this.page, "wiring"),
+      showWiring: () => showTextOrPanel(this.page, "wiring"),
       storeWelcomeShown: () => layout.preferences.set(WELCOME_SHOWN_KEY, "yes"),
     });
   }
@@ -233,7 +233,7 @@ export class Commands {
       projects: () => this.projects,
       show: calls.show,
       showLine: (line) => {
-        show(page, "program");
+        showTextOrPanel(page, "program");
         page.programEditor.editor.goTo({ line: line - 1, ch: 0 });
       },
       showAddress: (address) => page.snapshotView.goTo.show(address),

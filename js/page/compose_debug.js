@@ -48,10 +48,10 @@ export function makeBreakpointsController(page) {
     },
     goTo: (address) => page.snapshotView.goTo.show(address),
     reveal: (line) => page.programEditor.reveal(line),
-    showBelow: (line, node) => page.programEditor.editor.editor.showBelow(line - 1, node),
-    callAfterLayout: (action) => page.programEditor.editor.editor.callAfterLayout(action),
+    showBelow: (line, node) => page.programEditor.editor.lineEditor.showBelow(line - 1, node),
+    callAfterLayout: (action) => page.programEditor.editor.lineEditor.callAfterLayout(action),
     showSource: () => page.layout.showText("program"),
-    focusSource: () => page.programEditor.editor.editor.focus(),
+    focusSource: () => page.programEditor.editor.lineEditor.focus(),
     runTo: (line) => runToLine(page, line),
     ensureSourceChecked: () => page.source.waitForCheck(),
     checkSource: () => page.source.check(),
@@ -83,7 +83,7 @@ export function makeHistoryView(page) {
   listenForRunToLine(snapshotView.listing.block, (node) => snapshotView.listing.rows.addressAt(node), (address) => {
     travel.runToGoal({ kind: "here", address });
   });
-  listenForRunToCaret(block("program-editor"), () => runToLine(page, programEditor.editor.editor.getCursor().line + 1));
+  listenForRunToCaret(block("program-editor"), () => runToLine(page, programEditor.editor.lineEditor.getCursor().line + 1));
   makeLastChangeView(page);
   return new HistoryView({
     runToGoal: (goal) => travel.runToGoal(goal),

@@ -55,17 +55,17 @@ export function makeEditors(page, manual) {
  * @returns {ProblemsView}
  */
 export function makeProblemsView(page) {
-  /** @type {Record<string, import("./text/text_editor_view.js").EditorView>} */
+  /** @type {Record<string, import("./text/text_editor_view.js").TextEditorView>} */
   const editors = { program: page.programEditor, board: page.boardEditor, tests: page.testsTab.editor, properties: page.exploreTab.editor };
-  const problems = new ProblemsView({
+  const problemsView = new ProblemsView({
     goTo: (name, error) => {
       page.layout.showText(name);
       editors[name].goToError(error);
     },
     showCount: (count) => page.layout.dock.setMark("problems", count > 0 ? String(count) : ""),
   });
-  for (const [name, editor] of Object.entries(editors)) editor.onErrorsChange = (errors) => problems.setErrors(name, errors);
-  return problems;
+  for (const [name, editor] of Object.entries(editors)) editor.onErrorsChange = (errors) => problemsView.setErrors(name, errors);
+  return problemsView;
 }
 
 /**
@@ -113,7 +113,7 @@ export function makeTextsController(page) {
       currentSession.adoptTitle(sessionTitle(boardText, page.programEditor.text));
       page.checkSource();
     },
-    source: () => page.bench.call("disassembleRom", []),
+    disassembleRom: () => page.bench.call("disassembleRom", []),
     isProbablyNotProgram: (text) => page.editors.isProbablyNotProgram(text),
     handleLoadedTexts: (shownName, lines) => {
       page.layout.tabs.choose(shownName);

@@ -17,38 +17,38 @@ import { block, button, field } from "./ui/dom.js";
  */
 
 /** The web view API of Visual Studio Code. */
-const editor = globalThis.acquireVsCodeApi();
+const vsCode = globalThis.acquireVsCodeApi();
 let isRunning = false;
 
 /** @type {(key: Key, isDown: boolean) => void} */
-const sendKey = (key, isDown) => editor.postMessage({ place: formatKey(key), isDown });
+const sendKey = (key, isDown) => vsCode.postMessage({ place: formatKey(key), isDown });
 
 /** @type {KeyPresser} */
 const keyPresser = new KeyPresser({
   isRunning: () => isRunning,
-  isDown: (key) => front.isDown(key),
+  isDown: (key) => frontView.isDown(key),
   press: (key) => sendKey(key, true),
   release: (key) => sendKey(key, false),
   change: (word, key) => sendKey(key, word === "press"),
   keyForEvent: (event) => {
     if (event.ctrlKey || event.metaKey || event.altKey || !field("typing").checked || handlesKey(event.target, event.key)) return undefined;
-    return findBoardKey(front.keys, event.key);
+    return findBoardKey(frontView.keys, event.key);
   },
 });
 /**
  * The front panel. Lamps show their perceived brightness while time is running, and their current state while time is paused.
  */
-const front = new FrontView((node, key) => keyPresser.listen(node, key), () => {});
+const frontView = new FrontView((node, key) => keyPresser.listen(node, key), () => {});
 /** The printer view. The debug adapter stores everything that was printed since the board was drawn. */
-const printer = new PrinterView({ setPrinter: () => {}, clear: () => editor.postMessage({ clearsPrintout: true }) });
+const printerView = new PrinterView({ setPrinter: () => {}, clear: () => vsCode.postMessage({ clearsPrintout: true }) });
 keyPresser.listenToKeyboard();
-button("test").addEventListener("click", () => sendKey(pinKey(front.testLevel === "1" ? 0 : 1), true));
+button("test").addEventListener("click", () => sendKey(pinKey(frontView.testLevel === "1" ? 0 : 1), true));
 
 /**
  * Shows an update of the front panel.
  * @param {FrontPanelUpdate | null} update null after the end of debugging
  */
-function show(update) {
+function showUpdate(update) {
   block("front").hidden = update === null;
   block("nothing").hidden = update !== null;
   if (update === null) {
@@ -58,24 +58,24 @@ function show(update) {
   if (update.board) {
     keyPresser.forgetKeys();
     const [board, face] = [readBoard(update.board), new Face(update.boardText || "")];
-    front.draw(board, face);
-    printer.draw(board, face);
+    frontView.draw(board, face);
+    printerView.draw(board, face);
   }
   if (update.isRunning !== undefined) isRunning = update.isRunning;
   if (update.test !== undefined) {
-    front.showTest(update.test);
+    frontView.showTest(update.test);
     button("test").textContent = `TEST ${update.test}`;
     button("test").setAttribute("aria-pressed", String(update.test === "1"));
   }
-  if (update.printed) printer.showPrinted(update.printed);
-  if (update.keys) front.showKeys(update.keys);
-  const marks = update.lamps ?? front.marks;
-  if (update.litShares) front.showBrightness(marks, update.litShares, Infinity);
-  else if (!isRunning) front.showLamps(marks);
+  if (update.printed) printerView.showPrinted(update.printed);
+  if (update.keys) frontView.showKeys(update.keys);
+  const marks = update.lamps ?? frontView.marks;
+  if (update.litShares) frontView.showBrightness(marks, update.litShares, Infinity);
+  else if (!isRunning) frontView.showLamps(marks);
 }
 
 addEventListener("message", ({ data }) => {
-  if (data && data.kind === "boardShown") show(data.update);
+  if (data && data.kind === "boardShown") showUpdate(data.update);
 });
-show(null);
-editor.postMessage({ isReady: true });
+showUpdate(null);
+vsCode.postMessage({ isReady: true });

@@ -44,12 +44,12 @@ function findMissingFeature() {
 
 /**
  * Opens the browser's session store, or creates a store in memory if the browser's store cannot be opened.
- * @param {Promise<Locks>} locks
+ * @param {Promise<Locks>} locksPromise
  * @returns {Promise<SessionStore>}
  */
-async function openStore(locks) {
+async function openStore(locksPromise) {
   try {
-    return await withTimeout(Store.open(locks.then(({ areAvailable }) => areAvailable)));
+    return await withTimeout(Store.open(locksPromise.then(({ areAvailable }) => areAvailable)));
   } catch {
     return new MemoryStore();
   }
@@ -192,11 +192,11 @@ function beginLoading() {
 async function startPage({ unpackingPromise, locksPromise, storePromise }, errorMessages, notice, pageFrame, { examples, manual }) {
   const makeBench = prepareBench(await unpackingPromise, examples);
   const bench = makeBench();
-  const benchStart = bench.start();
+  const startPromise = bench.start();
   const services = { bench, makeBench, errorMessages, notice, examples, manual };
   // The page creates its views while the worker loads the module.
   const pagePromise = createPage(services, pageFrame, locksPromise, storePromise);
-  const [{ page, guide, commands, hasSessions }] = await Promise.all([pagePromise, benchStart]);
+  const [{ page, guide, commands, hasSessions }] = await Promise.all([pagePromise, startPromise]);
   // A worker that dies before it has loaded the module is not replaced.
   bench.listener = page.makeListener();
   const story = readRequestedStory(location.search);
@@ -207,7 +207,7 @@ async function startPage({ unpackingPromise, locksPromise, storePromise }, error
   // The startup time in milliseconds.
   document.body.dataset.ready = String(Math.round(performance.now()));
   // Create the views of the editors that no tab has shown yet.
-  for (const { editor } of page.textEditors) setTimeout(() => editor.editor.prepare());
+  for (const { editor } of page.textEditors) setTimeout(() => editor.lineEditor.prepare());
   // When the user leaves the page, Firefox 153 often does not run functions that have never run before. Therefore, save once now.
   page.currentSession.saveNow();
 }

@@ -2,7 +2,7 @@
 import assert from "node:assert/strict";
 import { test } from "node:test";
 import { readFileSync } from "node:fs";
-import { MAX_MESSAGE, frameMessage } from "../core/server/framing.js";
+import { MAX_MESSAGE_BYTES, frameMessage } from "../core/server/framing.js";
 import { EYE_CYCLES } from "../core/time/mcs4_time.js";
 import { FILES, FakeFile, LOCK, SOURCE, engine, startAdapter } from "./adapter_client.js";
 
@@ -17,13 +17,13 @@ test("responses have the order of the requests and consecutive numbers; an inval
   connection.receive(frameMessage({ seq: 70, type: "request" }));
   connection.receive(frameMessage([]));
   connection.receive(new TextEncoder().encode("Content-Length: 3\r\n\r\n{x}"));
-  connection.receive(new TextEncoder().encode(`Content-Length: ${MAX_MESSAGE + 1}\r\n\r\n`));
-  connection.receive(new Uint8Array(MAX_MESSAGE + 1));
+  connection.receive(new TextEncoder().encode(`Content-Length: ${MAX_MESSAGE_BYTES + 1}\r\n\r\n`));
+  connection.receive(new Uint8Array(MAX_MESSAGE_BYTES + 1));
   await waitFor(({ message }) => (message || "").includes("was not read"));
   const errors = messages.filter(({ success }) => success === false).slice(-4)
     .map(({ request_seq, message }) => `${request_seq} ${message}`);
   const syntaxError = "a message has a number seq, the type \"request\" and a command";
-  const lengthError = `0 a message of ${MAX_MESSAGE + 1} bytes was not read`;
+  const lengthError = `0 a message of ${MAX_MESSAGE_BYTES + 1} bytes was not read`;
   assert.deepEqual(errors, [`70 ${syntaxError}`, `0 ${syntaxError}`, "0 a message is not JSON", lengthError]);
   assert.deepEqual(messages.map(({ seq }) => seq), messages.map((_, index) => index + 1));
 });
@@ -33,15 +33,16 @@ test("a failed launch has an error message, and another launch can follow", asyn
     "/c/mcs4.toml": "board = \"b.toml\"\nprogram = \"/x.asm\"\n" };
   const { getResponse, request } = startAdapter({ ...FILES, ...invalidFiles });
   await request("initialize", {});
-  const launchError = async (args) => (await getResponse("launch", args)).message;
-  assert.match(await launchError(undefined), /^launch needs "project"/);
-  assert.match(await launchError({ program: 3 }), /program must be a text/);
-  assert.match(await launchError({ program: "/none.asm" }), /cannot read \/none.asm/);
-  assert.match(await launchError({ program: "/a.asm" }), /^a.asm, line 1: the assembler cannot read the line \(no 30\)$/);
-  assert.match(await launchError({ program: "/b/b.asm" }), /^there is no board.toml next to \/b\/b.asm/);
-  assert.match(await launchError({ session: "/none.mcs" }), /^\/none.mcs does not exist/);
-  assert.match(await launchError({ project: "/b" }), /^there is no \/b\/mcs4.toml/);
-  assert.match(await launchError({ project: "/c/mcs4.toml" }), /^\/c\/mcs4.toml, line 2: \/x.asm is not a path from the project's folder/);
+  const getLaunchError = async (args) => (await getResponse("launch", args)).message;
+  assert.match(await getLaunchError(undefined), /^launch needs "project"/);
+  assert.match(await getLaunchError({ program: 3 }), /program must be a text/);
+  assert.match(await getLaunchError({ program: "/none.asm" }), /cannot read \/none.asm/);
+  assert.match(await getLaunchError({ program: "/a.asm" }), /^a.asm, line 1: the assembler cannot read the line \(no 30\)$/);
+  assert.match(await getLaunchError({ program: "/b/b.asm" }), /^there is no board.toml next to \/b\/b.asm/);
+  assert.match(await getLaunchError({ session: "/none.mcs" }), /^\/none.mcs does not exist/);
+  assert.match(await getLaunchError({ project: "/b" }), /^there is no \/b\/mcs4.toml/);
+  assert.match(await getLaunchError({ project: "/c/mcs4.toml" }),
+    /^\/c\/mcs4.toml, line 2: \/x.asm is not a path from the project's folder/);
   assert.match((await getResponse("attach", {})).message, /^attach needs "session"/);
   await request("launch", { cwd: "/lock", project: "/lock" });
   assert.equal((await getResponse("launch", LOCK)).message, "launch can be sent only once");
@@ -65,13 +66,14 @@ test("breakpoints at lines, labels and addresses, with conditions, hit counts an
   assert.deepEqual([stop.reason, stop.allThreadsStopped], ["breakpoint", true]);
   assert.deepEqual(await getFrameLines(), [26]);
   await setBreakpoints([{ line: 80, logMessage: "acc {acc}" }, { line: 83, hitCondition: "2", condition: "acc = 1" }]);
-  const { breakpoints: [label, unknown] } =
+  const { breakpoints: [labelBreakpoint, unknownBreakpoint] } =
     await request("setFunctionBreakpoints", { breakpoints: [{ name: "wait" }, { name: "nowhere" }] });
-  assert.deepEqual([label.verified, label.line, unknown.message], [true, 86, "the program has no label nowhere"]);
+  assert.deepEqual([labelBreakpoint.verified, labelBreakpoint.line, unknownBreakpoint.message],
+    [true, 86, "the program has no label nowhere"]);
   const requestedBreakpoints = [{ instructionReference: "0x02F", offset: 2 }];
-  const { breakpoints: [address] } = await request("setInstructionBreakpoints", { breakpoints: requestedBreakpoints });
+  const { breakpoints: [addressBreakpoint] } = await request("setInstructionBreakpoints", { breakpoints: requestedBreakpoints });
   const nextStop = await moveAndWait("continue");
-  assert.deepEqual([nextStop.reason, nextStop.hitBreakpointIds], ["instruction breakpoint", [address.id]]);
+  assert.deepEqual([nextStop.reason, nextStop.hitBreakpointIds], ["instruction breakpoint", [addressBreakpoint.id]]);
   assert.match(getOutput(), /acc 1\n/);
   await request("setInstructionBreakpoints", { breakpoints: [] });
   // The lock's program reads a key only after all keys have been released.
@@ -113,12 +115,12 @@ test("steps over, into, out and back; reverse continue; goto; setting values", a
   assert.match((await getResponse("setExpression", { expression: "r4", value: "x y" })).message, /^x: no such place/);
   assert.match((await getResponse("setExpression", { expression: "r4", value: "r4 = 1" })).message, /is neither a number/);
   assert.equal((await request("setExpression", { expression: "r4", value: "R5 - 0b1110" })).value, "0x1");
-  const completionLabels = async (text) => (await request("completions", { text, column: text.length + 1 })).targets
+  const getCompletionLabels = async (text) => (await request("completions", { text, column: text.length + 1 })).targets
     .map(({ label }) => label);
-  assert.deepEqual((await completionLabels("press ")).slice(0, 3), ["1", "2", "3"]);
-  assert.deepEqual([await completionLabels("r5 > 8 an"), await completionLabels("lamp ope"), await completionLabels("until r1")],
+  assert.deepEqual((await getCompletionLabels("press ")).slice(0, 3), ["1", "2", "3"]);
+  assert.deepEqual([await getCompletionLabels("r5 > 8 an"), await getCompletionLabels("lamp ope"), await getCompletionLabels("until r1")],
     [["anew", "and"], ["open"], ["r1", "r10", "r11", "r12", "r13", "r14", "r15"]]);
-  assert.ok((await completionLabels("back")).includes("back") && (await completionLabels("di")).includes("display"));
+  assert.ok((await getCompletionLabels("back")).includes("back") && (await getCompletionLabels("di")).includes("display"));
   assert.equal((await request("setExpression", { expression: "RAM 0 0x12", value: "r4 + 1" })).value, "0x2");
   assert.equal((await request("setExpression", { expression: "key 5", value: "Down" })).value, "down");
   assert.equal(await evaluate("key 5 down"), "true");
@@ -281,11 +283,11 @@ test("a breakpoint below the last instruction is verified once the program has a
   const files = { ...FILES };
   const { startSession, request, moveAndWait, waitFor } = startAdapter(files);
   await startSession();
-  const { breakpoints: [pending] } = await request("setBreakpoints", { source: SOURCE, breakpoints: [{ line: 500 }] });
-  assert.equal(pending.verified, false);
+  const { breakpoints: [pendingBreakpoint] } = await request("setBreakpoints", { source: SOURCE, breakpoints: [{ line: 500 }] });
+  assert.equal(pendingBreakpoint.verified, false);
   files["/lock/lock.asm"] = `${FILES["/lock/lock.asm"]}${"\n".repeat(500)} NOP\n`;
   await moveAndWait("restart", {});
-  await waitFor(({ event, body }) => event === "breakpoint" && body.breakpoint.id === pending.id && body.breakpoint.verified);
+  await waitFor(({ event, body }) => event === "breakpoint" && body.breakpoint.id === pendingBreakpoint.id && body.breakpoint.verified);
 });
 
 test("at real-time speed, a cycle takes as long as on a real board", async () => {
@@ -300,7 +302,7 @@ test("at real-time speed, a cycle takes as long as on a real board", async () =>
   await request("pause", { threadId: 1 });
   await waitFor(() => getStops().length > stopCount);
   const elapsed = performance.now() - startTime;
-  const { total } = adapter.current.launchResult.session.debugger.session.count;
+  const { total } = adapter.currentSession.launchResult.session.debugger.session.count;
   // The first 1/60 s of machine time is simulated at once, without waiting.
   assert.ok(total > 1000 && total * 0.0108 < elapsed + 17, `${total} cycles in ${elapsed} ms`);
 });
@@ -336,10 +338,10 @@ test("a session file is up to date at each stop, and its breakpoints stay unchan
 test("a session file is created, or opened without a program; a different program is rejected", async () => {
   const sessions = {};
   const files = { ...FILES, "/lock/other.asm": "LDM 1\n" };
-  const creator = startAdapter(files, sessions);
-  await creator.startSession({ ...LOCK, session: "/new.mcs" });
-  await creator.request("disconnect", {});
-  assert.deepEqual(creator.exitStatuses, [0]);
+  const creatingClient = startAdapter(files, sessions);
+  await creatingClient.startSession({ ...LOCK, session: "/new.mcs" });
+  await creatingClient.request("disconnect", {});
+  assert.deepEqual(creatingClient.exitStatuses, [0]);
   sessions["/new.mcs"] = new FakeFile(sessions["/new.mcs"].currentBytes);
   const otherClient = startAdapter(files, sessions);
   await otherClient.request("initialize", {});
@@ -365,23 +367,23 @@ test("a debugged test stops where it fails, or at its end, and can step back", a
   await startSession({ test: "it fails", tests: "/lock/a b.test" });
   const getOutput = () => messages.filter(({ event }) => event === "output").map(({ body }) => body.output).join("");
   assert.match(getOutput(), /^\/lock\/a b\.test:15: it fails: acc is \d+, but must be 9\n/);
-  const getCounter = async () => (await request("stackTrace", { threadId: 1 })).stackFrames[0].instructionPointerReference;
-  const failureAddress = await getCounter();
+  const getProgramCounter = async () => (await request("stackTrace", { threadId: 1 })).stackFrames[0].instructionPointerReference;
+  const failureAddress = await getProgramCounter();
   await moveAndWait("stepBack");
-  assert.notEqual(await getCounter(), failureAddress);
+  assert.notEqual(await getProgramCounter(), failureAddress);
   await request("restart", {});
-  assert.equal(await getCounter(), failureAddress);
+  assert.equal(await getProgramCounter(), failureAddress);
   const passingClient = startAdapter(files);
   await passingClient.startSession({ test: "it goes on", tests: "/lock/a b.test" });
   const passingOutput = passingClient.messages.filter(({ event }) => event === "output").map(({ body }) => body.output).join("");
   assert.match(passingOutput, /The test it goes on passed\./);
-  const launchError = async (launchArguments) => {
+  const getLaunchError = async (launchArguments) => {
     const failingClient = startAdapter(files);
     await failingClient.request("initialize", { adapterID: "mcs4" });
     return (await failingClient.getResponse("launch", launchArguments)).message;
   };
-  assert.match(await launchError({ test: "none", tests: "/lock/a b.test" }), /\/lock\/a b\.test has no test none/);
-  assert.match(await launchError({ test: "it fails" }), /a test needs `tests`/);
+  assert.match(await getLaunchError({ test: "none", tests: "/lock/a b.test" }), /\/lock\/a b\.test has no test none/);
+  assert.match(await getLaunchError({ test: "it fails" }), /a test needs `tests`/);
 });
 
 test("a client that draws the board receives the printout, and can clear it", async () => {

@@ -15,7 +15,7 @@ export const FILES = Object.fromEntries(["board.toml", "lock.asm", "mcs4.toml"].
 export const LOCK = { program: "/lock/lock.asm" };
 export const SOURCE = { path: "/lock/lock.asm" };
 
-const TIMEOUT = 20000;
+const TIMEOUT_MS = 20000;
 
 /**
  * The adapters that the current test has started.
@@ -43,9 +43,9 @@ export class FakeFile {
   }
 
   async replace(bytes, lines, count, check) {
-    const next = bytes.slice();
-    check(engine.serve(next, lines, next).answers);
-    this.currentBytes = next;
+    const newBytes = bytes.slice();
+    check(engine.serve(newBytes, lines, newBytes).answers);
+    this.currentBytes = newBytes;
     this.replacementCount += 1;
   }
 
@@ -88,7 +88,7 @@ export function startAdapter(files = FILES, sessions = {}) {
   startedAdapters.push(adapter);
   let seq = 0;
   const waitFor = async (matches) => {
-    const deadline = performance.now() + TIMEOUT;
+    const deadline = performance.now() + TIMEOUT_MS;
     while (!messages.some(matches)) {
       if (performance.now() > deadline) throw new Error(`no such message arrived: ${JSON.stringify(messages.slice(-3))}`);
       await new Promise(setImmediate);
@@ -101,8 +101,8 @@ export function startAdapter(files = FILES, sessions = {}) {
     connection.receive(frameMessage({ seq, type: "request", command, arguments: args }));
     return seq;
   };
-  const responseTo = (requestNumber) => waitFor((message) => message.type === "response" && message.request_seq === requestNumber);
-  const getResponse = (command, args) => responseTo(sendRequest(command, args));
+  const waitForResponse = (requestNumber) => waitFor((message) => message.type === "response" && message.request_seq === requestNumber);
+  const getResponse = (command, args) => waitForResponse(sendRequest(command, args));
   const request = async (command, args) => {
     const response = await getResponse(command, args);
     assert.ok(response.success, response.message);
@@ -128,7 +128,7 @@ export function startAdapter(files = FILES, sessions = {}) {
   const evaluate = async (expression, context = "watch") => (await request("evaluate", { expression, context })).result;
   const getFrameLines = async () => (await request("stackTrace", { threadId: 1 })).stackFrames.map(({ line }) => line);
   return {
-    adapter, connection, messages, exitStatuses, waitFor, sendRequest, responseTo, getResponse, request, moveAndWait, startSession,
+    adapter, connection, messages, exitStatuses, waitFor, sendRequest, waitForResponse, getResponse, request, moveAndWait, startSession,
     getOutput, evaluate, getFrameLines, getStops, sessions,
   };
 }

@@ -5,7 +5,7 @@ import { test } from "node:test";
 import { frameMessage } from "../core/server/framing.js";
 import { FILES, FakeFile, LOCK, engine, startAdapter } from "./adapter_client.js";
 
-const SHOW = 0x71;
+const SHOW_ADDRESS = 0x71;
 
 /** Returns the session file of the example "lock" after the bench has executed some session lines. */
 function createLockSession(lines = "") {
@@ -51,26 +51,26 @@ test("a failed attach has an error message", async () => {
   const sessions = { "/s.mcs": createLockSession(), "/used.mcs": fileInUse, "/none.mcs": invalidFile };
   const { request, getResponse } = startAdapter({ ...FILES, "/lock/other.asm": "LDM 1\n" }, sessions);
   await request("initialize", {});
-  const attachError = async (args) => (await getResponse("attach", args)).message;
-  assert.equal(await attachError({ program: "/lock/lock.asm" }), "attach needs \"session\", a session file; launch starts a program");
-  assert.equal(await attachError({ session: "/nowhere.mcs" }), "there is no session file /nowhere.mcs");
-  assert.equal(await attachError({ session: "/used.mcs" }), "/used.mcs is in use by mcs4 open (process 7)");
-  assert.match(await attachError({ session: "/none.mcs" }), /^none\.mcs: .* \(no 50\)$/);
-  assert.match(await attachError({ session: "/s.mcs", program: "/lock/other.asm" }), /^other.asm differs from the ROM of s.mcs/);
-  assert.equal(await attachError({ session: "/s.mcs", write: "yes" }), "write must be true or false");
+  const getAttachError = async (args) => (await getResponse("attach", args)).message;
+  assert.equal(await getAttachError({ program: "/lock/lock.asm" }), "attach needs \"session\", a session file; launch starts a program");
+  assert.equal(await getAttachError({ session: "/nowhere.mcs" }), "there is no session file /nowhere.mcs");
+  assert.equal(await getAttachError({ session: "/used.mcs" }), "/used.mcs is in use by mcs4 open (process 7)");
+  assert.match(await getAttachError({ session: "/none.mcs" }), /^none\.mcs: .* \(no 50\)$/);
+  assert.match(await getAttachError({ session: "/s.mcs", program: "/lock/other.asm" }), /^other.asm differs from the ROM of s.mcs/);
+  assert.equal(await getAttachError({ session: "/s.mcs", write: "yes" }), "write must be true or false");
   await request("attach", { session: "/s.mcs" });
 });
 
 test("a waiting request is cancelled at once; a cancelled console line has no effect", async () => {
-  const { startSession, request, sendRequest, responseTo, getResponse, evaluate } = startAdapter();
+  const { startSession, request, sendRequest, waitForResponse, getResponse, evaluate } = startAdapter();
   await startSession();
   const longRequest = sendRequest("evaluate", { expression: `poke r4 7\n${"run 100000\n".repeat(900)}`, context: "repl" });
   const waitingRequest = sendRequest("completions", { text: "r", column: 2 });
   await request("cancel", { requestId: waitingRequest });
-  const response = await responseTo(waitingRequest);
+  const response = await waitForResponse(waitingRequest);
   assert.deepEqual([response.success, response.message, response.command], [false, "cancelled", "completions"]);
   await request("cancel", { requestId: longRequest });
-  assert.equal((await responseTo(longRequest)).message, "cancelled");
+  assert.equal((await waitForResponse(longRequest)).message, "cancelled");
   assert.deepEqual([await evaluate("r4"), await evaluate("seq", "repl")], ["0x0", "seq 2"]);
   assert.equal((await getResponse("cancel", { requestId: 99999 })).success, true);
   assert.match((await getResponse("cancel", { requestId: "1" })).message, /requestId must be a whole number/);
@@ -224,7 +224,7 @@ test("a step enters the chosen call", async () => {
   assert.deepEqual((await getFrameLines()).slice(1), [31]);
   assert.deepEqual(await request("stepInTargets", { frameId: 2 }), { targets: [] });
   assert.match((await getResponse("stepInTargets", { frameId: 9 })).message, /no such frame/);
-  for (const targetId of [SHOW, 4096, 1e9]) {
+  for (const targetId of [SHOW_ADDRESS, 4096, 1e9]) {
     assert.match((await getResponse("stepIn", { threadId: 1, targetId })).message, /no such target/);
   }
 });
@@ -272,7 +272,7 @@ test("after an error in the work that follows a response, later requests are sti
 
 test("a request that arrives while the session file is written is answered", async () => {
   const file = createLockSession();
-  const { startSession, request, sendRequest, responseTo } = startAdapter(FILES, { "/s.mcs": file });
+  const { startSession, request, sendRequest, waitForResponse } = startAdapter(FILES, { "/s.mcs": file });
   await startSession({ session: "/s.mcs" });
   const serveLines = file.ask.bind(file);
   let requestNumber = 0;
@@ -284,7 +284,7 @@ test("a request that arrives while the session file is written is answered", asy
   };
   await request("stepIn", { threadId: 1 });
   for (let turn = 0; turn < 50 && requestNumber === 0; turn++) await new Promise(setImmediate);
-  assert.ok((await responseTo(requestNumber)).success);
+  assert.ok((await waitForResponse(requestNumber)).success);
 });
 
 test("an incomplete message is reported to the client", () => {
@@ -294,5 +294,5 @@ test("an incomplete message is reported to the client", () => {
   assert.equal(messages[0].message, connection.reader.incompleteMessage);
   const otherClient = startAdapter();
   otherClient.connection.receive(new TextEncoder().encode("Content-Len"));
-  assert.equal(otherClient.connection.reportIncomplete(), "only a part of the head of a message has arrived");
+  assert.equal(otherClient.connection.reportIncomplete(), "only a part of the header of a message has arrived");
 });

@@ -154,14 +154,14 @@ test("more RAM characters can be watched than the bench itself watches", async (
 });
 
 /**
- * MISTAKES is a loop that makes a mistake in each iteration: RDR reads a port without inputs. R0 counts the iterations. FAR is the same
- * loop after a delay of about 200,000 cycles.
+ * MISTAKES is a loop that makes a mistake in each iteration: RDR reads a port without inputs. R0 counts the iterations. LATE_MISTAKES is
+ * the same loop after a delay of about 200,000 cycles.
  */
 const MISTAKES = " FIM P1, 0\n SRC P1\nturn: INC R0\n RDR\n JUN turn\n";
-const FAR = ` FIM P2, 0\n FIM P3, 0\nwait: ISZ R4, wait\n ISZ R5, wait\n ISZ R6, wait\n ISZ R7, wait\n${MISTAKES}`;
+const LATE_MISTAKES = ` FIM P2, 0\n FIM P3, 0\nwait: ISZ R4, wait\n ISZ R5, wait\n ISZ R6, wait\n ISZ R7, wait\n${MISTAKES}`;
 
 test("a common mistake stops the machine if its condition holds", async () => {
-  const client = startAdapter({ ...FILES, "/lock/m.asm": MISTAKES, "/lock/far.asm": FAR });
+  const client = startAdapter({ ...FILES, "/lock/m.asm": MISTAKES, "/lock/far.asm": LATE_MISTAKES });
   const { startSession, request, moveAndWait, evaluate, getOutput } = client;
   await startSession({ program: "/lock/m.asm", board: "/lock/board.toml" });
   const filterOptions = [{ filterId: "lines", condition: "r0 = 9" }, { filterId: "nothing" }, { filterId: "chip", condition: "r0 ~ 9" }];
@@ -182,7 +182,7 @@ test("a common mistake stops the machine if its condition holds", async () => {
 });
 
 test("a mistake that happens late in a run is found at its instruction", async () => {
-  const client = startAdapter({ ...FILES, "/lock/far.asm": FAR });
+  const client = startAdapter({ ...FILES, "/lock/far.asm": LATE_MISTAKES });
   await client.startSession({ ...LOCK, program: "/lock/far.asm", board: "/lock/board.toml" });
   await client.request("setExceptionBreakpoints", { filters: ["lines"] });
   const stop = await client.moveAndWait("continue");

@@ -16,7 +16,7 @@ test("going back by one stop undoes the last lines, and going forward restores t
     await calls.serve(lines);
     snapshots.push(calls.ask(ALL_QUERIES));
   }
-  const file = Buffer.from(calls.bench.session.file);
+  const finalFile = Buffer.from(calls.bench.session.file);
   const { total, reset } = calls.bench.session.count;
   for (const snapshot of snapshots.slice(0, -1).reverse()) {
     assert.equal((await calls.goBack({ kind: "stop" })).isDone, true);
@@ -29,7 +29,7 @@ test("going back by one stop undoes the last lines, and going forward restores t
     assert.deepEqual(calls.ask(ALL_QUERIES), snapshot);
   }
   assert.equal(calls.goForward().isDone, false);
-  assert.equal(Buffer.compare(file, calls.bench.session.file), 0);
+  assert.equal(Buffer.compare(finalFile, calls.bench.session.file), 0);
   assert.deepEqual([calls.bench.session.count.total, calls.bench.session.count.reset], [total, reset]);
 });
 
@@ -39,13 +39,13 @@ test("the last change of a place is reported without going back, and is the chan
   const snapshot = calls.ask(ALL_QUERIES);
   const { line, cycles, address } = await calls.findLastChange("r9");
   assert.deepEqual([line, cycles, address], ["poke r9 3", 100, -1]);
-  const lamps = await calls.findLastChange("lamps");
+  const lampChange = await calls.findLastChange("lamps");
   assert.equal((await calls.findLastChange("r15")).isFound, false);
   assert.equal((await calls.findLastChange("ram.7.0")).reason, "lacks");
   assert.deepEqual(calls.ask(ALL_QUERIES), snapshot);
   const travel = await calls.goBack({ kind: "change", place: "lamps" });
-  assert.deepEqual([lamps.from, lamps.to, lamps.cycles], [travel.from, travel.to, travel.cycles]);
-  assert.equal(lamps.address, parseInt(readCounter(calls), 16));
+  assert.deepEqual([lampChange.from, lampChange.to, lampChange.cycles], [travel.from, travel.to, travel.cycles]);
+  assert.equal(lampChange.address, parseInt(readCounter(calls), 16));
 });
 
 test("keys that were pressed while the machine ran are pressed again", async () => {
@@ -63,21 +63,21 @@ test("keys that were pressed while the machine ran are pressed again", async () 
 
 test("going back by an instruction follows the trace, across stops and frames", async () => {
   const calls = await openExample("three lamps");
-  const trace = [];
+  const counters = [];
   for (let step = 0; step < 40; step++) {
-    trace.push(readCounter(calls));
+    counters.push(readCounter(calls));
     await calls.serve("step\n");
   }
-  const copy = await openExample("three lamps");
+  const otherCalls = await openExample("three lamps");
   // Some frames end between the two cycles of an instruction.
-  while (copy.bench.session.count.total < calls.bench.session.count.total) {
-    copy.advance(Math.min(7, calls.bench.session.count.total - copy.bench.session.count.total));
+  while (otherCalls.bench.session.count.total < calls.bench.session.count.total) {
+    otherCalls.advance(Math.min(7, calls.bench.session.count.total - otherCalls.bench.session.count.total));
   }
-  for (const counter of trace.reverse()) {
-    assert.equal((await copy.goBack({ kind: "instruction" })).isDone, true);
-    assert.equal(readCounter(copy), counter);
+  for (const counter of counters.reverse()) {
+    assert.equal((await otherCalls.goBack({ kind: "instruction" })).isDone, true);
+    assert.equal(readCounter(otherCalls), counter);
   }
-  assert.equal((await copy.goBack({ kind: "instruction" })).reason, "short");
+  assert.equal((await otherCalls.goBack({ kind: "instruction" })).reason, "short");
 });
 
 test("going back to the last change ends before the instruction or the command that made it", async () => {
@@ -102,8 +102,8 @@ test("going back to a distant change, made by a command or by an instruction", a
   assert.match(registers, / r .{9}0/);
   assert.match(pokeAnswer, /^ok/);
   assert.equal((await calls.goBack({ kind: "change", place: "r9" })).line, "poke r9 5");
-  const reset = await openExample("three lamps", "run 4000\nreset\nrun 3\n");
-  const result = await reset.goBack({ kind: "change", place: "ram0.0" });
+  const callsWithReset = await openExample("three lamps", "run 4000\nreset\nrun 3\n");
+  const result = await callsWithReset.goBack({ kind: "change", place: "ram0.0" });
   assert.deepEqual([result.line, result.cycles, result.to], ["reset", 3, "0"]);
 });
 

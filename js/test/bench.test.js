@@ -27,9 +27,9 @@ function createClient() {
 
 async function createStartedClient() {
   const { bench, workers } = createClient();
-  const start = bench.start();
+  const startPromise = bench.start();
   workers[0].reply(5);
-  await start;
+  await startPromise;
   return { bench, workers, worker: workers[0] };
 }
 
@@ -113,9 +113,9 @@ test("a script error ends the worker, and another worker can be started", async 
   worker.listeners.error({ preventDefault: () => {} });
   await assert.rejects(answer, WorkerDiedError);
   await assert.rejects(bench.call("ask", ["seq\n"]), WorkerDiedError);
-  const start = bench.start();
+  const startPromise = bench.start();
   workers[1].reply(5);
-  await start;
+  await startPromise;
   // The client ignores a late message from the old worker.
   worker.deliver({ kind: "frame", frame: {} });
   const secondAnswer = bench.call("ask", ["seq\n"]);

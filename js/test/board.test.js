@@ -30,7 +30,7 @@ const describeError = (text) => {
   const error = errorOf(text);
   return error ? `${error.line}: ${error.number} ${error.words}` : "";
 };
-const errorText = (text) => {
+const errorTextOf = (text) => {
   const { line, from, to } = errorOf(text);
   return text.split("\n")[line - 1].slice(from, to);
 };
@@ -90,15 +90,16 @@ test("the page's limits for boards are the limits of the bench", async () => {
     assert.deepEqual([await refusalNumberOf(boardsByCount[kind](maximum)), await refusalNumberOf(boardsByCount[kind](maximum + 1))],
       [0, 27], kind);
   }
-  const columns = (count) => roms + chain(1) + keys(Array(count).fill(column));
-  assert.deepEqual([await refusalNumberOf(columns(MAX_COLUMNS)), await refusalNumberOf(columns(MAX_COLUMNS + 1))], [0, 27]);
+  const boardWithColumns = (count) => roms + chain(1) + keys(Array(count).fill(column));
+  assert.deepEqual([await refusalNumberOf(boardWithColumns(MAX_COLUMNS)), await refusalNumberOf(boardWithColumns(MAX_COLUMNS + 1))],
+    [0, 27]);
   const largestBoard = boardsByCount.rom(16) + boardsByCount.ram(8).replace(/chips = 1/g, "chips = 4") + chain(8).repeat(4);
-  const lamp = (line) => `${largestBoard}[[lamp]]\nline = "${line}"\n`;
-  for (const line of LINE_NAMES) assert.equal(await refusalNumberOf(lamp(line)), 0, line);
+  const boardWithLamp = (line) => `${largestBoard}[[lamp]]\nline = "${line}"\n`;
+  for (const line of LINE_NAMES) assert.equal(await refusalNumberOf(boardWithLamp(line)), 0, line);
   const unknownLines = ["rom16.0", "rom0.4", "rom01.0", "ram8.0.0", "ram0.4.0", "ram0.0.4", "chain4.0", "chain0.80", "chain0.00", "rom0",
     ""];
   for (const line of unknownLines) {
-    assert.deepEqual([LINE_NAMES.has(line), await refusalNumberOf(lamp(line))], [false, 23], line);
+    assert.deepEqual([LINE_NAMES.has(line), await refusalNumberOf(boardWithLamp(line))], [false, 23], line);
   }
   const lines = boardLines({ roms: [{ chip: 3, port: "i001" }], banks: [], chains: [] });
   assert.deepEqual(lines.map(({ name, isInput }) => `${name} ${isInput}`), ["rom3.0 false", "rom3.1 false", "rom3.2 false", "rom3.3 true"]);
@@ -117,8 +118,8 @@ test("texts that are not TOML are reported with their lines", () => {
 test("wrong keys and values are reported", () => {
   assert.equal(describeError('[[rom]]\nchip = 16\nport = "0000"\n'), "2: 23 chip must be a unique number from 0 to 15");
   assert.equal(describeError('[[rom]]\nchip = "0"\nport = "0000"\n'), "2: 23 chip is a number: write 0 without quotes");
-  assert.equal(errorText('[[rom]]\nchip = 16\nport = "0000"\n'), "16");
-  assert.equal(errorText('[[rom]]\nchip = 1\nport = "oooo"\n'), '"oooo"');
+  assert.equal(errorTextOf('[[rom]]\nchip = 16\nport = "0000"\n'), "16");
+  assert.equal(errorTextOf('[[rom]]\nchip = 1\nport = "oooo"\n'), '"oooo"');
   assert.equal(describeError("[[ram]]\nbank = 0\nchip = 1\n"), "3: 21 chip is not a key of ram; chips?");
   assert.deepEqual(errorOf("[[ram]]\nbank = 0\nchip = 1\n").quickFixTexts, ["chips"]);
   assert.equal(describeError("[[ram]]\nbank = 0\n"), "1: 22 this ram lacks chips");
@@ -132,28 +133,30 @@ test("wrong keys and values are reported", () => {
 });
 
 test("parts that the board lacks, and lines of the wrong direction, are reported", () => {
-  const lamp = (line) => `${ROM}${CHAIN}[[ram]]\nbank = 2\nchips = 1\n[[lamp]]\nline = ${line}\n`;
+  const boardWithLamp = (line) => `${ROM}${CHAIN}[[ram]]\nbank = 2\nchips = 1\n[[lamp]]\nline = ${line}\n`;
   assert.equal(describeError(`${ROM}${ROM}`), "5: 24 chip 0 is already in line 1");
-  assert.equal(describeError(lamp('"rom9.0"')), "12: 25 the board has no line rom9.0: no [[rom]] has chip = 9");
-  assert.equal(describeError(lamp('"ram1.0.0"')), "12: 25 the board has no line ram1.0.0: no [[ram]] has bank = 1");
-  assert.equal(describeError(lamp('"ram2.1.0"')), "12: 25 the board has no line ram2.1.0: bank 2 has only chip 0");
-  assert.equal(describeError(lamp('"chain0.10"')), "12: 25 the board has no line chain0.10: chain 0 has bits 0 to 9");
-  assert.equal(describeError(lamp('"chain1.0"')), "12: 25 the board has no chain 1: it has only chain 0");
-  assert.equal(describeError(lamp('"led"')), '12: 23 led is not the name of a line; names are like "rom1.0", "ram0.0.3" and "chain0.5"');
-  assert.equal(describeError(lamp('["rom0.0"]')), "12: 23 line must be a line that is not an input line");
-  assert.equal(describeError(lamp("{}")), "12: 23 line must be a line that is not an input line");
-  assert.equal(describeError(lamp('"rom0.1"')), "12: 26 rom0.1 is an input line (i in its ROM's port); a lamp needs an output line");
+  assert.equal(describeError(boardWithLamp('"rom9.0"')), "12: 25 the board has no line rom9.0: no [[rom]] has chip = 9");
+  assert.equal(describeError(boardWithLamp('"ram1.0.0"')), "12: 25 the board has no line ram1.0.0: no [[ram]] has bank = 1");
+  assert.equal(describeError(boardWithLamp('"ram2.1.0"')), "12: 25 the board has no line ram2.1.0: bank 2 has only chip 0");
+  assert.equal(describeError(boardWithLamp('"chain0.10"')), "12: 25 the board has no line chain0.10: chain 0 has bits 0 to 9");
+  assert.equal(describeError(boardWithLamp('"chain1.0"')), "12: 25 the board has no chain 1: it has only chain 0");
+  assert.equal(describeError(boardWithLamp('"led"')),
+    '12: 23 led is not the name of a line; names are like "rom1.0", "ram0.0.3" and "chain0.5"');
+  assert.equal(describeError(boardWithLamp('["rom0.0"]')), "12: 23 line must be a line that is not an input line");
+  assert.equal(describeError(boardWithLamp("{}")), "12: 23 line must be a line that is not an input line");
+  assert.equal(describeError(boardWithLamp('"rom0.1"')),
+    "12: 26 rom0.1 is an input line (i in its ROM's port); a lamp needs an output line");
   assert.equal(describeError(`${ROM}${CHAIN.replace("rom0.0", "chain0.1")}`),
     "5: 26 chain0.1 is a bit of a chain; clock needs an output line of a ROM or a RAM chip");
-  const matrix = (count, columns) => `${ROM}${CHAIN}[keys]\nchain = 0\nfirst = 5\nrows = ${count}\ncolumns = ${columns}\n`;
-  assert.equal(describeError(matrix(6, '["rom0.1"]')), "11: 25 the rows need bits 5 to 10 of chain 0, which has bits 0 to 9");
-  const columns = matrix(5, '["rom0.1", "rom0.0"]');
-  assert.equal(describeError(columns), "12: 26 rom0.0 is not an input line; a column needs a line of a ROM that is i in its port");
-  assert.equal(errorText(columns), '"rom0.0"');
-  assert.equal(errorText(matrix(5, '["rom0.1", "rom0.4"]')), '"rom0.4"');
-  assert.equal(errorText(matrix(5, '["rom0.1", "rom7.1"]')), '"rom7.1"');
-  assert.match(describeError(matrix(5, '"rom0.1"')), /^12: 23 columns must be an array of 1 to 8 lines/);
-  assert.equal(describeError(matrix(5, `[${'"rom0.1", '.repeat(9)}]`)), "12: 27 a key matrix has at most 8 columns");
+  const boardWithMatrix = (count, columns) => `${ROM}${CHAIN}[keys]\nchain = 0\nfirst = 5\nrows = ${count}\ncolumns = ${columns}\n`;
+  assert.equal(describeError(boardWithMatrix(6, '["rom0.1"]')), "11: 25 the rows need bits 5 to 10 of chain 0, which has bits 0 to 9");
+  const boardText = boardWithMatrix(5, '["rom0.1", "rom0.0"]');
+  assert.equal(describeError(boardText), "12: 26 rom0.0 is not an input line; a column needs a line of a ROM that is i in its port");
+  assert.equal(errorTextOf(boardText), '"rom0.0"');
+  assert.equal(errorTextOf(boardWithMatrix(5, '["rom0.1", "rom0.4"]')), '"rom0.4"');
+  assert.equal(errorTextOf(boardWithMatrix(5, '["rom0.1", "rom7.1"]')), '"rom7.1"');
+  assert.match(describeError(boardWithMatrix(5, '"rom0.1"')), /^12: 23 columns must be an array of 1 to 8 lines/);
+  assert.equal(describeError(boardWithMatrix(5, `[${'"rom0.1", '.repeat(9)}]`)), "12: 27 a key matrix has at most 8 columns");
   assert.equal(describeError(`${ROM}${CHAIN.repeat(5)}`), "20: 27 a board has at most 4 [[chain]]");
 });
 
@@ -212,11 +215,11 @@ test("reading a text takes a number of accesses that is proportional to its leng
 
 test("up to 32 brackets and braces can be open; one more is an error in its line", () => {
   const errorsOf = (text) => readBoardText(text).errors.map(({ line, words }) => `${line}: ${words}`);
-  const tooDeep = "more than 32 brackets and braces are open here";
+  const tooDeepMessage = "more than 32 brackets and braces are open here";
   assert.deepEqual(errorsOf(`\nx = ${"[".repeat(32)}${"]".repeat(32)}\n`), []);
-  assert.deepEqual(errorsOf(`\nx = ${"[".repeat(33)}${"]".repeat(33)}\ny = 1 2\n`), [`2: ${tooDeep}`, "3: the line must end here"]);
-  assert.deepEqual(errorsOf(`x = ${"[\n".repeat(16300)}`).slice(0, 1), [`33: ${tooDeep}`]);
-  assert.deepEqual(errorsOf(`x = ${"{a = [".repeat(10000)}`), [`1: ${tooDeep}`]);
+  assert.deepEqual(errorsOf(`\nx = ${"[".repeat(33)}${"]".repeat(33)}\ny = 1 2\n`), [`2: ${tooDeepMessage}`, "3: the line must end here"]);
+  assert.deepEqual(errorsOf(`x = ${"[\n".repeat(16300)}`).slice(0, 1), [`33: ${tooDeepMessage}`]);
+  assert.deepEqual(errorsOf(`x = ${"{a = [".repeat(10000)}`), [`1: ${tooDeepMessage}`]);
   const [error] = readProjectToml(`board = "b"\nprogram = ${"[".repeat(16300)}`).errors;
-  assert.deepEqual([error.line, error.words], [2, tooDeep]);
+  assert.deepEqual([error.line, error.words], [2, tooDeepMessage]);
 });

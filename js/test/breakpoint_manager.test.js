@@ -36,48 +36,48 @@ function createManager(savedBreakpoints, breaks = []) {
   return { manager, log, bench };
 }
 /** Returns a list that contains the edit from `oldText` to `newText`. */
-function replacementEdit(oldText, newText) {
+function createReplacementEdits(oldText, newText) {
   const removed = oldText.split("\n");
   const to = { line: removed.length - 1, ch: removed[removed.length - 1].length };
   return [{ from: { line: 0, ch: 0 }, to, text: newText.split("\n"), removed, replacesAll: true }];
 }
-const linesAndAddresses = ({ list }) => list.all.map(({ line, address }) => [line, address]);
+const linesAndAddressesOf = ({ list }) => list.all.map(({ line, address }) => [line, address]);
 
 test("opening a session without breakpoints sends no request to the bench", async () => {
   const { manager, log } = createManager(undefined);
   manager.setSourceMap(MAP, "");
-  await manager.allSent;
+  await manager.sendingEnd;
   assert.deepEqual([log.setCalls, log.editCount, log.failures], [[], 0, []]);
 });
 
 test("breakpoints that the bench reports are adopted, and get lines once the source is known", async () => {
   const { manager, log } = createManager(undefined, ["000", "7FF"]);
-  assert.deepEqual(linesAndAddresses(manager), [[0, 0], [0, 0x7FF]]);
+  assert.deepEqual(linesAndAddressesOf(manager), [[0, 0], [0, 0x7FF]]);
   manager.setSourceMap(MAP, "");
-  await manager.allSent;
-  assert.deepEqual([linesAndAddresses(manager), log.setCalls.length, log.editCount], [[[2, 0], [0, 0x7FF]], 1, 0]);
+  await manager.sendingEnd;
+  assert.deepEqual([linesAndAddressesOf(manager), log.setCalls.length, log.editCount], [[[2, 0], [0, 0x7FF]], 1, 0]);
 });
 
 test("a breakpoint at a line without bytes moves to the next instruction, with a message; a second click removes it", async () => {
   const { manager, log, bench } = createManager([]);
   manager.setSourceMap(MAP, "");
   manager.toggleLine(3);
-  await manager.allSent;
-  assert.deepEqual([linesAndAddresses(manager), bench.breaks], [[[4, 2]], ["002"]]);
+  await manager.sendingEnd;
+  assert.deepEqual([linesAndAddressesOf(manager), bench.breaks], [[[4, 2]], ["002"]]);
   assert.deepEqual(log.messages, ["Line 3 puts no bytes into ROM: its breakpoint is at the next instruction, line 4."]);
   manager.toggleLine(3);
   assert.equal(manager.list.all.length, 1);
   manager.toggleLine(4);
-  await manager.allSent;
-  assert.deepEqual([linesAndAddresses(manager), bench.breaks, log.editCount], [[], [], 2]);
+  await manager.sendingEnd;
+  assert.deepEqual([linesAndAddressesOf(manager), bench.breaks, log.editCount], [[], [], 2]);
 });
 
 test("a breakpoint inside an instruction moves to the next instruction, with a message", async () => {
   const { manager, log, bench } = createManager([]);
   manager.setSourceMap(MAP, "");
   manager.updateFromBench(["001"]);
-  await manager.allSent;
-  assert.deepEqual([linesAndAddresses(manager), bench.breaks], [[[4, 2]], ["002"]]);
+  await manager.sendingEnd;
+  assert.deepEqual([linesAndAddressesOf(manager), bench.breaks], [[[4, 2]], ["002"]]);
   assert.deepEqual(log.messages, ["001 is inside the instruction of line 2: its breakpoint is at the next one, line 4."]);
 });
 
@@ -85,17 +85,17 @@ test("typed `break` and `unbreak` lines change the list", async () => {
   const { manager, bench } = createManager([]);
   manager.setSourceMap(MAP, "");
   manager.updateFromBench(["000"]);
-  await manager.allSent;
-  assert.deepEqual(linesAndAddresses(manager), [[2, 0]]);
+  await manager.sendingEnd;
+  assert.deepEqual(linesAndAddressesOf(manager), [[2, 0]]);
   manager.change(manager.list.all[0].id, { isOn: false });
-  await manager.allSent;
+  await manager.sendingEnd;
   assert.deepEqual(bench.breaks, []);
   manager.updateFromBench(["000"]);
-  await manager.allSent;
+  await manager.sendingEnd;
   assert.deepEqual(manager.list.all.map(({ isOn }) => isOn), [true]);
   manager.updateFromBench([]);
-  await manager.allSent;
-  assert.deepEqual(linesAndAddresses(manager), []);
+  await manager.sendingEnd;
+  assert.deepEqual(linesAndAddressesOf(manager), []);
 });
 
 test("a `break` line that is typed during a request also changes the list", async () => {
@@ -112,15 +112,15 @@ test("a `break` line that is typed during a request also changes the list", asyn
   };
   manager.toggleAddress(0x700);
   calls.setBreakpoints = originalSetBreakpoints;
-  await manager.allSent;
-  await manager.allSent;
-  assert.deepEqual([linesAndAddresses(manager), bench.breaks], [[[2, 0], [0, 0x700]], ["000", "700"]]);
+  await manager.sendingEnd;
+  await manager.sendingEnd;
+  assert.deepEqual([linesAndAddressesOf(manager), bench.breaks], [[[2, 0], [0, 0x700]], ["000", "700"]]);
 });
 
 test("a change is sent before the previous one is answered, and the last change determines the error", async () => {
   const { manager } = createManager([{ line: 2, address: 0 }]);
   manager.setSourceMap(MAP, "");
-  await manager.allSent;
+  await manager.sendingEnd;
   const [{ id }] = manager.list.all;
   /** The requests that were sent to the bench, each with a function that answers it. */
   const requests = [];
@@ -131,7 +131,7 @@ test("a change is sent before the previous one is answered, and the last change 
   manager.change(id, { condition: "r4 = 8" });
   assert.deepEqual(requests.map(({ condition }) => condition), ["r4 = 7", "r4 = 8"]);
   for (const { answer } of requests.reverse()) answer();
-  await manager.allSent;
+  await manager.sendingEnd;
   assert.deepEqual([...manager.errors], [[id, "r4 = 8"]]);
   assert.equal(manager.isApplying, false);
 });
@@ -139,16 +139,16 @@ test("a change is sent before the previous one is answered, and the last change 
 test("a condition is stored as it is typed, and the bench gets it once it is entered", async () => {
   const { manager, log } = createManager([{ line: 2, address: 0, isOn: true, condition: "", from: 1, note: "" }, { line: 4, address: 2 }]);
   manager.setSourceMap(MAP, "");
-  await manager.allSent;
+  await manager.sendingEnd;
   const [{ id }] = manager.list.all;
-  const setCount = log.setCalls.length;
+  const setCallCount = log.setCalls.length;
   manager.saveTypedEdit(id, { condition: "r4 = " });
   assert.deepEqual(manager.savedBreakpoints.map(({ condition }) => condition), ["r4 = ", ""]);
-  assert.deepEqual([log.setCalls.length, log.editCount, manager.list.all[0].condition], [setCount, 1, ""]);
+  assert.deepEqual([log.setCalls.length, log.editCount, manager.list.all[0].condition], [setCallCount, 1, ""]);
   manager.saveTypedEdit(id, { condition: "r4 = 7" });
   manager.change(id, { condition: "r4 = 7" });
   manager.change(id, { condition: "r4 = 8" });
-  await manager.allSent;
+  await manager.sendingEnd;
   assert.deepEqual([manager.savedBreakpoints[0].condition, manager.list.all[0].condition], ["r4 = 8", "r4 = 8"]);
   manager.saveTypedEdit(id, { note: "R4 is {r4}" });
   manager.open("two", undefined);
@@ -158,12 +158,12 @@ test("a condition is stored as it is typed, and the bench gets it once it is ent
 test("a failure of the bench is reported once, and the next list is sent", async () => {
   const { manager, log, bench } = createManager([]);
   manager.setSourceMap(MAP, "");
-  const { setBreakpoints: originalSet } = manager.callbacks;
+  const { setBreakpoints: originalSetBreakpoints } = manager.callbacks;
   manager.callbacks.setBreakpoints = async () => { throw new Error("it died"); };
   manager.toggleAddress(0x700);
-  manager.callbacks.setBreakpoints = originalSet;
+  manager.callbacks.setBreakpoints = originalSetBreakpoints;
   manager.toggleAddress(0x701);
-  await manager.allSent;
+  await manager.sendingEnd;
   assert.deepEqual([log.failures.map(({ message }) => message), bench.breaks, manager.isApplying], [["it died"], ["700", "701"], false]);
 });
 
@@ -171,38 +171,38 @@ test("breakpoints can be set in a source that differs from ROM, and stop once it
   const { manager, log, bench } = createManager([]);
   manager.setSourceMap(null, "Source and ROM differ from line 4 (0x002). Assemble to update.");
   manager.toggleLine(4);
-  await manager.allSent;
-  assert.deepEqual([linesAndAddresses(manager), bench.breaks], [[[4, -1]], []]);
+  await manager.sendingEnd;
+  assert.deepEqual([linesAndAddressesOf(manager), bench.breaks], [[[4, -1]], []]);
   assert.match(log.messages[0], /Assemble to update\. Until then this breakpoint stops nothing\.$/);
   assert.deepEqual([...breakpointMarks(manager.list.all, manager.errors).lines.values()],
     [{ mark: "\u25CB", description: "breakpoint: it stops once the source is assembled" }]);
   manager.setSourceMap(MAP, "");
-  await manager.allSent;
+  await manager.sendingEnd;
   assert.deepEqual(bench.breaks, ["002"]);
 });
 
 test("after a program is assembled again, its breakpoints follow their lines, in one request", async () => {
   const { manager, log, bench } = createManager([{ line: 2, address: 0 }, { line: 4, address: 2 }], ["000", "002"]);
   manager.setSourceMap(MAP, "");
-  await manager.allSent;
+  await manager.sendingEnd;
   manager.applyTextEdits([{ from: { line: 0, ch: 7 }, to: { line: 0, ch: 7 }, text: ["", "NOP"], removed: [""] }]);
   manager.setSourceMap(null, "assemble it");
-  await manager.allSent;
-  assert.deepEqual([linesAndAddresses(manager), bench.breaks], [[[3, 0], [5, 2]], ["000", "002"]]);
+  await manager.sendingEnd;
+  assert.deepEqual([linesAndAddressesOf(manager), bench.breaks], [[[3, 0], [5, 2]], ["000", "002"]]);
   const mapAnswer = ["map lines 5 names 0", "line 1 000 0", "line 2 000 1", "line 3 001 2", "line 4 003 0", "line 5 003 1"];
   manager.setSourceMap(new SourceMap(mapAnswer, TEXT.replace("\n", "\nNOP\n")), "");
-  await manager.allSent;
+  await manager.sendingEnd;
   assert.deepEqual([bench.breaks, log.setCalls.length], [["001", "003"], 2]);
 });
 
 test("an invalid condition is reported; a disabled breakpoint is kept; hits are counted", async () => {
   const { manager, bench } = createManager([{ line: 2, address: 0, condition: "no" }, { line: 4, address: 2, isOn: false }]);
   manager.setSourceMap(MAP, "");
-  await manager.allSent;
-  const [first, second] = manager.list.all;
-  assert.deepEqual([[...manager.errors], bench.breaks], [[[first.id, "it is none"]], []]);
-  manager.count({ hits: [[second.id, 2], [second.id, 1]], notes: [], noteCount: 0 });
-  assert.equal(second.hits, 3);
+  await manager.sendingEnd;
+  const [invalidBreakpoint, disabledBreakpoint] = manager.list.all;
+  assert.deepEqual([[...manager.errors], bench.breaks], [[[invalidBreakpoint.id, "it is none"]], []]);
+  manager.count({ hits: [[disabledBreakpoint.id, 2], [disabledBreakpoint.id, 1]], notes: [], noteCount: 0 });
+  assert.equal(disabledBreakpoint.hits, 3);
   assert.deepEqual([...breakpointMarks(manager.list.all, manager.errors).lines.values()].map(({ mark, description }) => (
     `${mark} ${description}`)),
     ["\u25CF breakpoint if no: it stops every time, because of an error: it is none", "\u25CB breakpoint: it is off"]);
@@ -212,14 +212,14 @@ test("an invalid condition is reported; a disabled breakpoint is kept; hits are 
 test("a breakpoint beyond the bench's maximum is kept, but disabled", async () => {
   const { manager, log } = createManager([]);
   for (let address = 0x100; address < 0x121; address++) manager.toggleAddress(address);
-  await manager.allSent;
+  await manager.sendingEnd;
   assert.deepEqual([manager.list.enabledCount, manager.list.all.length, log.messages.length], [32, 33, 1]);
   const disabledBreakpoint = manager.list.all.find(({ isOn }) => !isOn);
   manager.change(disabledBreakpoint.id, { isOn: true });
   assert.deepEqual([manager.list.enabledCount, log.messages.length], [32, 2]);
   manager.remove(manager.list.all[0].id);
   manager.change(disabledBreakpoint.id, { isOn: true });
-  await manager.allSent;
+  await manager.sendingEnd;
   assert.deepEqual([manager.list.enabledCount, log.setCalls.pop().length], [32, 32]);
 });
 
@@ -231,60 +231,60 @@ for (const [length, otherText] of Object.entries(OTHER_PROGRAMS)) {
   test(`breakpoints are restored when a text is replaced by a ${length} one and then put back`, async () => {
     const { manager } = createManager(STORED_BREAKPOINTS, ["000"]);
     manager.setSourceMap(MAP, "");
-    manager.applyTextEdits(replacementEdit(TEXT, otherText));
+    manager.applyTextEdits(createReplacementEdits(TEXT, otherText));
     manager.setSourceMap(null, "assemble it");
     // Load the other program into ROM. Its instructions are on other lines.
     manager.setSourceMap(new SourceMap(["map lines 2 names 0", "line 1 000 0", "line 2 000 1"], OTHER_PROGRAMS.short), "");
-    await manager.allSent;
-    manager.applyTextEdits(replacementEdit(otherText, TEXT));
+    await manager.sendingEnd;
+    manager.applyTextEdits(createReplacementEdits(otherText, TEXT));
     assert.deepEqual(manager.list.savedBreakpoints, STORED_BREAKPOINTS);
     // A breakpoint must also be restored if both texts end with a line feed.
     manager.removeAll();
     manager.toggleLine(1);
-    manager.applyTextEdits(replacementEdit(TEXT, `${otherText}\n`));
-    manager.applyTextEdits(replacementEdit(`${otherText}\n`, TEXT));
-    assert.deepEqual(linesAndAddresses(manager).map(([line]) => line), [2]);
+    manager.applyTextEdits(createReplacementEdits(TEXT, `${otherText}\n`));
+    manager.applyTextEdits(createReplacementEdits(`${otherText}\n`, TEXT));
+    assert.deepEqual(linesAndAddressesOf(manager).map(([line]) => line), [2]);
   });
 }
 
 test("the bench gets the breakpoints of a restored text, even before the source is checked", async () => {
   const { manager, bench } = createManager([{ line: 4, address: 2 }], ["002"]);
   manager.setSourceMap(MAP, "");
-  manager.applyTextEdits(replacementEdit(TEXT, OTHER_PROGRAMS.short));
-  await manager.allSent;
+  manager.applyTextEdits(createReplacementEdits(TEXT, OTHER_PROGRAMS.short));
+  await manager.sendingEnd;
   assert.deepEqual(bench.breaks, []);
-  manager.applyTextEdits(replacementEdit(OTHER_PROGRAMS.short, TEXT));
-  await manager.allSent;
-  assert.deepEqual([bench.breaks, linesAndAddresses(manager)], [["002"], [[4, 2]]]);
+  manager.applyTextEdits(createReplacementEdits(OTHER_PROGRAMS.short, TEXT));
+  await manager.sendingEnd;
+  assert.deepEqual([bench.breaks, linesAndAddressesOf(manager)], [["002"], [[4, 2]]]);
 });
 
 test("changes of breakpoints in the other text stay when the text is restored", () => {
   const { manager } = createManager(STORED_BREAKPOINTS);
-  manager.applyTextEdits(replacementEdit(TEXT, OTHER_PROGRAMS.long));
+  manager.applyTextEdits(createReplacementEdits(TEXT, OTHER_PROGRAMS.long));
   manager.change(manager.list.findByAddress(0).id, { condition: "r5 = 14" });
   manager.toggleAddress(0x700);
-  assert.deepEqual(linesAndAddresses(manager), [[0, 0], [0, 2], [0, 0x700]]);
-  manager.applyTextEdits(replacementEdit(OTHER_PROGRAMS.long, TEXT));
-  assert.deepEqual(linesAndAddresses(manager), [[2, 0], [4, 2], [0, 0x700]]);
+  assert.deepEqual(linesAndAddressesOf(manager), [[0, 0], [0, 2], [0, 0x700]]);
+  manager.applyTextEdits(createReplacementEdits(OTHER_PROGRAMS.long, TEXT));
+  assert.deepEqual(linesAndAddressesOf(manager), [[2, 0], [4, 2], [0, 0x700]]);
   assert.deepEqual(manager.list.all.map(({ condition }) => condition), ["r5 = 14", "", ""]);
 });
 
 test("breakpoints are also restored after another session was open", () => {
   const { manager } = createManager(STORED_BREAKPOINTS);
-  manager.applyTextEdits(replacementEdit(TEXT, OTHER_PROGRAMS.short));
+  manager.applyTextEdits(createReplacementEdits(TEXT, OTHER_PROGRAMS.short));
   const savedBreakpoints = structuredClone(manager.list.savedBreakpoints);
   manager.open("two", undefined);
   manager.open("one", savedBreakpoints);
-  manager.applyTextEdits(replacementEdit(OTHER_PROGRAMS.short, TEXT));
+  manager.applyTextEdits(createReplacementEdits(OTHER_PROGRAMS.short, TEXT));
   assert.deepEqual(manager.list.savedBreakpoints, STORED_BREAKPOINTS);
 });
 
 test("no more breakpoints are restored than can be enabled", () => {
   const { manager } = createManager(Array.from({ length: 32 }, (_, at) => ({ line: at + 1, address: at })));
   const manyLines = Array.from({ length: 32 }, (_, index) => `line ${index}`).join("\n");
-  manager.applyTextEdits(replacementEdit(manyLines, ""));
+  manager.applyTextEdits(createReplacementEdits(manyLines, ""));
   for (let address = 0x100; address < 0x110; address++) manager.toggleAddress(address);
-  manager.applyTextEdits(replacementEdit("", manyLines));
+  manager.applyTextEdits(createReplacementEdits("", manyLines));
   assert.deepEqual([manager.list.enabledCount, manager.list.all.length, manager.list.all[31].isOn], [32, 48, true]);
 });
 

@@ -96,8 +96,8 @@ test("the perceived brightness is the share of lit cycles in the trace, within 2
   for (let frame = 0; frame < 30; frame++) {
     brightness.add(calls.advance(FRAME_CYCLES).litShares, FRAME_MS);
     if (frame <= 9) continue;
-    brightness.lamps.forEach((share, lamp) => (
-      assert.ok(Math.abs(share - expectedShares[lamp]) < 0.02, `${brightness.lamps} of ${expectedShares}`)));
+    brightness.lampDuties.forEach((share, lamp) => (
+      assert.ok(Math.abs(share - expectedShares[lamp]) < 0.02, `${brightness.lampDuties} of ${expectedShares}`)));
   }
 });
 
@@ -120,42 +120,42 @@ test("a scanned lamp is lit while both of its lines are 1, exactly", async () =>
 test("each multiplexed digit shows the pattern that it has longest while it is lit", () => {
   const face = new Face("# display 0: 3 digits of 7 segments with points scanned by 8\n# lamp 11: minus\n");
   const text = new DisplayText(face.groups, [{ lamp: 11, text: "minus" }]);
-  const marks = (segments, digits, minus) => segments.padEnd(8, ".") + digits + minus;
-  const trace = (...rows) => [`trace ran ${rows.length * 100} end lines ${rows.length - 1} ${rows[0]}`,
+  const formatMarks = (segments, digits, minus) => segments.padEnd(8, ".") + digits + minus;
+  const formatTrace = (...rows) => [`trace ran ${rows.length * 100} end lines ${rows.length - 1} ${rows[0]}`,
     ...rows.slice(1).map((row, index) => `${index * 100 + 99} 000 ${row}`)];
-  const read = (...rows) => {
-    const { number, names } = new PerceivedText(face, 12).read(trace(...rows));
+  const readPerceivedText = (...rows) => {
+    const { number, names } = new PerceivedText(face, 12).read(formatTrace(...rows));
     return [number, names];
   };
   // The first digit is a 4 with faint segments of the previous digit. The second is a 2 with its decimal point. The third is never on.
-  const four = marks(".**..**", "*..", "*");
-  const two = marks("**.**.**", ".*.", ".");
-  const ghost = marks(".**..**", ".*.", "*");
-  assert.deepEqual(read(four, ghost, two, two), ["-42. ", ""]);
-  assert.deepEqual(read(marks("***....", "***", ".")), ["777", ""]);
+  const four = formatMarks(".**..**", "*..", "*");
+  const two = formatMarks("**.**.**", ".*.", ".");
+  const ghost = formatMarks(".**..**", ".*.", "*");
+  assert.deepEqual(readPerceivedText(four, ghost, two, two), ["-42. ", ""]);
+  assert.deepEqual(readPerceivedText(formatMarks("***....", "***", ".")), ["777", ""]);
   assert.equal(text.read(two).number, "2. ");
 });
 
 test("the edges of a line are reported exactly, and its sound samples have the right pitch", async () => {
   const calls = await openSession(PULSE_EXAMPLE);
   calls.watchBuzzer("rom0.0");
-  let level = -1;
+  let previousLevel = -1;
   for (const cycles of [3, 40, FRAME_CYCLES, 1]) {
     const lampLines = calls.ask(`lamps\n${"run 1\nlamps\n".repeat(cycles)}`).filter((line) => line.startsWith("lamps")).slice(0, cycles);
     const expected = lampLines.map((line) => (line["lamps ".length] === "*" ? 1 : -1));
     assert.deepEqual([...soundSamples(calls.advance(cycles).buzzerLevels)], expected);
   }
   const buffer = new SampleBuffer(4200);
-  let [rises, count] = [0, 0];
+  let [riseCount, sampleCount] = [0, 0];
   for (let frame = 0; frame < 60; frame++) {
     for (const sample of buffer.add(calls.advance(FRAME_CYCLES).buzzerLevels) || []) {
-      rises += Number(sample > level && level === -1 && count > 0);
-      level = sample;
-      count += 1;
+      riseCount += Number(sample > previousLevel && previousLevel === -1 && sampleCount > 0);
+      previousLevel = sample;
+      sampleCount += 1;
     }
   }
   // An iteration of the program's loop takes 41 cycles.
-  assert.ok(Math.abs(rises / count - 1 / 41) < 0.01 / 41, `${rises} in ${count}`);
+  assert.ok(Math.abs(riseCount / sampleCount - 1 / 41) < 0.01 / 41, `${riseCount} in ${sampleCount}`);
   calls.watchBuzzer("");
   assert.equal(calls.advance(100).buzzerLevels, null);
 });
@@ -176,29 +176,29 @@ function createLamp() {
 test("the brightness of a flickering lamp rises, and falls, by 63 % within the persistence time", () => {
   const { brightness, simulate } = createLamp();
   for (let part = 0; part < 10; part++) simulate(0.8, EYE_PERSISTENCE_MS / 10, { first: 1, longest: 8, rest: 7 });
-  assert.ok(Math.abs(brightness.lamps[0] - 0.8 * (1 - Math.exp(-1))) < 1e-9);
+  assert.ok(Math.abs(brightness.lampDuties[0] - 0.8 * (1 - Math.exp(-1))) < 1e-9);
   simulate(1, Infinity);
-  assert.equal(brightness.lamps[0], 1);
+  assert.equal(brightness.lampDuties[0], 1);
   simulate(0, EYE_PERSISTENCE_MS);
-  assert.ok(Math.abs(brightness.lamps[0] - Math.exp(-1)) < 1e-9);
+  assert.ok(Math.abs(brightness.lampDuties[0] - Math.exp(-1)) < 1e-9);
   brightness.begin("*");
-  assert.equal(brightness.lamps[0], 1);
+  assert.equal(brightness.lampDuties[0], 1);
   assert.deepEqual([0, 0.25, 1, 2].map(perceivedBrightness), [0, 0.53, 1, 1]);
 });
 
 test("a steady lamp has full brightness at once, and fades when it goes out; a short flash is visible, but not on", () => {
   const { brightness, simulate } = createLamp();
   simulate(0.3, FRAME_MS, { first: 70, longest: 0, rest: 30 });
-  assert.deepEqual([brightness.lamps, brightness.isOn], [[1], [true]]);
+  assert.deepEqual([brightness.lampDuties, brightness.isOn], [[1], [true]]);
   simulate(0.4, FRAME_MS, { first: 40, longest: 0, rest: 60 }, ".");
   assert.deepEqual(brightness.isOn, [true]);
   simulate(0, FRAME_MS);
   assert.deepEqual(brightness.isOn, [false]);
-  assert.ok(brightness.lamps[0] > 0.3 && brightness.lamps[0] < 0.5, String(brightness.lamps[0]));
+  assert.ok(brightness.lampDuties[0] > 0.3 && brightness.lampDuties[0] < 0.5, String(brightness.lampDuties[0]));
   for (let frame = 0; frame < 30; frame++) simulate(0, FRAME_MS);
-  assert.deepEqual(brightness.lamps, [0]);
+  assert.deepEqual(brightness.lampDuties, [0]);
   simulate(0.06, FRAME_MS, { first: 10, longest: 6, rest: 84 }, ".");
-  assert.ok(brightness.lamps[0] > 0.02 && brightness.lamps[0] < 0.03, String(brightness.lamps[0]));
+  assert.ok(brightness.lampDuties[0] > 0.02 && brightness.lampDuties[0] < 0.03, String(brightness.lampDuties[0]));
   assert.deepEqual(brightness.isOn, [false]);
 });
 
@@ -206,23 +206,23 @@ test("a lamp that is steady within a frame is steady once it stays unchanged for
   const { brightness, simulate } = createLamp();
   // In 20 ms, the lamp stays unchanged for 2 ms, then 8 ms, then 10 ms.
   simulate(0.5, 20, { first: 10, longest: 40, rest: 50 });
-  assert.ok(Math.abs(brightness.lamps[0] - 0.5 * (1 - Math.exp(-20 / EYE_PERSISTENCE_MS))) < 1e-9, String(brightness.lamps[0]));
+  assert.ok(Math.abs(brightness.lampDuties[0] - 0.5 * (1 - Math.exp(-20 / EYE_PERSISTENCE_MS))) < 1e-9, String(brightness.lampDuties[0]));
   simulate(1, 5);
-  assert.ok(brightness.lamps[0] < 0.5, String(brightness.lamps[0]));
+  assert.ok(brightness.lampDuties[0] < 0.5, String(brightness.lampDuties[0]));
   simulate(1, 5);
-  assert.deepEqual(brightness.lamps, [1]);
+  assert.deepEqual(brightness.lampDuties, [1]);
 });
 
 test("a lamp that changes faster than the eye can follow is never steady", () => {
   const { brightness, simulate } = createLamp();
   // The lamp is off for 12 ms and on for 8 ms. It is sampled every 4 ms.
-  for (let turn = 0; turn < 50; turn++) {
+  for (let period = 0; period < 50; period++) {
     simulate(0, 4, { first: 0, longest: 0, rest: 100 });
     simulate(0, 4);
     simulate(0, 4);
     simulate(1, 4, { first: 0, longest: 0, rest: 100 });
     simulate(1, 4);
-    if (turn > 10) assert.ok(brightness.lamps[0] > 0.4 && brightness.lamps[0] < 0.6, String(brightness.lamps[0]));
+    if (period > 10) assert.ok(brightness.lampDuties[0] > 0.4 && brightness.lampDuties[0] < 0.6, String(brightness.lampDuties[0]));
   }
 });
 
@@ -238,13 +238,13 @@ test("digits that are shifted in appear at once when they are complete, and noth
   let immediateCount = 0;
   [[2, 0, "1"], [2, 1, "12"], [2, 2, "123"], [1, 0, "1234"], [1, 1, "12345"], [1, 2, "123456"]].forEach(([row, column, number], index) => {
     const key = matrixKey(row, column);
-    const before = simulate(FRAME_CYCLES + 137 * index);
+    const numberBefore = simulate(FRAME_CYCLES + 137 * index);
     // At the key press, some cycles are simulated early, as on the page. The loop below simulates whole frames.
     immediateCount += Number(simulate(2 * FRAME_CYCLES - 100 * index, key) === number);
     calls.release(key);
     const numbers = new Set();
     for (let frame = 0; frame < 6; frame++) numbers.add(simulate(FRAME_CYCLES));
-    numbers.delete(before);
+    numbers.delete(numberBefore);
     assert.deepEqual([...numbers], [number]);
   });
   assert.equal(immediateCount, 6);

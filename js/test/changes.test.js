@@ -15,15 +15,15 @@ function createFakeCell() {
 
 test("a value that differs from the previous stop is marked, however long ago it changed", () => {
   const changes = new Changes();
-  const [first, second] = [createFakeCell(), createFakeCell()];
-  for (const cell of [first, second]) changes.set(cell, "0");
+  const [firstCell, secondCell] = [createFakeCell(), createFakeCell()];
+  for (const cell of [firstCell, secondCell]) changes.set(cell, "0");
   changes.handlePaused();
-  assert.deepEqual([first.isMarked(), second.isMarked()], [false, false]);
-  changes.set(first, "5");
+  assert.deepEqual([firstCell.isMarked(), secondCell.isMarked()], [false, false]);
+  changes.set(firstCell, "5");
   for (let frame = 0; frame < 200; frame++) changes.handleRunning();
-  assert.equal(first.isMarked(), false);
+  assert.equal(firstCell.isMarked(), false);
   changes.handlePaused();
-  assert.deepEqual([first.isMarked(), second.isMarked()], [true, false]);
+  assert.deepEqual([firstCell.isMarked(), secondCell.isMarked()], [true, false]);
 });
 
 test("a value that has changed back is not marked", () => {
@@ -51,13 +51,13 @@ test("marks stay while nothing happens, and disappear when the machine runs", ()
 
 test("each stop compares values with the stop before it", () => {
   const changes = new Changes();
-  const [first, second] = [createFakeCell(), createFakeCell()];
-  for (const cell of [first, second]) changes.set(cell, "0");
-  changes.set(first, "1");
+  const [firstCell, secondCell] = [createFakeCell(), createFakeCell()];
+  for (const cell of [firstCell, secondCell]) changes.set(cell, "0");
+  changes.set(firstCell, "1");
   changes.handlePaused();
-  changes.set(second, "1");
+  changes.set(secondCell, "1");
   changes.handlePaused();
-  assert.deepEqual([first.isMarked(), second.isMarked()], [false, true]);
+  assert.deepEqual([firstCell.isMarked(), secondCell.isMarked()], [false, true]);
 });
 
 test("cells of a new board have no marks", () => {

@@ -7,8 +7,9 @@ import { CYCLES_PER_SECOND } from "../core/time/mcs4_time.js";
 import { SPEEDS, findSpeed } from "../core/time/speeds.js";
 
 /**
- * Returns a running clock at time 0, the calls with which it runs the machine (`calls`), and all its reports (`log`). `setTime` sets the
- * time. `advanceTo` also delivers an animation frame.
+ * Returns a running clock at time 0, the calls with which it runs the machine (`calls`), and a stand-in for the bench (`bench`). The
+ * stand-in has the clock's reports, and its `advance` returns `pendingCall` unless that is null. `setTime` sets the time. `advanceTo` also
+ * delivers an animation frame.
  */
 function startClock(speed = "real") {
   let now = 0;
@@ -19,16 +20,16 @@ function startClock(speed = "real") {
   globalThis.requestAnimationFrame = (callback) => { frameCallback = callback; };
   globalThis.cancelAnimationFrame = () => { frameCallback = null; };
   const calls = [];
-  const log = { calls, failures: [], standstillCount: 0, pendingCall: null };
+  const bench = { failures: [], standstillCount: 0, pendingCall: null };
   const clock = new Clock({
     advance: (cycles, key) => {
       calls.push(key ? [cycles, key] : [cycles]);
-      return log.pendingCall || Promise.resolve();
+      return bench.pendingCall || Promise.resolve();
     },
     runInstruction: async () => { calls.push(["instruction"]); },
     runAtFullSpeed: async () => { calls.push(["full"]); },
-    reportStandstill: () => { log.standstillCount += 1; },
-    reportFailure: (error) => log.failures.push(error),
+    reportStandstill: () => { bench.standstillCount += 1; },
+    reportFailure: (error) => bench.failures.push(error),
   });
   clock.setSpeed(findSpeed(speed));
   clock.start();
@@ -38,7 +39,7 @@ function startClock(speed = "real") {
     if (frameCallback) frameCallback(time);
     await flushPromises();
   };
-  return { clock, log, calls, setTime, advanceTo };
+  return { clock, bench, calls, setTime, advanceTo };
 }
 
 const flushPromises = () => new Promise((resolve) => setImmediate(resolve));
@@ -68,11 +69,11 @@ test("the clock is ahead while cycles have been simulated early", async () => {
 });
 
 test("during a call, the caller must send the key, and the cycles follow at the end of the call", async () => {
-  const { clock, log, calls, setTime, advanceTo } = startClock();
+  const { clock, bench, calls, setTime, advanceTo } = startClock();
   let endCall = () => {};
-  log.pendingCall = new Promise((resolve) => { endCall = resolve; });
+  bench.pendingCall = new Promise((resolve) => { endCall = resolve; });
   await advanceTo(10);
-  log.pendingCall = null;
+  bench.pendingCall = null;
   setTime(12);
   assert.equal(clock.simulateKeyPress(matrixKey(0, 1)), false);
   assert.deepEqual(calls, [[925]]);
@@ -84,15 +85,15 @@ test("during a call, the caller must send the key, and the cycles follow at the 
 });
 
 test("if the clock stops during a call, no cycles follow, and none are due after a restart", async () => {
-  const { clock, log, calls, setTime, advanceTo } = startClock();
+  const { clock, bench, calls, setTime, advanceTo } = startClock();
   setTime(5);
   clock.simulateKeyPress(matrixKey(0, 1));
   await flushPromises();
   setTime(6);
   let endCall = () => {};
-  log.pendingCall = new Promise((resolve) => { endCall = resolve; });
+  bench.pendingCall = new Promise((resolve) => { endCall = resolve; });
   await advanceTo(40);
-  log.pendingCall = null;
+  bench.pendingCall = null;
   assert.equal(clock.simulateKeyPress(matrixKey(0, 2)), false);
   clock.stop();
   endCall();
@@ -127,7 +128,7 @@ test("no cycles are simulated early while paused, at full speed or in slow motio
 });
 
 test("a hidden page simulates no key press, and skips the time for which it was hidden", async () => {
-  const { clock, calls, log, setTime, advanceTo } = startClock();
+  const { clock, calls, bench, setTime, advanceTo } = startClock();
   clock.simulateKeyPress(matrixKey(0, 1));
   await flushPromises();
   globalThis.document.hidden = true;
@@ -136,17 +137,17 @@ test("a hidden page simulates no key press, and skips the time for which it was 
   assert.equal(clock.simulateKeyPress(matrixKey(0, 2)), false);
   globalThis.document.hidden = false;
   await advanceTo(9000);
-  assert.equal(log.standstillCount, 1);
+  assert.equal(bench.standstillCount, 1);
   await advanceTo(9010);
   assert.deepEqual(calls, [[1543, matrixKey(0, 1)], [925]]);
 });
 
 test("a failed call is reported, and the next frame continues", async () => {
-  const { calls, log, advanceTo } = startClock();
-  log.pendingCall = Promise.reject(new Error("trap"));
+  const { calls, bench, advanceTo } = startClock();
+  bench.pendingCall = Promise.reject(new Error("trap"));
   await advanceTo(10);
-  log.pendingCall = null;
-  assert.deepEqual(log.failures.map(({ message }) => message), ["trap"]);
+  bench.pendingCall = null;
+  assert.deepEqual(bench.failures.map(({ message }) => message), ["trap"]);
   await advanceTo(20);
   assert.deepEqual(calls, [[925], [926]]);
 });

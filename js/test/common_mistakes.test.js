@@ -22,20 +22,20 @@ before(async () => {
 });
 
 /** Returns a debug session with a program and its source map. */
-function openSession(program) {
+function openDebugger(program) {
   const session = new DebugSession(engine, { board: BOARD, program });
   assert.deepEqual(session.rejectedTexts, []);
   const text = sentText(program, ";");
-  const debug = session.debugger;
-  debug.commonMistakes.map = new SourceMap(readProgram(engine, text).map, text);
-  debug.beginMove();
-  return debug;
+  const benchDebugger = session.debugger;
+  benchDebugger.commonMistakes.map = new SourceMap(readProgram(engine, text).map, text);
+  benchDebugger.beginMove();
+  return benchDebugger;
 }
 
 /** Returns the mistakes that are reported while a program runs for `frames` frames, each with its source line. */
-function findMistakes(program, frames = 3, debug = openSession(program)) {
-  const mistakes = Array.from({ length: frames }, () => debug.advance(1543).tally.mistakes).flat();
-  return mistakes.map(({ address, message }) => `${debug.commonMistakes.map.lineOf(address)}: ${message}`);
+function findMistakes(program, frames = 3, benchDebugger = openDebugger(program)) {
+  const mistakes = Array.from({ length: frames }, () => benchDebugger.advance(1543).tally.mistakes).flat();
+  return mistakes.map(({ address, message }) => `${benchDebugger.commonMistakes.map.lineOf(address)}: ${message}`);
 }
 
 test("each mistake is reported once, with its line", () => {
@@ -80,68 +80,70 @@ test("a correct program has no reports", () => {
 });
 
 test("the machine pauses before a selected mistake, and then continues", () => {
-  const debug = openSession("LDM 1\nFIM P0, 0x10\nSRC P0\nWRR\nLDM 2\nend: JUN end\n");
-  debug.commonMistakes.stoppingKinds.add("lines");
-  const frame = debug.advance(1543);
-  assert.deepEqual([frame.cycles, frame.stop.reason, frame.tally.mistakes.length, debug.counter], [4, "usual", 1, 4]);
-  debug.beginMove();
-  const next = debug.advance(1543);
-  assert.deepEqual([next.cycles, next.stop, next.tally.mistakes], [1543, null, []]);
+  const benchDebugger = openDebugger("LDM 1\nFIM P0, 0x10\nSRC P0\nWRR\nLDM 2\nend: JUN end\n");
+  benchDebugger.commonMistakes.stoppingKinds.add("lines");
+  const frame = benchDebugger.advance(1543);
+  assert.deepEqual([frame.cycles, frame.stop.reason, frame.tally.mistakes.length, benchDebugger.counter], [4, "usual", 1, 4]);
+  benchDebugger.beginMove();
+  const nextFrame = benchDebugger.advance(1543);
+  assert.deepEqual([nextFrame.cycles, nextFrame.stop, nextFrame.tally.mistakes], [1543, null, []]);
   assert.deepEqual(Object.keys(KINDS).length, 6);
 });
 
 test("a mistake is reported once in each run", () => {
   const program = "turn: FIM P0, 0x10\nSRC P0\nWRR\nJUN turn\n";
-  const debug = openSession(program);
-  assert.equal(findMistakes(program, 5, debug).length, 1);
-  debug.beginMove();
-  assert.equal(findMistakes(program, 5, debug).length, 1);
+  const benchDebugger = openDebugger(program);
+  assert.equal(findMistakes(program, 5, benchDebugger).length, 1);
+  benchDebugger.beginMove();
+  assert.equal(findMistakes(program, 5, benchDebugger).length, 1);
 });
 
 test("after a while only samples are checked, and all cycles again after a key press", () => {
-  const debug = openSession("turn: JUN turn\n");
+  const benchDebugger = openDebugger("turn: JUN turn\n");
   const countChecks = () => {
     let count = 0;
-    for (let frame = 0; frame < 32; frame++) count += Number(debug.commonMistakes.cyclesToCheck([{ line: "run 1543", change: null }]) > 0);
+    for (let frame = 0; frame < 32; frame++) {
+      count += Number(benchDebugger.commonMistakes.cyclesToCheck([{ line: "run 1543", change: null }]) > 0);
+    }
     return count;
   };
   assert.equal(countChecks(), 32);
-  assert.equal(debug.commonMistakes.cyclesToCheck([{ line: "run 8000000", change: null }]), 50000 - 32 * 1543);
-  debug.beginMove();
-  assert.equal(debug.commonMistakes.cyclesToCheck([{ line: "run 8000000", change: null }]), 10000);
-  debug.commonMistakes.remainingCycles = 0;
+  assert.equal(benchDebugger.commonMistakes.cyclesToCheck([{ line: "run 8000000", change: null }]), 50000 - 32 * 1543);
+  benchDebugger.beginMove();
+  assert.equal(benchDebugger.commonMistakes.cyclesToCheck([{ line: "run 8000000", change: null }]), 10000);
+  benchDebugger.commonMistakes.remainingCycles = 0;
   assert.equal(countChecks(), 2);
-  debug.commonMistakes.cyclesToCheck([
+  benchDebugger.commonMistakes.cyclesToCheck([
     { line: "press 0 0", change: { key: matrixKey(0, 0), word: "press" } }, { line: "run 5", change: null }]);
   assert.equal(countChecks(), 32);
 });
 
 test("during a key press, mistakes are checked after the lamps are reported, and reported with the next frame", () => {
   const program = "JMS a\nend: JUN end\na: FIM P0, 0x10\nSRC P0\nWRR\nBBL 0\n";
-  const [immediateSession, deferredSession] = [openSession(program), openSession(program)];
-  for (const session of [immediateSession, deferredSession]) session.session.queue.press(pinKey(1));
-  const expected = immediateSession.advance(1543).tally.mistakes;
-  assert.equal(expected.length, 1);
-  const frame = deferredSession.advance(1543, true);
-  assert.deepEqual([frame.tally.mistakes, deferredSession.lateMistakes], [[], []], "nothing is checked before the report");
-  deferredSession.checkLastLines();
-  deferredSession.checkLastLines();
-  assert.deepEqual(deferredSession.advance(1543, true).tally.mistakes, expected);
-  deferredSession.checkLastLines();
-  assert.deepEqual(deferredSession.advance(1543).tally.mistakes, [], "it is reported once");
-  immediateSession.advance(1543);
-  immediateSession.advance(1543);
-  assert.deepEqual(deferredSession.session.ask("state\n"), immediateSession.session.ask("state\n"), "both sessions have the same state");
+  const [immediateDebugger, deferredDebugger] = [openDebugger(program), openDebugger(program)];
+  for (const benchDebugger of [immediateDebugger, deferredDebugger]) benchDebugger.session.queue.press(pinKey(1));
+  const expectedMistakes = immediateDebugger.advance(1543).tally.mistakes;
+  assert.equal(expectedMistakes.length, 1);
+  const frame = deferredDebugger.advance(1543, true);
+  assert.deepEqual([frame.tally.mistakes, deferredDebugger.lateMistakes], [[], []], "nothing is checked before the report");
+  deferredDebugger.checkLastLines();
+  deferredDebugger.checkLastLines();
+  assert.deepEqual(deferredDebugger.advance(1543, true).tally.mistakes, expectedMistakes);
+  deferredDebugger.checkLastLines();
+  assert.deepEqual(deferredDebugger.advance(1543).tally.mistakes, [], "it is reported once");
+  immediateDebugger.advance(1543);
+  immediateDebugger.advance(1543);
+  assert.deepEqual(deferredDebugger.session.ask("state\n"), immediateDebugger.session.ask("state\n"), "both sessions have the same state");
 });
 
 test("during a key press, mistakes are checked at once if the frame has a stop, or if mistakes cause stops", () => {
   const program = "FIM P0, 0x10\nSRC P0\nWRR\nJUN on\non: NOP\nend: JUN end\n";
-  const sessionWithBreakpoint = openSession(program);
-  sessionWithBreakpoint.session.changeBreaks("break 7\n");
-  const frame = sessionWithBreakpoint.advance(1543, true);
+  const debuggerWithBreakpoint = openDebugger(program);
+  debuggerWithBreakpoint.session.changeBreaks("break 7\n");
+  const frame = debuggerWithBreakpoint.advance(1543, true);
   assert.deepEqual([frame.stop.reason, frame.tally.mistakes.length], ["break", 1]);
-  const sessionWithStoppingMistakes = openSession(program);
-  sessionWithStoppingMistakes.commonMistakes.stoppingKinds.add("lines");
-  const stopFrame = sessionWithStoppingMistakes.advance(1543, true);
+  const debuggerWithStoppingMistakes = openDebugger(program);
+  debuggerWithStoppingMistakes.commonMistakes.stoppingKinds.add("lines");
+  const stopFrame = debuggerWithStoppingMistakes.advance(1543, true);
   assert.deepEqual([stopFrame.stop.reason, stopFrame.cycles, stopFrame.tally.mistakes.length], ["usual", 3, 1]);
 });

@@ -208,10 +208,10 @@ for (const [use, evaluate] of Object.entries(USES)) {
   test(`${use}: conditions have their intended meaning`, async () => {
     const random = createRandom(83);
     const resultsByText = new Map();
-    const isLive = use !== "trigger" && use !== "property";
+    const allowsInputConditions = use !== "trigger" && use !== "property";
     for (let round = 0; round < 60; round++) {
       const state = await setRandomState(random);
-      for (const [text, compute] of isLive ? [...CONDITIONS, ...INPUT_CONDITIONS] : CONDITIONS) {
+      for (const [text, compute] of allowsInputConditions ? [...CONDITIONS, ...INPUT_CONDITIONS] : CONDITIONS) {
         const result = await evaluate(text);
         assert.equal(result, compute(state), `${text}: ${JSON.stringify(state)}`);
         resultsByText.set(text, (resultsByText.get(text) || new Set()).add(result));
@@ -263,20 +263,20 @@ test("searches back and forward find the instructions at which a condition becam
       await searchSession.stepInto();
       history.push({ state: readMachineState(), total: bench.count.total });
     }
-    const last = history.length - 1;
+    const lastIndex = history.length - 1;
     let comparedCount = 0;
     for (const [text, compute] of CONDITIONS) {
-      const rises = history
+      const riseIndexes = history
         .flatMap(({ state }, index) => (index > 0 && compute(state) && !compute(history[index - 1].state) ? [index] : []));
       const travel = await searchSession.goBack({ kind: "when", condition: text });
       // If the condition became true, the session is now at the instruction that last made it true.
-      const expected = rises.length === 0 ? history[last] : history[rises[rises.length - 1] - 1];
-      assert.deepEqual([travel.isDone, bench.count.total], [rises.length > 0, expected.total], `back ${text}: ${travel.message}`);
-      if (rises.length > 0) assert.match(travel.message, /: this instruction makes .* true\.$/);
+      const expected = riseIndexes.length === 0 ? history[lastIndex] : history[riseIndexes[riseIndexes.length - 1] - 1];
+      assert.deepEqual([travel.isDone, bench.count.total], [riseIndexes.length > 0, expected.total], `back ${text}: ${travel.message}`);
+      if (riseIndexes.length > 0) assert.match(travel.message, /: this instruction makes .* true\.$/);
       else assert.match(travel.message, /has not become true in the remembered past\.$/);
       if (travel.isDone) searchSession.goForward();
-      assert.equal(bench.count.total, history[last].total);
-      comparedCount += rises.length > 0 ? 1 : 0;
+      assert.equal(bench.count.total, history[lastIndex].total);
+      comparedCount += riseIndexes.length > 0 ? 1 : 0;
     }
     assert.ok(comparedCount > 12, String(comparedCount));
     // Run forward from power-on.
@@ -284,14 +284,14 @@ test("searches back and forward find the instructions at which a condition becam
     Object.defineProperty(forwardSession, "names",
       { configurable: true, value: { ...forwardSession.names, watched: collectWatchNames(WATCHED) } });
     for (const [text, compute] of CONDITIONS) {
-      const [first] = history
+      const [firstTotal] = history
         .flatMap(({ state, total }, index) => (index > 0 && compute(state) && !compute(history[index - 1].state) ? [total] : []));
-      if (first === undefined) continue;
+      if (firstTotal === undefined) continue;
       const stop = await forwardSession.runToGoal({ kind: "when", condition: text });
       assert.equal(stop.reason, "goal", `${text}: ${stop.message}`);
       // If the condition becomes true in a two-cycle instruction, the machine stops after the first cycle.
       const { total } = forwardSession.debugger.session.count;
-      assert.ok(total === first || total === first - 1, `${text}: ${total}, ${first}`);
+      assert.ok(total === firstTotal || total === firstTotal - 1, `${text}: ${total}, ${firstTotal}`);
       await forwardSession.goBack({ kind: "stop" });
     }
   } finally {
@@ -338,8 +338,8 @@ test("random texts are parsed in limited time, and errors have a column in the t
     const separator = randomBelow(random, 4) === 0 ? "" : " ";
     const text = Array.from({ length: count }, () => pieces[randomBelow(random, pieces.length)]).join(separator);
     const parseSetting = (assignment) => readSetting(assignment, names.map, names.board);
-    const readers = [compileCondition, compileExpression, compileTestCondition, compileTracedCondition, parseSetting];
-    for (const parse of readers) {
+    const parsers = [compileCondition, compileExpression, compileTestCondition, compileTracedCondition, parseSetting];
+    for (const parse of parsers) {
       const { error, column } = parse(text, names);
       if (error === "") acceptedCount += 1;
       else assert.ok(column >= 0 && (column < text.length || (column === 0 && text === "")), `${JSON.stringify(text)}: ${error} ${column}`);
@@ -395,21 +395,21 @@ test("the conditions in the examples' tests have the same meaning elsewhere", ()
   for (const { board, program, conditions } of conditionsOfExamples()) {
     const { names: exampleNames } = new DebugSession(engine, { board, program });
     for (const text of conditions) {
-      const [testResult, result] = [compileTestCondition(text, exampleNames), compileCondition(text, exampleNames)];
+      const [testResult, generalResult] = [compileTestCondition(text, exampleNames), compileCondition(text, exampleNames)];
       assert.equal(testResult.error, "", text);
       // Forms that are valid only in tests are rejected elsewhere.
       if (testResult.condition.needs.some((need) => need !== "test")) {
-        assert.match(result.error, /^(the digits are multiplexed|printed text|no run changes)/, text);
+        assert.match(generalResult.error, /^(the digits are multiplexed|printed text|no run changes)/, text);
         continue;
       }
       if (testResult.condition.needs.length > 0) continue;
-      assert.deepEqual([result.error, result.condition?.places], ["", testResult.condition.places], text);
+      assert.deepEqual([generalResult.error, generalResult.condition?.places], ["", testResult.condition.places], text);
       for (let round = 0; round < 20; round++) {
         const values = testResult.condition.places
           .map((place) => (place === "lamps" ? exampleNames.board.lamps.map(() => ".*"[randomBelow(random, 2)]).join("")
           : randomBelow(random, place === "pc" ? 4096 : 16).toString(16).toUpperCase().padStart(place === "pc" ? 3 : 1, "0")));
-        assert.equal(result.condition.holds(values), testResult.condition.holds(values), `${text}: ${values}`);
-        assert.equal(result.condition.explain(values), testResult.condition.explain(values), `${text}: ${values}`);
+        assert.equal(generalResult.condition.holds(values), testResult.condition.holds(values), `${text}: ${values}`);
+        assert.equal(generalResult.condition.explain(values), testResult.condition.explain(values), `${text}: ${values}`);
       }
       comparedCount += 1;
     }

@@ -134,10 +134,10 @@ test("conditions in tests can use values that no trace shows", () => {
   const { condition } = compileForTest("test 1");
   assert.deepEqual([condition.places, condition.needs], [[], ["test"]]);
   const extraValues = { test: "1", owed: "1", keys: "", cycles: 538, lampForecast: [], printed: [] };
-  const bothCondition = compileForTest("r9 = 3 and (test = 1 or cycles at most 5)").condition;
-  assert.deepEqual([bothCondition.places, bothCondition.needs], [["r9"], ["cycles", "test"]]);
-  const results = [bothCondition.holds(["3"], extraValues), bothCondition.holds(["3"], { ...extraValues, test: "0" }),
-    bothCondition.holds(["4"], extraValues)];
+  const mixedCondition = compileForTest("r9 = 3 and (test = 1 or cycles at most 5)").condition;
+  assert.deepEqual([mixedCondition.places, mixedCondition.needs], [["r9"], ["cycles", "test"]]);
+  const results = [mixedCondition.holds(["3"], extraValues), mixedCondition.holds(["3"], { ...extraValues, test: "0" }),
+    mixedCondition.holds(["4"], extraValues)];
   assert.deepEqual(results, [true, false, false]);
   assert.equal(condition.holds([], extraValues), true);
   assert.equal(compileForTest("cycles at most 6 ms").condition.holds([], extraValues), true);

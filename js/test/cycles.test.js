@@ -15,11 +15,12 @@ test("cycles in words: 10.8 microseconds each", () => {
 
 test("accepted commands, their cycles, and resets", () => {
   const inputs = readInputs("run 5\nfoo\nregs\nwire\n[[rom]]\n.\nreset\nstep\n");
-  const accepted = findAcceptedCommands(inputs, [["ok 1 ran 5 end"], ["no 10"], ["acc 0"], ["no 22"], ["ok 2"], ["ok 3 ran 2 end"]]);
-  assert.deepEqual(accepted.map(({ line, cycles }) => [line, cycles]), [["run 5", 5], ["reset", 0], ["step", 2]]);
-  const count = new CycleCount(100, 10);
-  count.add(accepted);
-  assert.deepEqual([count.total, count.reset], [107, 105]);
+  const acceptedCommands = findAcceptedCommands(inputs,
+    [["ok 1 ran 5 end"], ["no 10"], ["acc 0"], ["no 22"], ["ok 2"], ["ok 3 ran 2 end"]]);
+  assert.deepEqual(acceptedCommands.map(({ line, cycles }) => [line, cycles]), [["run 5", 5], ["reset", 0], ["step", 2]]);
+  const cycleCount = new CycleCount(100, 10);
+  cycleCount.add(acceptedCommands);
+  assert.deepEqual([cycleCount.total, cycleCount.reset], [107, 105]);
   assert.equal(findAcceptedCommands(readInputs("asm\nNOP\n.\n"), [["ok 1 bytes 1"]])[0].line, "asm\nNOP\n.");
 });
 

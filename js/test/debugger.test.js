@@ -110,16 +110,16 @@ test("conditional breakpoints stop at the same cycles as plain ones, for each fr
     await plainSession.runToGoal();
     if (plainSession.values(["r4"])[0] === "7") expected.push(plainSession.debugger.session.count.total);
   }
-  for (const frame of [1, 7, 1543, 100000]) {
+  for (const frameLength of [1, 7, 1543, 100000]) {
     const softSession = openSession();
     softSession.breakpoints.add({ line: LINE.show, condition: "r4 = 7" });
     softSession.breakpoints.add({ line: LINE.wait, note: "waits" });
     await softSession.applyBreakpoints();
     const actual = [];
     while (actual.length < expected.length) {
-      if (softSession.debugger.advance(frame).stop) actual.push(softSession.debugger.session.count.total);
+      if (softSession.debugger.advance(frameLength).stop) actual.push(softSession.debugger.session.count.total);
     }
-    assert.deepEqual(actual, expected, String(frame));
+    assert.deepEqual(actual, expected, String(frameLength));
   }
 });
 
@@ -157,12 +157,12 @@ test("going back keeps the current breakpoints, and running again repeats the sa
   const session = openSession();
   const { session: bench } = session.debugger;
   await session.runToGoal({ kind: "count", count: 20 });
-  const first = session.breakpoints.add({ line: LINE.write });
+  const firstBreakpoint = session.breakpoints.add({ line: LINE.write });
   await session.applyBreakpoints();
   await session.runToGoal();
   const stateBefore = [bench.count.total, session.values(["r4", "pc"])];
   await session.runToGoal();
-  session.breakpoints.remove(first.id);
+  session.breakpoints.remove(firstBreakpoint.id);
   session.breakpoints.add({ line: LINE.increment });
   await session.applyBreakpoints();
   await session.goBack({ kind: "stop" });
@@ -172,10 +172,10 @@ test("going back keeps the current breakpoints, and running again repeats the sa
   await session.runToGoal();
   assert.equal(session.line, LINE.increment);
   for (let round = 0; round < 3; round++) await session.runToGoal();
-  const end = [bench.count.total, session.values(["r4", "pc"])];
+  const finalState = [bench.count.total, session.values(["r4", "pc"])];
   await session.goBack({ kind: "instruction" });
   await session.stepInto();
-  assert.deepEqual([bench.count.total, session.values(["r4", "pc"])], end);
+  assert.deepEqual([bench.count.total, session.values(["r4", "pc"])], finalState);
 });
 
 /** Runs to the next breakpoint, `count` times. Resolves to the total cycle count and the value of r4 at each stop. */
@@ -200,7 +200,7 @@ test("going back to breakpoints passes the same stops in reverse order", async (
   session.breakpoints.add({ line: LINE.back, note: "no stop" });
   await session.applyBreakpoints();
   await session.debugger.session.serve("poke r9 3\nrun 5\ntest 0\nrun 7\n", async () => true);
-  const { total } = bench.count;
+  const { total: finalTotal } = bench.count;
   for (const [index, [cycles, r4]] of [...states].reverse().entries()) {
     const totalBefore = bench.count.total;
     const travel = await goBackToArrival(session);
@@ -216,16 +216,16 @@ test("going back to breakpoints passes the same stops in reverse order", async (
   const failedTravel = await goBackToArrival(session);
   assert.deepEqual([failedTravel.isDone, failedTravel.message], [false, "Nothing was done: the remembered past reaches no further back."]);
   for (let move = 0; move < states.length + 1; move++) session.goForward();
-  assert.equal(bench.count.total, total);
+  assert.equal(bench.count.total, finalTotal);
 });
 
 test("going back to breakpoints checks conditions, ignores hit counts, and uses the current breakpoints", async () => {
   const session = openSession();
   const { session: bench } = session.debugger;
-  const first = session.breakpoints.add({ line: LINE.show });
+  const firstBreakpoint = session.breakpoints.add({ line: LINE.show });
   await session.applyBreakpoints();
   const states = await collectStatesAtBreakpoints(session, 40);
-  session.breakpoints.remove(first.id);
+  session.breakpoints.remove(firstBreakpoint.id);
   const { id } = session.breakpoints.add({ line: LINE.show, condition: "r4 = 3", from: 100 });
   await session.applyBreakpoints();
   for (const [cycles] of states.filter(([, r4]) => r4 === "3").reverse()) {
@@ -262,8 +262,8 @@ test("going back to a breakpoint in a long run is fast", async () => {
   const loopCode = [0, 1, 2, 3].map((register) => ` ISZ R${register}, turn\n`).join("");
   const session = openSession(`start: FIM P0, 0\n FIM P1, 0\nturn: NOP\n${loopCode}hit: NOP\n JUN turn\n`);
   const { session: bench } = session.debugger;
-  const hit = session.map.findValue("hit");
-  session.breakpoints.add({ line: session.map.lineOf(hit) });
+  const hitAddress = session.map.findValue("hit");
+  session.breakpoints.add({ line: session.map.lineOf(hitAddress) });
   await session.applyBreakpoints();
   const states = await collectStatesAtBreakpoints(session, 3);
   for (let frame = 0; bench.count.total < 10000000; frame++) {
@@ -271,7 +271,7 @@ test("going back to a breakpoint in a long run is fast", async () => {
   }
   for (const [cycles] of states.reverse()) {
     if (cycles === bench.count.total) continue;
-    assert.deepEqual([(await goBackToArrival(session)).end, bench.count.total, session.address], ["break", cycles, hit]);
+    assert.deepEqual([(await goBackToArrival(session)).end, bench.count.total, session.address], ["break", cycles, hitAddress]);
   }
 });
 

@@ -83,21 +83,21 @@ test("a recording in pieces has the same rows as a whole recording", () => {
     const wholeRecording = createRecording(changes, 200);
     const expected = [...wholeRecording.changesOf(lineIndexOf(wholeRecording, name))]
       .map((moment) => `${moment} ${wholeRecording.valueAt(lineIndexOf(wholeRecording, name), moment)}`);
-    for (const size of [1, 7, 16, 50]) {
+    for (const pieceSize of [1, 7, 16, 50]) {
       const recording = createRecording({}, 0);
       const actual = [];
       recording.changesOf(lineIndexOf(recording, name));
-      for (let from = 0; from < 200; from += size) {
-        const to = Math.min(200, from + size);
+      for (let from = 0; from < 200; from += pieceSize) {
+        const to = Math.min(200, from + pieceSize);
         recording.beginAt(from);
         const tracks = recording.lines.map(({ name: lineName }) => (
           { first: 0, moments: Uint32Array.from((changes[lineName] || []).filter((cycle) => cycle > from && cycle <= to)), values: null }));
-        recording.append({ from, cycles: to, isStuck: false, isOwed: false, tracks: tracks.map((data, line) => (
-          { ...data, values: recording.lines[line].width > 1 ? new Float64Array(0) : null })), moments: new Uint32Array(0),
+        recording.append({ from, cycles: to, isStuck: false, isOwed: false, tracks: tracks.map((track, line) => (
+          { ...track, values: recording.lines[line].width > 1 ? new Float64Array(0) : null })), moments: new Uint32Array(0),
         counters: new Uint16Array(0), listing: [] });
         actual.push(...valuesOfRow(recording, name).slice(1));
       }
-      assert.deepEqual(actual, expected, `${name} by ${size}`);
+      assert.deepEqual(actual, expected, `${name} by ${pieceSize}`);
     }
   }
 });
@@ -130,18 +130,18 @@ test("in a calculator, each shifted bit is that of the first stage, and values b
   const waves = new Waves(await calls.record(20000, false, { board, program, values: [] }));
   for (const chain of [0, 1]) {
     const names = [`shift.chain${chain}`, `chain${chain}.0`, `chain${chain}[${chain === 0 ? 9 : 39}:0]`, chain === 0 ? "rom0.0" : "rom0.2"];
-    const [line, first, port, clock] = names.map((name) => lineIndexOf(waves, name));
+    const [line, firstStage, port, clock] = names.map((name) => lineIndexOf(waves, name));
     const moments = [...waves.changesOf(line)];
     const clockEdges = [...waves.changesOf(clock)].filter((moment) => waves.numberAt(clock, moment) === 1);
     assert.ok(clockEdges.length > 20);
     assert.deepEqual(moments.filter((moment) => !waves.valueAt(line, moment).startsWith("=")), clockEdges);
     for (const moment of moments) {
       const value = waves.valueAt(line, moment);
-      assert.equal(value, value.startsWith("=") ? `= ${waves.valueAt(port, moment)}` : waves.valueAt(first, moment));
+      assert.equal(value, value.startsWith("=") ? `= ${waves.valueAt(port, moment)}` : waves.valueAt(firstStage, moment));
     }
   }
-  const scan = lineIndexOf(waves, "scan.keys");
-  const values = new Set([...waves.changesOf(scan)].map((moment) => waves.valueAt(scan, moment)));
+  const scanLine = lineIndexOf(waves, "scan.keys");
+  const values = new Set([...waves.changesOf(scanLine)].map((moment) => waves.valueAt(scanLine, moment)));
   // Key 2.0 is the key "1".
   assert.deepEqual([...values].sort(), ["row 0", "row 1", "row 2: 1", "row 3", "row 4"]);
 });

@@ -65,17 +65,17 @@ const boardTextOf = (board) => [
 
 /** Returns the board after a wire was drawn from a line to a target, as the manual defines it. Uses no code of the page. */
 function addWire(board, line, target) {
-  const next = structuredClone(board);
-  const [kind, number] = [target.split(" ")[0], Number(target.split(" ")[1])];
-  if (kind === "clock" || kind === "data") next.chains[number][kind] = line;
-  if (kind === "lamp") next.lamps[number] = line;
-  if (kind === "column") next.matrix.columns[number] = line;
+  const newBoard = structuredClone(board);
+  const [kind, partNumber] = [target.split(" ")[0], Number(target.split(" ")[1])];
+  if (kind === "clock" || kind === "data") newBoard.chains[partNumber][kind] = line;
+  if (kind === "lamp") newBoard.lamps[partNumber] = line;
+  if (kind === "column") newBoard.matrix.columns[partNumber] = line;
   if (kind === "row") {
     const match = /^chain(\d+)\.(\d+)$/.exec(line);
-    next.matrix.chain = match ? Number(match[1]) : line;
-    next.matrix.first = match ? Number(match[2]) - number : line;
+    newBoard.matrix.chain = match ? Number(match[1]) : line;
+    newBoard.matrix.first = match ? Number(match[2]) - partNumber : line;
   }
-  return next;
+  return newBoard;
 }
 
 const commentsOf = (text) => text.split("\n").flatMap((line) => {
@@ -88,18 +88,18 @@ function checkAction(name, text, action, expectedBoard) {
   const result = applyAction(text, action);
   const label = `${name}: ${JSON.stringify(action)}`;
   assert.equal(result.refusal, "", label);
-  const [first, after] = boardAnswers([text, result.text]);
-  assert.match(after.first, /^ok/, `${label}\n${result.text}`);
-  assert.ok(matchesBench(result.text, after.board), label);
-  if (expectedBoard) assert.deepEqual(readBoard(after.board), expectedBoard, label);
+  const [replyBefore, replyAfter] = boardAnswers([text, result.text]);
+  assert.match(replyAfter.first, /^ok/, `${label}\n${result.text}`);
+  assert.ok(matchesBench(result.text, replyAfter.board), label);
+  if (expectedBoard) assert.deepEqual(readBoard(replyAfter.board), expectedBoard, label);
   assert.equal(applyEdits(text, result.edits), result.text);
   assert.equal(applyEdits(result.text, inverseEdits(text, result.edits)), text);
   assert.ok(findFaceErrors(result.text).length <= findFaceErrors(text).length, label);
   const countMissingParts = (boardText, board) => missingParts(new Face(boardText), board).length;
-  assert.ok(countMissingParts(result.text, readBoard(after.board)) <= countMissingParts(text, readBoard(first.board)),
+  assert.ok(countMissingParts(result.text, readBoard(replyAfter.board)) <= countMissingParts(text, readBoard(replyBefore.board)),
     `${label}\n${result.text}`);
   assert.match(result.message, /^[A-Z].*\.$/);
-  return { ...result, board: readBoard(after.board) };
+  return { ...result, board: readBoard(replyAfter.board) };
 }
 
 testOnBench("the page and the bench read the same board from each text", () => {
@@ -120,20 +120,20 @@ testOnBench("a text that the page reads differently is not edited", () => {
 testOnBench("a buzzer keeps its line, is deleted with it, and follows renumbered chains", () => {
   const chain = '[[chain]]\nclock = "rom0.0"\ndata = "rom0.1"\nchips = 1\n';
   const text = `# buzzer chain1.12: horn\n[[rom]]\nchip = 0\nport = "0000"\n${chain}${chain.replace("chips = 1", "chips = 2")}`;
-  const firstLine = (result) => result.text.split("\n")[0];
-  assert.equal(firstLine(checkAction("horn", text, { kind: "delete", part: "chain 0" })), "# buzzer chain0.12: horn");
-  assert.equal(firstLine(checkAction("horn", text, { kind: "delete", part: "chain 1" })), "[[rom]]");
+  const firstLineOf = (result) => result.text.split("\n")[0];
+  assert.equal(firstLineOf(checkAction("horn", text, { kind: "delete", part: "chain 0" })), "# buzzer chain0.12: horn");
+  assert.equal(firstLineOf(checkAction("horn", text, { kind: "delete", part: "chain 1" })), "[[rom]]");
   assert.match(applyAction(text, { kind: "chips", chain: 1, chips: 1 }).refusal,
     /The buzzer is at chain1.12: give it another line first/);
-  const atPort = text.replace("chain1.12", "rom0.3");
-  assert.match(applyAction(atPort, { kind: "port", line: "rom0.3", mode: "i" }).refusal, /The buzzer is at rom0.3/);
-  checkAction("horn", atPort, { kind: "port", line: "rom0.2", mode: "i" });
-  const ramBuzzerBoard = "# buzzer ram0.1.3: horn\n[[ram]]\nbank = 0\nchips = 2\n";
-  assert.equal(firstLine(checkAction("horn", ramBuzzerBoard, { kind: "delete", part: "ram 0.1" })), "[[ram]]");
+  const portBuzzerText = text.replace("chain1.12", "rom0.3");
+  assert.match(applyAction(portBuzzerText, { kind: "port", line: "rom0.3", mode: "i" }).refusal, /The buzzer is at rom0.3/);
+  checkAction("horn", portBuzzerText, { kind: "port", line: "rom0.2", mode: "i" });
+  const ramBuzzerText = "# buzzer ram0.1.3: horn\n[[ram]]\nbank = 0\nchips = 2\n";
+  assert.equal(firstLineOf(checkAction("horn", ramBuzzerText, { kind: "delete", part: "ram 0.1" })), "[[ram]]");
 });
 
 testOnBench("a buzzer is added, wired, named and deleted, and is deleted with its chip", () => {
-  const firstLine = ({ text }) => text.split("\n", 1)[0];
+  const firstLineOf = ({ text }) => text.split("\n", 1)[0];
   const addResult = checkAction("nothing", "", { kind: "add", part: "buzzer" });
   assert.equal(addResult.text, '# buzzer rom0.0: buzzer\n\n[[rom]]\nchip = 0\nport = "0000"\n');
   assert.equal(addResult.message, "The buzzer was added, with ROM 0.");
@@ -141,12 +141,12 @@ testOnBench("a buzzer is added, wired, named and deleted, and is deleted with it
   // The default clock line of a chain, rom0.0, is already in use by the buzzer.
   assert.match(checkAction("buzzer", addResult.text, { kind: "add", part: "chain" }).text, /clock = "rom0.1"/);
   const wireResult = checkAction("buzzer", addResult.text, { kind: "wire", line: "rom0.2", target: "buzzer 0" });
-  assert.deepEqual([firstLine(wireResult), wireResult.message], ["# buzzer rom0.2: buzzer", "Line rom0.2 is wired to the buzzer."]);
+  assert.deepEqual([firstLineOf(wireResult), wireResult.message], ["# buzzer rom0.2: buzzer", "Line rom0.2 is wired to the buzzer."]);
   const nameResult = checkAction("buzzer", wireResult.text, { kind: "name", part: "buzzer", name: "the horn" });
-  assert.deepEqual([firstLine(nameResult), nameResult.message], ["# buzzer rom0.2: the horn", "The buzzer is called the horn."]);
+  assert.deepEqual([firstLineOf(nameResult), nameResult.message], ["# buzzer rom0.2: the horn", "The buzzer is called the horn."]);
   assert.equal(applyAction(nameResult.text, { kind: "name", part: "buzzer", name: " " }).refusal, "A buzzer needs a name.");
-  const inputs = applyAction(nameResult.text, { kind: "add", part: "inputs" }).text;
-  const { refusal } = applyAction(inputs, { kind: "wire", line: "rom1.0", target: "buzzer 0" });
+  const textWithInputs = applyAction(nameResult.text, { kind: "add", part: "inputs" }).text;
+  const { refusal } = applyAction(textWithInputs, { kind: "wire", line: "rom1.0", target: "buzzer 0" });
   assert.match(refusal, /rom1.0 is an input line: the buzzer needs/);
   assert.equal(checkAction("buzzer", nameResult.text, { kind: "delete", part: "buzzer" }).text, '[[rom]]\nchip = 0\nport = "0000"\n');
   assert.equal(checkAction("buzzer", nameResult.text, { kind: "delete", part: "rom 0" }).message,
@@ -159,12 +159,12 @@ testOnBench("a buzzer is added, wired, named and deleted, and is deleted with it
 });
 
 testOnBench("a printer is deleted with the chip of its strobe or of its port", () => {
-  const firstLine = ({ text }) => text.split("\n", 1)[0];
+  const firstLineOf = ({ text }) => text.split("\n", 1)[0];
   const chain = '[[chain]]\nclock = "rom0.0"\ndata = "rom0.1"\nchips = 1\n';
   const ram = "[[ram]]\nbank = 0\nchips = 2\n";
   const text = `# printer chain1.9: ram0.1 0 feed\n[[rom]]\nchip = 0\nport = "0000"\n${ram}${chain}${chain}`;
-  assert.equal(firstLine(checkAction("strobe", text, { kind: "delete", part: "chain 0" })), "# printer chain0.9: ram0.1 0 feed");
-  for (const part of ["chain 1", "ram 0.1"]) assert.equal(firstLine(checkAction("gone", text, { kind: "delete", part })), "[[rom]]");
+  assert.equal(firstLineOf(checkAction("strobe", text, { kind: "delete", part: "chain 0" })), "# printer chain0.9: ram0.1 0 feed");
+  for (const part of ["chain 1", "ram 0.1"]) assert.equal(firstLineOf(checkAction("gone", text, { kind: "delete", part })), "[[rom]]");
 });
 
 for (const { name, text } of BOARDS) {
@@ -293,34 +293,35 @@ for (const { name, text } of BOARDS) {
  */
 function checkOtherParts(oldBoard, oldFace, { board, text }, part) {
   const face = new Face(text);
-  const number = Number(part.split(" ")[1]);
-  const isDeletedLine = (line) => (part.startsWith("rom ") && line.startsWith(`rom${number}.`)) || (part.startsWith("ram ")
-    && line.startsWith(`${part.replace(" ", "")}.`)) || (part.startsWith("chain ") && line.startsWith(`chain${number}.`));
-  const deletedChains = oldBoard.chains
+  const partNumber = Number(part.split(" ")[1]);
+  const isDeletedLine = (line) => (part.startsWith("rom ") && line.startsWith(`rom${partNumber}.`)) || (part.startsWith("ram ")
+    && line.startsWith(`${part.replace(" ", "")}.`)) || (part.startsWith("chain ") && line.startsWith(`chain${partNumber}.`));
+  const isChainDeleted = oldBoard.chains
     .map(({ clock, data }, index) => isDeletedLine(clock) || isDeletedLine(data) || part === `chain ${index}`);
   const renumberLine = (line) =>
-    line.replace(/^chain(\d+)/, (_, chain) => `chain${chain - deletedChains.slice(0, chain).filter(Boolean).length}`);
-  const isLampLineDeleted = (line) => isDeletedLine(line) || (line.startsWith("chain") && deletedChains[Number(/\d+/.exec(line)[0])]);
-  const isInGroup = ({ first, rows, columns, by }, lamp) => (by < 0 ? first <= lamp && lamp < first + rows * columns
-    : (first <= lamp && lamp < first + columns) || (by <= lamp && lamp < by + rows));
+    line.replace(/^chain(\d+)/, (_, chain) => `chain${chain - isChainDeleted.slice(0, chain).filter(Boolean).length}`);
+  const isLampLineDeleted = (line) => isDeletedLine(line) || (line.startsWith("chain") && isChainDeleted[Number(/\d+/.exec(line)[0])]);
+  const isInGroup = ({ first, rows, columns, firstRowLamp }, lamp) => (firstRowLamp < 0 ? first <= lamp && lamp < first + rows * columns
+    : (first <= lamp && lamp < first + columns) || (firstRowLamp <= lamp && lamp < firstRowLamp + rows));
   const groupOf = (lamp) => oldFace.groups.find((group) => isInGroup(group, lamp));
-  const lampsToDelete = oldBoard.lamps.map((line, index) => isLampLineDeleted(line) || part === `lamp ${index}`);
-  const sharesDeletedGroup = (index, otherIndex) => lampsToDelete[otherIndex] && groupOf(index) && groupOf(index) === groupOf(otherIndex);
-  const deletedLamps = oldBoard.lamps
-    .map((_, index) => lampsToDelete[index] || oldBoard.lamps.some((__, otherIndex) => sharesDeletedGroup(index, otherIndex)));
-  const keptLamps = [...deletedLamps.keys()].filter((index) => !deletedLamps[index]);
+  const isLampToDelete = oldBoard.lamps.map((line, index) => isLampLineDeleted(line) || part === `lamp ${index}`);
+  const sharesDeletedGroup = (index, otherIndex) => isLampToDelete[otherIndex] && groupOf(index) && groupOf(index) === groupOf(otherIndex);
+  const isLampDeleted = oldBoard.lamps
+    .map((_, index) => isLampToDelete[index] || oldBoard.lamps.some((__, otherIndex) => sharesDeletedGroup(index, otherIndex)));
+  const keptLamps = [...isLampDeleted.keys()].filter((index) => !isLampDeleted[index]);
   assert.deepEqual(board.lamps, keptLamps.map((index) => renumberLine(oldBoard.lamps[index])), part);
   keptLamps.forEach((oldIndex, newIndex) => {
     assert.equal((face.lamps.get(newIndex) || {}).text, (oldFace.lamps.get(oldIndex) || {}).text, `${part}: name of ${oldIndex}\n${text}`);
     assert.equal((face.colours.get(newIndex) || {}).text, (oldFace.colours.get(oldIndex) || {}).text,
       `${part}: colour of ${oldIndex}\n${text}`);
   });
-  assert.deepEqual(board.chains, oldBoard.chains.filter((_, index) => !deletedChains[index]), part);
-  const groups = oldFace.groups.filter(({ first }) => !deletedLamps[first]);
-  assert.deepEqual(face.groups.map(({ kind, first, by }) => [kind, first, by]),
-    groups.map(({ kind, first, by }) => [kind, keptLamps.indexOf(first), by < 0 ? by : keptLamps.indexOf(by)]));
+  assert.deepEqual(board.chains, oldBoard.chains.filter((_, index) => !isChainDeleted[index]), part);
+  const groups = oldFace.groups.filter(({ first }) => !isLampDeleted[first]);
+  assert.deepEqual(face.groups.map(({ kind, first, firstRowLamp }) => [kind, first, firstRowLamp]),
+    groups.map(({ kind, first, firstRowLamp }) => (
+      [kind, keptLamps.indexOf(first), firstRowLamp < 0 ? firstRowLamp : keptLamps.indexOf(firstRowLamp)])));
   assert.deepEqual(face.grid.map(({ row, column, lamp }) => [row, column, lamp]),
-    oldFace.grid.filter(({ lamp }) => !deletedLamps[lamp]).map(({ row, column, lamp }) => [row, column, keptLamps.indexOf(lamp)]));
+    oldFace.grid.filter(({ lamp }) => !isLampDeleted[lamp]).map(({ row, column, lamp }) => [row, column, keptLamps.indexOf(lamp)]));
 }
 
 testOnBench("the offered wires are exactly those that the bench accepts", () => {
@@ -406,10 +407,11 @@ testOnBench("a part that does not fit on the board is rejected with a reason", (
   assert.deepEqual([refusalOf("keys", 0), refusalOf("keys", 1)], ["", "A board has one key matrix: give it more rows and columns."]);
   assert.deepEqual([refusalOf("lamp", 63), refusalOf("lamp", 64)], ["", "A board has at most 64 lamps; it has 64."]);
   assert.match(refusalOf("button", 1), /delete that one/);
-  const chain = addParts("chain", 1);
-  assert.equal(applyAction(chain, { kind: "chips", chain: 0, chips: 8 }).refusal, "");
-  assert.equal(applyAction(chain, { kind: "chips", chain: 0, chips: 9 }).refusal, "A chain has at most 8 chips.");
-  assert.equal(applyAction(chain, { kind: "chips", chain: 0, chips: 0 }).refusal, "A chain has at least one chip; or delete the chain.");
+  const boardText = addParts("chain", 1);
+  assert.equal(applyAction(boardText, { kind: "chips", chain: 0, chips: 8 }).refusal, "");
+  assert.equal(applyAction(boardText, { kind: "chips", chain: 0, chips: 9 }).refusal, "A chain has at most 8 chips.");
+  assert.equal(applyAction(boardText, { kind: "chips", chain: 0, chips: 0 }).refusal,
+    "A chain has at least one chip; or delete the chain.");
 });
 
 testOnBench("from nothing to four keys and four lamps", () => {
@@ -439,8 +441,8 @@ testOnBench("a display of digits, and of seven segments", () => {
 
 testOnBench("a multiplexed display is added, renumbered, and deleted as a whole", () => {
   const { text, board } = checkAction("nothing", "", { kind: "add", part: "scanned", digits: 2 });
-  const [{ kind, rows, columns, by }] = new Face(text).groups;
-  assert.deepEqual([kind, rows, columns, by, board.lamps.length], ["display", 2, 7, 7, 9]);
+  const [{ kind, rows, columns, firstRowLamp }] = new Face(text).groups;
+  assert.deepEqual([kind, rows, columns, firstRowLamp, board.lamps.length], ["display", 2, 7, 7, 9]);
   const shiftedText = text.replace("# display 0: 2 digits of 7 segments scanned by 7\n",
     "# display 1: 2 digits of 7 segments scanned by 8\n")
     .replace("[[lamp]]\n", '[[lamp]]\nline = "rom0.3"\n\n[[lamp]]\n');

@@ -182,8 +182,8 @@ test("each value that a field offers can be set, or is rejected with a reason; e
     const text = boardOf(name);
     const board = readBoard(engine.ask(file, `wire\n${text.replace(/^#.*$/gm, "")}.\nboard\n`).answers.slice(1));
     const face = new Face(text);
-    const names = ["", "rom 0", "ram 0.0", "chain 0", "keys", "lamp 0", "lamps", "test", "rom0.2", "clock 0", "column 0", "row 0"];
-    for (const selection of names) {
+    const selections = ["", "rom 0", "ram 0.0", "chain 0", "keys", "lamp 0", "lamps", "test", "rom0.2", "clock 0", "column 0", "row 0"];
+    for (const selection of selections) {
       const hasPart = board.chains.length > 0 || !/chain|keys|clock|column|row/.test(selection);
       const { title, fields, buttons } = selectionForm(board, face, hasPart ? selection : "");
       assert.ok(title.length > 3);
@@ -202,32 +202,32 @@ test("each value that a field offers can be set, or is rejected with a reason; e
 test("the positions of dragged chains follow their numbers, and are restored with the text", async () => {
   const fixture = await createDrawnBoard(boardOf("calculator"));
   const { drawing } = fixture;
-  const { movedParts: parts } = drawing;
+  const { movedParts } = drawing;
   const initialPositions = [["chain 0", { x: 1, y: 2 }], ["chain 1", { x: 3, y: 4 }], ["rom 0", { x: 5, y: 6 }]];
-  parts.load(initialPositions);
+  movedParts.load(initialPositions);
   await drawing.performInOrder({ kind: "add", part: "lamp" });
-  assert.equal(parts.takeChanges(), false);
+  assert.equal(movedParts.takeChanges(), false);
   await drawing.performInOrder({ kind: "delete", part: "chain 0" });
   const expectedPositions = { "chain 0": { x: 3, y: 4 }, "rom 0": { x: 5, y: 6 } };
-  assert.deepEqual([Object.fromEntries(parts.positions), parts.takeChanges()], [expectedPositions, true]);
+  assert.deepEqual([Object.fromEntries(movedParts.positions), movedParts.takeChanges()], [expectedPositions, true]);
   await drawing.undoOrRedo("undo");
-  const takeChangesTwice = () => [parts.takeChanges(), parts.takeChanges()];
-  assert.deepEqual([Object.fromEntries(parts.positions), ...takeChangesTwice()], [Object.fromEntries(initialPositions), true, false]);
+  const takeChangesTwice = () => [movedParts.takeChanges(), movedParts.takeChanges()];
+  assert.deepEqual([Object.fromEntries(movedParts.positions), ...takeChangesTwice()], [Object.fromEntries(initialPositions), true, false]);
   await drawing.undoOrRedo("undo");
-  assert.deepEqual([Object.fromEntries(parts.positions), parts.takeChanges()], [Object.fromEntries(initialPositions), false]);
+  assert.deepEqual([Object.fromEntries(movedParts.positions), movedParts.takeChanges()], [Object.fromEntries(initialPositions), false]);
 });
 
 test("if several chains are deleted, the others keep their positions", () => {
-  const parts = new MovedParts();
-  parts.load([0, 1, 2, 3].map((number) => [`chain ${number}`, { x: number, y: 0 }]));
-  parts.recordDeletion("before", "after", [2, 0]);
-  const chainPositions = () => [...parts.positions].sort().map(([part, { x }]) => `${part} ${x}`);
+  const movedParts = new MovedParts();
+  movedParts.load([0, 1, 2, 3].map((number) => [`chain ${number}`, { x: number, y: 0 }]));
+  movedParts.recordDeletion("before", "after", [2, 0]);
+  const chainPositions = () => [...movedParts.positions].sort().map(([part, { x }]) => `${part} ${x}`);
   for (let round = 0; round < 2; round++) {
-    parts.updateForTextChange("before", "after");
+    movedParts.updateForTextChange("before", "after");
     assert.deepEqual(chainPositions(), ["chain 0 1", "chain 1 3"]);
-    parts.updateForTextChange("after", "before");
+    movedParts.updateForTextChange("after", "before");
     assert.deepEqual(chainPositions(), ["chain 0 0", "chain 1 1", "chain 2 2", "chain 3 3"]);
   }
-  parts.updateForTextChange("before", "another");
+  movedParts.updateForTextChange("before", "another");
   assert.equal(chainPositions().length, 4);
 });

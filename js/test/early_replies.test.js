@@ -9,14 +9,14 @@ const EARLY = { kind: /** @type {"early"} */ ("early"), number: 7, result: "lamp
 test.afterEach(() => Reflect.deleteProperty(globalThis, "BroadcastChannel"));
 
 test("a reply is sent to the channel with the given name", () => {
-  const received = [];
+  const postedMessages = [];
   globalThis.BroadcastChannel = class {
     constructor(name) { this.name = name; }
 
-    postMessage(message) { received.push([this.name, message]); }
+    postMessage(message) { postedMessages.push([this.name, message]); }
   };
   makeEarlySender("one")(EARLY);
-  assert.deepEqual(received, [["one", EARLY]]);
+  assert.deepEqual(postedMessages, [["one", EARLY]]);
 });
 
 test("without a name, or if channels are missing or forbidden, nothing is sent and nothing fails", () => {

@@ -24,13 +24,13 @@ import { VcdText } from "../core/waves/vcd.js";
 import { NativeEngine, ProgramError } from "../node/native_engine.mjs";
 import { readPageModule } from "../node/page_parts.mjs";
 
-const top = fileURLToPath(new URL("../..", import.meta.url));
-const program = process.env.MCS4 || join(top, "shipped/mcs4");
-const module = new Engine(new WebAssembly.Module(readPageModule()));
+const root = fileURLToPath(new URL("../..", import.meta.url));
+const program = process.env.MCS4 || join(root, "shipped/mcs4");
+const moduleEngine = new Engine(new WebAssembly.Module(readPageModule()));
 const hasProgram = spawnSync(program, [], { stdio: "ignore" }).error === undefined;
 const nativeEngine = hasProgram ? new NativeEngine(program) : null;
-const hosts = nativeEngine ? { module, native: nativeEngine } : { module };
-const example = (name) => readFileSync(join(top, "examples", name), "utf8");
+const hosts = nativeEngine ? { module: moduleEngine, native: nativeEngine } : { module: moduleEngine };
+const readExample = (name) => readFileSync(join(root, "examples", name), "utf8");
 
 const IMPORT = `import { NativeEngine } from ${JSON.stringify(new URL("../node/native_engine.mjs", import.meta.url).href)};`;
 
@@ -67,14 +67,14 @@ testOnBothHosts("a new session has no commands, and queries do not change it", (
 });
 
 testOnBothHosts("commands produce a new state; the previous state is unchanged", (engine) => {
-  const before = stateAfter(engine, BOARD + PROGRAM);
-  const after = new Uint8Array(engine.size);
-  const { openingAnswer, answers } = engine.serve(before, "run 10\nlamps\n", after);
+  const oldState = stateAfter(engine, BOARD + PROGRAM);
+  const newState = new Uint8Array(engine.size);
+  const { openingAnswer, answers } = engine.serve(oldState, "run 10\nlamps\n", newState);
   assert.equal(openingAnswer, "session 2");
   assert.equal(answers[0], "ok 3 ran 10 end");
-  assert.deepEqual(engine.ask(before, "seq\n").answers, ["seq 2"]);
-  assert.deepEqual(engine.ask(after, "seq\n").answers, ["seq 3"]);
-  return [answers, engine.ask(before, "state\n"), engine.ask(after, "state\n")];
+  assert.deepEqual(engine.ask(oldState, "seq\n").answers, ["seq 2"]);
+  assert.deepEqual(engine.ask(newState, "seq\n").answers, ["seq 3"]);
+  return [answers, engine.ask(oldState, "state\n"), engine.ask(newState, "state\n")];
 });
 
 testOnBothHosts("commands in `ask` change nothing", (engine) => {
@@ -92,14 +92,14 @@ testOnBothHosts("a trace continues through breakpoints, its last lines end at on
     for await (const piece of pieces) lines.push(...piece);
     return lines;
   };
-  const next = await collectLines(trace.traceNext(1200, null));
-  assert.deepEqual([next[0], next.length], ["       0  (the second cycle)         acc 1 cy 0", 901]);
-  assert.equal(next[2], "       2  001 E1    WMP              acc 2 cy 0  out 0.0 2 lamps .");
+  const nextLines = await collectLines(trace.traceNext(1200, null));
+  assert.deepEqual([nextLines[0], nextLines.length], ["       0  (the second cycle)         acc 1 cy 0", 901]);
+  assert.equal(nextLines[2], "       2  001 E1    WMP              acc 2 cy 0  out 0.0 2 lamps .");
   assert.deepEqual(await collectLines(trace.traceLast(1, 100000, null)), [
     "       2  001 E1    WMP              acc 2 cy 0  out 0.0 2 lamps .", "       3  002 40 00 JUN 0x000        stops before it: break",
   ]);
   assert.deepEqual(engine.ask(state, "breaks\nseq\n").answers, ["breaks 002", "seq 4"]);
-  return next;
+  return nextLines;
 });
 
 testOnBothHosts("a VCD file is written piece by piece", async (engine) => {
@@ -107,13 +107,13 @@ testOnBothHosts("a VCD file is written piece by piece", async (engine) => {
   const board = readBoard(engine.ask(state, "board\n").answers);
   const choice = chooseLines(board, "", false, ["ram0.0", "acc", "pc", "ram0.0[3:0]"]);
   const { lines, chosenIndexes } = linesWithMembers(choice.lines, choice.chosenIndexes);
-  let text = null;
+  let vcdText = null;
   let file = "";
   for await (const waves of recordPieces(engine, state, { lines, program: null, cycles: 45000 }, async () => {})) {
-    if (!text) text = new VcdText(waves, chosenIndexes);
-    file += (file === "" ? text.formatHead() : "") + [...text.formatChanges()].join("");
+    if (!vcdText) vcdText = new VcdText(waves, chosenIndexes);
+    file += (file === "" ? vcdText.formatHead() : "") + [...vcdText.formatChanges()].join("");
   }
-  file += text.formatEnd();
+  file += vcdText.formatEnd();
   assert.match(file, /\$var wire 4 H ram0\.0\[3:0\] \$end\n[^]*\n#4860000\n/);
   return file;
 });
@@ -165,7 +165,7 @@ testOnBothHosts("lines, texts and answers that are longer than a pipe's buffer",
 
 testOnBothHosts("the bytes of a session file lead to the same state on each host", (engine) => {
   const bytes = engine.bytesOf(stateAfter(engine, `${BOARD + PROGRAM}run 9\nbreak 2\n`));
-  assert.equal(bytes.length, module.size);
+  assert.equal(bytes.length, moduleEngine.size);
   return Object.values(hosts).map((host) => host.ask(host.stateOf(bytes), "state\nboard\nlist 0 8\n"));
 });
 
@@ -192,10 +192,10 @@ testOnBothHosts("bytes that are not a session file are rejected with a number", 
 });
 
 testOnBothHosts("tests, coverage and profile of examples", async (engine) => {
-  const readTexts = (name) => ({ boardText: example(`${name}/board.toml`), programText: example(`${name}/${name}.asm`) });
+  const readTexts = (name) => ({ boardText: readExample(`${name}/board.toml`), programText: readExample(`${name}/${name}.asm`) });
   const reports = [];
   for (const name of ["three_lamps", "lock"]) {
-    const sources = [{ name: `${name}.test`, text: example(`${name}/${name}.test`).replace("cycles 538", "cycles 540") }];
+    const sources = [{ name: `${name}.test`, text: readExample(`${name}/${name}.test`).replace("cycles 538", "cycles 540") }];
     const { outcomes, coverage, profile } = await runTests(engine, { ...readTexts(name), sources }, async () => true);
     const source = { name, text: readTexts(name).programText, linesBefore: 0 };
     reports.push(testsTap(outcomes), coverageText(coverage, source), lcovText(coverage, source), profileText(profile));

@@ -121,31 +121,32 @@ test("a text without inputs is an error, unless the front panel has keys or TEST
 });
 
 test("each form of property is found broken, or reached, with a test that shows it", async () => {
-  const keys = "press A B\nwait 20 to 300\n";
+  const inputLines = "press A B\nwait 20 to 300\n";
   const litTest = /^test never lamp on on\n {2}run \d+\n {2}press A\n {2}run \d+\n {2}expect not lamp on on\n$/;
-  assert.match(await findTest(`${keys}never lamp on on`), litTest);
-  assert.match(await findTest(`${keys}always lamp on off`), /expect lamp on off\n$/);
-  assert.match(await findTest(`${keys}never lamp on on for 200`), /run \d+\n {2}until not lamp on on within \d+\n$/);
-  assert.match(await findTest(`${keys}at @dark lamp on off`), /press B\n {2}run \d+\n {2}expect lamp on off\n$/);
-  assert.match(await findTest(`${keys}lamp on on only after press B, press A`), /expect not lamp on on\n$/);
-  assert.match(await findTest(`${keys}after press A within 50 lamp on on`), /press A\n {2}until lamp on on within 50\n$/);
-  assert.match(await findTest(`${keys}after press A within 50 @dark`), /press A\n {2}until @dark within 50\n$/);
-  assert.match(await findTest(`${keys}@dark at most once for each press`), /press B\n {2}run \d+\n {2}expect not @dark\n$/);
-  assert.match(await findTest(`${keys}every 100 @dark`), /^test every 100 @dark\n {2}until @dark within 100\n$/);
-  assert.match(await findTest(`${keys}@dark to @third within 1`), /press B\n {2}run \d+\n {2}until @third within 1\n$/);
-  assert.match(await findTest(`${keys}@look to @dark within 400`), /^test @look to @dark within 400\n(.*\n)* {2}until @dark within \d+\n$/);
-  assert.match(await findTest(`${keys}reach lamp on on and r7 = 0`), /\n {2}expect lamp on on and r7 = 0\n$/);
-  assert.match(await findTest(`${keys}reach @dark`), /press B\n {2}run \d+\n {2}expect @dark\n$/);
-  assert.match(await findTest(`${keys}reach line 22`), /press B\n {2}run \d+\n {2}expect pc 0x01B\n$/);
+  assert.match(await findTest(`${inputLines}never lamp on on`), litTest);
+  assert.match(await findTest(`${inputLines}always lamp on off`), /expect lamp on off\n$/);
+  assert.match(await findTest(`${inputLines}never lamp on on for 200`), /run \d+\n {2}until not lamp on on within \d+\n$/);
+  assert.match(await findTest(`${inputLines}at @dark lamp on off`), /press B\n {2}run \d+\n {2}expect lamp on off\n$/);
+  assert.match(await findTest(`${inputLines}lamp on on only after press B, press A`), /expect not lamp on on\n$/);
+  assert.match(await findTest(`${inputLines}after press A within 50 lamp on on`), /press A\n {2}until lamp on on within 50\n$/);
+  assert.match(await findTest(`${inputLines}after press A within 50 @dark`), /press A\n {2}until @dark within 50\n$/);
+  assert.match(await findTest(`${inputLines}@dark at most once for each press`), /press B\n {2}run \d+\n {2}expect not @dark\n$/);
+  assert.match(await findTest(`${inputLines}every 100 @dark`), /^test every 100 @dark\n {2}until @dark within 100\n$/);
+  assert.match(await findTest(`${inputLines}@dark to @third within 1`), /press B\n {2}run \d+\n {2}until @third within 1\n$/);
+  assert.match(await findTest(`${inputLines}@look to @dark within 400`),
+    /^test @look to @dark within 400\n(.*\n)* {2}until @dark within \d+\n$/);
+  assert.match(await findTest(`${inputLines}reach lamp on on and r7 = 0`), /\n {2}expect lamp on on and r7 = 0\n$/);
+  assert.match(await findTest(`${inputLines}reach @dark`), /press B\n {2}run \d+\n {2}expect @dark\n$/);
+  assert.match(await findTest(`${inputLines}reach line 22`), /press B\n {2}run \d+\n {2}expect pc 0x01B\n$/);
 });
 
 test("a fourth nested call and a BBL without a call are found without a property", async () => {
-  const { counterexamples: [first], campaign } = await explore("press C D\nwait 20 to 300\nreach @four");
+  const { counterexamples: [firstCounterexample], campaign } = await explore("press C D\nwait 20 to 300\nreach @four");
   const run = new CampaignRun(subject, campaign, 1, () => true, MAX_MINIMISING_CYCLES);
   const counterexampleOf = (form) => run.counterexamples[campaign.properties.findIndex((property) => property.form === form)];
   const deadline = performance.now() + 60000;
   while (performance.now() < deadline && !(counterexampleOf("calls") && counterexampleOf("returns"))) await run.runFor(20);
-  assert.ok(first);
+  assert.ok(firstCounterexample);
   assert.match(counterexampleOf("calls").test, /press C\n {2}run \d+\n {2}expect not @four\n$/);
   assert.match(counterexampleOf("returns").test, /press [CD]\n {2}run \d+\n {2}expect not pc 0x000\n$/);
 });
@@ -239,11 +240,11 @@ test("walks respect the limits on the number, duration and distance of key press
   const { campaign } = campaignOf("press A B C D\ntogether 3\nwait 1 to 60\nheld at most 90\napart at least 40\n");
   const random = createRandom(7);
   const steps = [];
-  let [down, ages] = [initialDownInputs(campaign), createInitialAges(campaign)];
+  let [downInputs, ages] = [initialDownInputs(campaign), createInitialAges(campaign)];
   for (let count = 0; count < 5000; count++) {
-    const step = chooseStep(campaign, down, ages, random);
+    const step = chooseStep(campaign, downInputs, ages, random);
     assert.ok(step.wait >= 1 && step.wait <= 60);
-    [down, ages] = [updateDownInputs(down, step), updateAges(ages, step)];
+    [downInputs, ages] = [updateDownInputs(downInputs, step), updateAges(ages, step)];
     steps.push(step);
   }
   assert.ok(areStepsAllowed(campaign, steps));
@@ -257,10 +258,10 @@ test("keys that are down at the start are released in time, one after the other"
   const campaign = { ...parsedCampaign, inputs: parsedCampaign.inputs.map((input) => ({ ...input, isDown: true })) };
   const random = createRandom(3);
   const steps = [];
-  let [down, ages] = [initialDownInputs(campaign), createInitialAges(campaign)];
-  while (down.length > 0) {
-    const step = chooseStep(campaign, down, ages, random);
-    [down, ages] = [updateDownInputs(down, step), updateAges(ages, step)];
+  let [downInputs, ages] = [initialDownInputs(campaign), createInitialAges(campaign)];
+  while (downInputs.length > 0) {
+    const step = chooseStep(campaign, downInputs, ages, random);
+    [downInputs, ages] = [updateDownInputs(downInputs, step), updateAges(ages, step)];
     steps.push(step);
   }
   assert.ok(areStepsAllowed(campaign, steps));
@@ -350,15 +351,15 @@ test("a counted walk ends in the same state as a watched walk", () => {
     const memories = properties.map(({ createMemory }) => createMemory(7, 0));
     const start = { file: threeCallSubject.file, time: 7, downInputs: initialDownInputs(campaign),
       memories };
-    const { violation, stepStates: after } = watcher.watch(start, steps, propertyIndexes);
+    const { violation, stepStates: watchedStates } = watcher.watch(start, steps, propertyIndexes);
     assert.equal(violation, null);
     const countedStates = countWalk({ subject: threeCallSubject, campaign, coverage: new Coverage() }, start, steps);
     countedStates.forEach(({ time, downInputs, memories: countedMemories }, index) => {
-      assert.deepEqual({ time, downInputs }, { time: after[index].time, downInputs: after[index].downInputs });
+      assert.deepEqual({ time, downInputs }, { time: watchedStates[index].time, downInputs: watchedStates[index].downInputs });
       // The search must store how long the lamp has been on, because the state of the machine does not contain it.
-      const isLit = after[index].memories[0][0] !== -1;
+      const isLit = watchedStates[index].memories[0][0] !== -1;
       litCount += Number(isLit);
-      assert.deepEqual(countedMemories.slice(Number(isLit)), after[index].memories.slice(Number(isLit)));
+      assert.deepEqual(countedMemories.slice(Number(isLit)), watchedStates[index].memories.slice(Number(isLit)));
       depths.add(countedMemories[properties.findIndex(({ form }) => form === "calls")][0]);
     });
   }
@@ -380,11 +381,11 @@ test("encoded files are decoded unchanged", () => {
 });
 
 test("joined reports have the shortest counterexamples and the combined coverage", async () => {
-  const reportInput = (seed) => ({ names: { board: "b", program: "p", properties: "x.props" }, sums: "1", seconds: 1, isStopped: false,
-    seed });
+  const createReportInput = (seed) => (
+    { names: { board: "b", program: "p", properties: "x.props" }, sums: "1", seconds: 1, isStopped: false, seed });
   const text = "press A B\nwait 20 to 300\nnever lamp on on\nreach lamp 1 on\n";
   const [firstReport, secondReport] =
-    await Promise.all([1, 2].map(async (seed) => (await explore(text, 1, () => true, seed)).report(reportInput(seed))));
+    await Promise.all([1, 2].map(async (seed) => (await explore(text, 1, () => true, seed)).report(createReportInput(seed))));
   secondReport.properties[0].found = { ...firstReport.properties[0].found, steps: 0, test: "test shorter\n" };
   const joinedReport = joinReports([firstReport, secondReport]);
   assert.equal(joinedReport.properties[0].found.test, "test shorter\n");

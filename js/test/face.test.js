@@ -24,7 +24,8 @@ function describeFace(face, errors, patterns) {
     ...(title ? [`title ${title}`] : []), ...listFacts("key", face.keys).filter((line) => !line.endsWith(" ")),
     ...listFacts("lamp", face.lamps),
     ...listFacts("colour", face.colours), ...face.grid.map(({ row, column, lamp }) => `grid ${row} ${column} ${lamp}`),
-    ...face.groups.map(({ kind, first, rows, columns, by }) => `${kind} ${first} ${rows} ${columns}${by < 0 ? "" : ` by ${by}`}`),
+    ...face.groups.map(({ kind, first, rows, columns, firstRowLamp }) => (
+      `${kind} ${first} ${rows} ${columns}${firstRowLamp < 0 ? "" : ` by ${firstRowLamp}`}`)),
     ...(face.buzzer ? [`buzzer ${face.buzzer.place} ${face.buzzer.name}`] : []),
     ...(face.printer ? [`printer ${face.printer.strobe} ${face.printer.port} ${face.printer.words.join(" ")}`] : []),
     ...(pin ? [`test ${pin.kind} ${pin.name} ${pin.level}`] : []), ...listFacts("port", face.ports),

@@ -71,7 +71,7 @@ async function findCounterexample(text, program, seconds) {
 }
 
 /** Resolves to true if a test fails when it runs a program. */
-async function testFails(text, program) {
+async function doesTestFail(text, program) {
   const { errors, outcomes } = await runTests(engine, { boardText: BOARD, programText: program, testText: text }, async () => true);
   assert.deepEqual(errors, []);
   return outcomes[0].failure !== null;
@@ -84,7 +84,8 @@ test("a press of PRESS during the wait must light the foul lamp: a counterexampl
   assert.ok(counterexample);
   assert.match(counterexample.test, /^test while lamp waiting on, after press PRESS within 20 lamp foul on or lamp go on\n/);
   assert.match(counterexample.test, /\n {2}until lamp foul on or lamp go on within 20\n$/);
-  assert.deepEqual([await testFails(counterexample.test, LATE_PROGRAM), await testFails(counterexample.test, PROGRAM)], [true, false]);
+  assert.deepEqual([await doesTestFail(counterexample.test, LATE_PROGRAM), await doesTestFail(counterexample.test, PROGRAM)],
+    [true, false]);
   assert.equal(await findCounterexample(text, PROGRAM, 1), null);
   // Without the guard, the property is violated, because PRESS after the wait is not a foul.
   assert.ok(await findCounterexample("after press PRESS within 20 lamp foul on\n", PROGRAM, 30));
@@ -100,7 +101,7 @@ test("a counterexample is found for each guard, with a test that fails", async (
   ]) {
     const counterexample = await findCounterexample(`${text}\n`, PROGRAM, 30);
     assert.ok(counterexample, text);
-    assert.equal(await testFails(counterexample.test, PROGRAM), !text.includes("reach"), `${text}\n${counterexample.test}`);
+    assert.equal(await doesTestFail(counterexample.test, PROGRAM), !text.includes("reach"), `${text}\n${counterexample.test}`);
   }
 });
 
@@ -149,27 +150,27 @@ function createRandomRun(random) {
 function findViolationTime(property, { c, g, events }) {
   const memory = property.createMemory(0, 0);
   const areGuardsOpenAt = (time) => property.guards.map(({ condition }) => condition !== null && g[time]);
-  let violation = -1;
+  let violationTime = -1;
   const notify = (event, time, input = "") => {
     const isValuesEvent = event === "values";
     const areOpen = isValuesEvent || event === "down" ? areGuardsOpenAt(time) : [];
     const moment = { time, changeTime: time, address: -1, holds: isValuesEvent && c[time], areOpen, input, downCount: 0 };
-    const newViolation = property.update(memory, event, moment);
-    if (newViolation >= 0 && (violation < 0 || newViolation < violation)) violation = newViolation;
+    const newViolationTime = property.update(memory, event, moment);
+    if (newViolationTime >= 0 && (violationTime < 0 || newViolationTime < violationTime)) violationTime = newViolationTime;
   };
-  let start = 0;
+  let startTime = 0;
   for (const { time, kind } of [...events, { time: RUN_CYCLES, kind: "none" }]) {
-    notify("values", start);
-    for (let cycle = start + 1; cycle <= time && violation < 0; cycle++) {
+    notify("values", startTime);
+    for (let cycle = startTime + 1; cycle <= time && violationTime < 0; cycle++) {
       if (c[cycle] !== c[cycle - 1] || g[cycle] !== g[cycle - 1]) notify("values", cycle);
     }
-    if (violation < 0) notify("end", time);
-    if (violation >= 0) return violation;
+    if (violationTime < 0) notify("end", time);
+    if (violationTime >= 0) return violationTime;
     if (kind === "K" || kind === "J") notify("down", time, kind === "K" ? "START" : "PRESS");
     if (kind === "reset") notify("reset", time);
-    start = time;
+    startTime = time;
   }
-  return violation;
+  return violationTime;
 }
 
 /**

@@ -46,7 +46,7 @@ const ALL_QUERIES = "seq\nstate\nram 0\nram 2\n";
 async function openSessionAfter(cycles) {
   const calls = await openExample("three lamps");
   await calls.serve(`wire\n${BOARD}.\nasm\n${PROGRAM}.\nreset\n`);
-  for (let done = 0; done < cycles; done += 30) await calls.serve(`run ${Math.min(30, cycles - done)}\n`);
+  for (let servedCycles = 0; servedCycles < cycles; servedCycles += 30) await calls.serve(`run ${Math.min(30, cycles - servedCycles)}\n`);
   return calls;
 }
 
@@ -117,9 +117,9 @@ test("`poke` lines are reported, also in a bank that no SRC has selected", async
 });
 
 test("long runs are searched in parts, with the same result", async () => {
-  const longRun = await openExample("three lamps");
-  await longRun.serve(`wire\n${BOARD}.\nasm\n${PROGRAM}.\nreset\nrun 100000\nrun 63\n`);
-  const { cycles, cells } = await longRun.measureHeat(1e7);
+  const callsAfterLongRun = await openExample("three lamps");
+  await callsAfterLongRun.serve(`wire\n${BOARD}.\nasm\n${PROGRAM}.\nreset\nrun 100000\nrun 63\n`);
+  const { cycles, cells } = await callsAfterLongRun.measureHeat(1e7);
   const iterations = Math.floor((100063 - SETUP_CYCLES) / LOOP_CYCLES);
   assert.deepEqual([cycles, cells[0].place], [100063, "ram.0.0x12"]);
   assert.ok(cells[0].count === iterations || cells[0].count === iterations + 1, `${cells[0].count} of ${iterations}`);
@@ -129,9 +129,9 @@ test("the count can be cancelled, and a board without RAM has no changes", async
   const calls = await openSessionAfter(SETUP_CYCLES + 20 * LOOP_CYCLES);
   calls.bench.shouldContinue = async () => false;
   await assert.rejects(calls.measureHeat(1000), CancelledError);
-  const boardWithoutRam = await openExample("three lamps");
-  await boardWithoutRam.serve("wire\n[[rom]]\nchip = 0\nport = \"0000\"\n.\nrun 20\n");
-  assert.deepEqual(await boardWithoutRam.measureHeat(1000), { cycles: 0, cells: [] });
+  const callsWithoutRam = await openExample("three lamps");
+  await callsWithoutRam.serve("wire\n[[rom]]\nchip = 0\nport = \"0000\"\n.\nrun 20\n");
+  assert.deepEqual(await callsWithoutRam.measureHeat(1000), { cycles: 0, cells: [] });
 });
 
 const HEAT = {

@@ -19,16 +19,16 @@ class FakeButton extends EventTarget {
 
 /** Returns the buttons of two keys of a KeyPresser, the keys that are down, and the bench commands for its presses and releases. */
 function createPresser(isRunning) {
-  const down = new Set();
+  const downKeys = new Set();
   const lines = [];
   const record = (word, key) => {
     lines.push(keyLine(word, key));
-    if (word === "press") down.add(formatKey(key));
-    else down.delete(formatKey(key));
+    if (word === "press") downKeys.add(formatKey(key));
+    else downKeys.delete(formatKey(key));
   };
   const presser = new KeyPresser({
     isRunning: () => isRunning,
-    isDown: (key) => down.has(formatKey(key)),
+    isDown: (key) => downKeys.has(formatKey(key)),
     press: (key) => record("press", key),
     release: (key) => record("release", key),
     change: record,
@@ -39,7 +39,7 @@ function createPresser(isRunning) {
     presser.listen(button, { key });
     return button;
   });
-  return { lines, down, buttons };
+  return { lines, downKeys, buttons };
 }
 
 const wait = (time) => new Promise((resolve) => setTimeout(resolve, time));
@@ -58,23 +58,23 @@ for (const isRunning of [true, false]) {
   });
 
   test(`a slow swipe releases the key that it has pressed, ${condition}`, async () => {
-    const { lines, down, buttons } = createPresser(isRunning);
+    const { lines, downKeys, buttons } = createPresser(isRunning);
     buttons[0].fire("pointerdown");
     await wait(LONG_PRESS_MS);
     assert.deepEqual(lines, ["press 0 0"]);
     buttons[0].fire("pointercancel");
     buttons[0].fire("lostpointercapture");
-    assert.deepEqual([lines, down.size], [["press 0 0", "release 0 0"], 0]);
+    assert.deepEqual([lines, downKeys.size], [["press 0 0", "release 0 0"], 0]);
   });
 
   test(`a slow swipe over a held key leaves the key down, ${condition}`, async () => {
-    const { down, buttons } = createPresser(isRunning);
-    down.add("0 0");
+    const { downKeys, buttons } = createPresser(isRunning);
+    downKeys.add("0 0");
     buttons[0].fire("pointerdown");
     await wait(LONG_PRESS_MS);
-    assert.equal(down.size, 0);
+    assert.equal(downKeys.size, 0);
     buttons[0].fire("pointercancel");
-    assert.deepEqual([...down], ["0 0"]);
+    assert.deepEqual([...downKeys], ["0 0"]);
   });
 }
 
@@ -95,24 +95,24 @@ test("a tap presses and releases a key", () => {
 });
 
 test("two fingers hold two keys", async () => {
-  const { lines, down, buttons } = createPresser(true);
+  const { lines, downKeys, buttons } = createPresser(true);
   buttons[0].fire("pointerdown", { pointerId: 1 });
   buttons[1].fire("pointerdown", { pointerId: 2 });
   await wait(LONG_PRESS_MS);
-  assert.deepEqual([...down], ["0 0", "0 1"]);
+  assert.deepEqual([...downKeys], ["0 0", "0 1"]);
   buttons[0].fire("pointerup", { pointerId: 1 });
   buttons[1].fire("pointerup", { pointerId: 2 });
   assert.deepEqual(lines, ["press 0 0", "press 0 1", "release 0 0", "release 0 1"]);
 });
 
 test("a mouse presses at once, and with Shift the key stays down", () => {
-  const { lines, down, buttons } = createPresser(true);
+  const { lines, downKeys, buttons } = createPresser(true);
   buttons[0].fire("pointerdown", { pointerType: "mouse" });
   assert.deepEqual(lines, ["press 0 0"]);
   buttons[0].fire("pointerup", { pointerType: "mouse" });
   buttons[1].fire("pointerdown", { pointerType: "mouse", shiftKey: true });
   buttons[1].fire("pointerup", { pointerType: "mouse", shiftKey: true });
-  assert.deepEqual([...down], ["0 1"]);
+  assert.deepEqual([...downKeys], ["0 1"]);
 });
 
 test("while paused, a tap toggles a key", () => {

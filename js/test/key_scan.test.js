@@ -51,7 +51,7 @@ const BOARDS = {
   "the calculator's": examplesOfPage.find(({ name }) => name === "calculator").board,
 };
 /** A number of cycles in which the routine completes at least two scans. */
-const TWO_SCANS = 30000;
+const TWO_SCANS_CYCLES = 30000;
 
 /** Serves lines in a session, and returns the answers. */
 function serveLines(engine, session, lines) {
@@ -73,15 +73,16 @@ for (const [name, text] of Object.entries(BOARDS)) {
     const label = /^start: *JMS (\w+)/.exec(code)[1];
     assert.equal(label, "keys_scan");
     const scanKeys = (lines) => {
-      const regs = serveLines(engine, session, `${lines}run ${TWO_SCANS}\nbreak 2\nrun ${TWO_SCANS}\nunbreak 2\nregs\n`).pop();
+      const regs = serveLines(engine, session,
+        `${lines}run ${TWO_SCANS_CYCLES}\nbreak 2\nrun ${TWO_SCANS_CYCLES}\nunbreak 2\nregs\n`).pop();
       const [, acc, registers] = /^acc (.) .* r (.{16}) /.exec(regs);
       return [acc, registers[4], registers[5]].join("");
     };
     assert.equal(scanKeys("reset\n")[0], "0", "no key is down");
     for (let row = 0; row < rows; row++) {
       for (let column = 0; column < columns.length; column++) {
-        const first = columns.indexOf(columns[column]);
-        assert.equal(scanKeys(`press ${row} ${column}\n`), `1${row.toString(16).toUpperCase()}${first}`, `key ${row}.${column}`);
+        const firstColumn = columns.indexOf(columns[column]);
+        assert.equal(scanKeys(`press ${row} ${column}\n`), `1${row.toString(16).toUpperCase()}${firstColumn}`, `key ${row}.${column}`);
         assert.equal(scanKeys(`release ${row} ${column}\n`)[0], "0");
       }
     }

@@ -9,7 +9,7 @@ import { formatTap, joinReports } from "../core/explore/report.js";
 import { createSubject } from "../core/explore/subject.js";
 import { beginProving, createPropertyVerdict } from "../core/prove/bounded_proof.js";
 import { replayCounterexample } from "../core/prove/counterexample.js";
-import { findInputLimits } from "../core/prove/input_limits.js";
+import { listInputLimits } from "../core/prove/input_limits.js";
 import { neverQuestion, questionText } from "../core/prove/question.js";
 import { isStillValid } from "../core/prove/verdict_validity.js";
 import { exitStatus, formatJudgedTap } from "../core/prove/verdicts.js";
@@ -38,8 +38,14 @@ const ANSWERS_BY_KEYS = { A: "may fail 0 1\n", B: "may fail 0 2\n" };
 
 const moduleEngine = new Engine(new globalThis.WebAssembly.Module(pageModule));
 const subjectOf = (boardText = BOARD, programText = PROGRAM) => createSubject(moduleEngine, boardText, programText);
-const limitsOf = (text, subject = subjectOf()) => (
-  findInputLimits(readCampaign(text, subject, false).campaign, subject.names.board));
+const allLimitsOf = (text, subject = subjectOf()) => (
+  listInputLimits(readCampaign(text, subject, false).campaign, subject.names.board));
+/** Returns the limits of `press`, `test` and `together` in a text; null for none. */
+const limitsOf = (text, subject) => {
+  const [limits = null] = allLimitsOf(text, subject).filter(({ minWait }) => minWait === 1);
+  if (limits) delete limits.minWait;
+  return limits;
+};
 const keysOf = (...places) => places.map(([row, column]) => ({ kind: "matrix", row, column }));
 
 test("a proof can use the limits of a text that exclude keys, or that one read can exceed", () => {
@@ -85,11 +91,12 @@ test("the limits on the inputs are lines of a question", () => {
   const linesOf = (inputLimits, limits = { maxStates: 77 }) => (
     questionText({ board: "rom = []\n", program: "NOP" }, { ...neverQuestion([[]]), inputLimits }, limits).split("\n"));
   assert.deepEqual(linesOf(null).slice(0, 3), ["most 77", "pause 1000000", "wire"]);
-  assert.deepEqual(linesOf({ keys: null, maxKeysDown: 2, words: [] }).slice(1, 4), ["pause 1000000", "together 2", "wire"]);
+  assert.deepEqual(linesOf({ keys: null, maxKeysDown: 2, minWait: 1, words: [] }).slice(1, 4), ["pause 1000000", "together 2", "wire"]);
   // TEST is 1 at power-on. A proof without the line `test` would be valid only for TEST 0.
-  assert.deepEqual(linesOf({ keys: keysOf([1, 0], [0, 10]), maxKeysDown: null, words: [] }).slice(1, 7),
+  assert.deepEqual(linesOf({ keys: keysOf([1, 0], [0, 10]), maxKeysDown: null, minWait: 1, words: [] }).slice(1, 7),
     ["pause 1000000", "only", "press 1 0", "press 0 10", "test", "wire"]);
-  assert.deepEqual(linesOf({ keys: [], maxKeysDown: 1, words: [] }).slice(1, 6), ["pause 1000000", "together 1", "only", "test", "wire"]);
+  assert.deepEqual(linesOf({ keys: [], maxKeysDown: 1, minWait: 1, words: [] }).slice(1, 6),
+    ["pause 1000000", "together 1", "only", "test", "wire"]);
 });
 
 /** The bench's module with a stand-in for the prover. It records a summary of each question, and whether the question has limits. */
@@ -231,7 +238,7 @@ test("common mistakes are also asked again, together if all are undecided", asyn
 async function findCounterexample(text, values, programText) {
   const subject = subjectOf(BOARD, programText);
   const { campaign } = readCampaign(text, subject);
-  return replayCounterexample(subject, campaign, 0, values, async () => {});
+  return replayCounterexample(subject, campaign, 0, { values }, async () => {});
 }
 
 test("a counterexample uses allowed keys if they give the same values", async () => {

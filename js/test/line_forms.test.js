@@ -20,9 +20,9 @@ const WORDS = [...ANSWER_FORMATS.keys(), ...`acc cy pc dcl r0 r15 r16 rx
 /** Returns a function that returns a pseudo-random number below its argument. The same seed gives the same numbers. */
 function createRandom(seed) {
   let state = seed;
-  return (count) => {
+  return (limit) => {
     state = (Math.imul(state, 1103515245) + 12345) & 0x7fffffff;
-    return (state >>> 8) % count;
+    return (state >>> 8) % limit;
   };
 }
 
@@ -35,12 +35,13 @@ function benchRefusalOf(line) {
 const pageRefusalOf = (line) => (findLineError(line) || { number: 0 }).number;
 
 test("random lines are rejected with the same number as by the bench", () => {
-  const next = createRandom(4004);
+  const randomBelow = createRandom(4004);
   const firstWords = [...ANSWER_FORMATS.keys(), "poke", "poke", "trace", "trace", "list", "watch"];
   for (let round = 0; round < 6000; round++) {
-    const first = next(8) === 0 ? WORDS[next(WORDS.length)] : firstWords[next(firstWords.length)];
-    const argumentCount = next(10) === 0 ? next(20) : next(4);
-    const line = [first, ...Array.from({ length: argumentCount }, () => WORDS[next(WORDS.length)])].join(next(5) === 0 ? "\t " : " ");
+    const firstWord = randomBelow(8) === 0 ? WORDS[randomBelow(WORDS.length)] : firstWords[randomBelow(firstWords.length)];
+    const argumentCount = randomBelow(10) === 0 ? randomBelow(20) : randomBelow(4);
+    const words = [firstWord, ...Array.from({ length: argumentCount }, () => WORDS[randomBelow(WORDS.length)])];
+    const line = words.join(randomBelow(5) === 0 ? "\t " : " ");
     // These commands open a text, so the bench does not answer them yet.
     if (/^(wire|asm|map|wiring|errors)$/.test(line)) continue;
     assert.equal(pageRefusalOf(line), benchRefusalOf(line), line);

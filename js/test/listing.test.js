@@ -15,58 +15,58 @@ function createRandom(seed) {
 }
 
 /** Returns true if an opcode begins a two-byte instruction: JCN, FIM, JUN, JMS or ISZ. */
-const hasTwoWords = (code) => [1, 4, 5, 7].includes(code >> 4) || ((code >> 4) === 2 && code % 2 === 0);
+const hasTwoBytes = (code) => [1, 4, 5, 7].includes(code >> 4) || ((code >> 4) === 2 && code % 2 === 0);
 
 const hex = (number, digits) => number.toString(16).toUpperCase().padStart(digits, "0");
 
-/** Returns a stand-in for the bench that answers `list A N` from some bytes and counts the requested lines. */
+/** Returns a stand-in for the bench that answers `list A N` from some bytes and counts the requests and the lines. */
 function createFakeBench(bytes) {
-  const requested = { lists: 0, lines: 0 };
+  const requestCounts = { lists: 0, lines: 0 };
   const ask = async (lines) => {
     const [, start, count] = /^list (\d+) (\d+)\n$/.exec(lines).map(Number);
     assert.ok(count >= 1 && count <= 256 && start <= 4095, lines);
     const answers = [];
     for (let address = start; address < 4096 && answers.length < count;) {
-      const size = hasTwoWords(bytes[address]) && address < 4095 ? 2 : 1;
-      const words = [...bytes.slice(address, address + size)].map((byte) => hex(byte, 2)).join(" ");
-      answers.push(`${hex(address, 3)} ${words.padEnd(5)} NOP`);
+      const size = hasTwoBytes(bytes[address]) && address < 4095 ? 2 : 1;
+      const hexBytes = [...bytes.slice(address, address + size)].map((byte) => hex(byte, 2)).join(" ");
+      answers.push(`${hex(address, 3)} ${hexBytes.padEnd(5)} NOP`);
       address += size;
     }
-    requested.lists += 1;
-    requested.lines += answers.length;
+    requestCounts.lists += 1;
+    requestCounts.lines += answers.length;
     return answers;
   };
-  return { ask, requested };
+  return { ask, requestCounts };
 }
 
 function createPrograms() {
   const random = createRandom(4004);
-  const result = [new Uint8Array(4096), new Uint8Array(4096).fill(0x40)];
-  for (let count = 0; count < 8; count++) result.push(Uint8Array.from({ length: 4096 }, () => random(256)));
-  return result;
+  const programs = [new Uint8Array(4096), new Uint8Array(4096).fill(0x40)];
+  for (let count = 0; count < 8; count++) programs.push(Uint8Array.from({ length: 4096 }, () => random(256)));
+  return programs;
 }
 
 /** Returns the addresses of the instructions of a program that begins at 000. */
-function instructionAddresses(bytes) {
+function findInstructionAddresses(bytes) {
   const addresses = [];
-  for (let address = 0; address < 4096; address += hasTwoWords(bytes[address]) && address < 4095 ? 2 : 1) addresses.push(address);
+  for (let address = 0; address < 4096; address += hasTwoBytes(bytes[address]) && address < 4095 ? 2 : 1) addresses.push(address);
   return addresses;
 }
 
-async function readLines(reader, from, anchor, rows) {
-  return visibleLines(await reader.read({ from, anchor }, rows), from, rows);
+async function readLines(reader, from, anchor, rowCount) {
+  return visibleLines(await reader.read({ from, anchor }, rowCount), from, rowCount);
 }
 
 test("a line begins at each anchor, and all rows have a line", async () => {
   const random = createRandom(1);
   for (const bytes of createPrograms()) {
     const reader = new ListingReader(createFakeBench(bytes).ask);
-    const starts = instructionAddresses(bytes);
+    const starts = findInstructionAddresses(bytes);
     for (let round = 0; round < 60; round++) {
-      const rows = 5 + random(45);
+      const rowCount = 5 + random(45);
       const counter = starts[random(starts.length)];
-      const lines = await readLines(reader, Math.max(0, counter - Math.floor(rows / 2)), counter, rows);
-      assert.equal(lines.length, rows);
+      const lines = await readLines(reader, Math.max(0, counter - Math.floor(rowCount / 2)), counter, rowCount);
+      assert.equal(lines.length, rowCount);
       assert.ok(lines.some((line) => line.address === counter));
       assert.equal(isInsideLine(lines, counter), false);
     }
@@ -75,31 +75,31 @@ test("a line begins at each anchor, and all rows have a line", async () => {
 
 test("scrolling page by page shows each instruction", async () => {
   for (const bytes of createPrograms()) {
-    const rows = 21;
+    const rowCount = 21;
     const reader = new ListingReader(createFakeBench(bytes).ask);
-    let lines = await readLines(reader, 0, 0, rows);
+    let lines = await readLines(reader, 0, 0, rowCount);
     const shownAddresses = new Set();
     for (let page = 0; page < 400; page++) {
       for (const { address } of lines) shownAddresses.add(address);
-      const next = lines[lines.length - 1].address;
-      if (lines[0].address === next || next + 1 + Number(hasTwoWords(bytes[next])) > 4095) break;
-      lines = await readLines(reader, next, next, rows);
+      const nextAddress = lines[lines.length - 1].address;
+      if (lines[0].address === nextAddress || nextAddress + 1 + Number(hasTwoBytes(bytes[nextAddress])) > 4095) break;
+      lines = await readLines(reader, nextAddress, nextAddress, rowCount);
     }
     assert.deepEqual([...shownAddresses].filter((address) => address === 0 || address >= 4094).length > 1, true);
-    assert.deepEqual(instructionAddresses(bytes).slice(0, -rows).filter((address) => !shownAddresses.has(address)), []);
-    const last = lines[lines.length - 1];
-    assert.ok(last.address + Number(hasTwoWords(bytes[last.address])) >= 4095);
+    assert.deepEqual(findInstructionAddresses(bytes).slice(0, -rowCount).filter((address) => !shownAddresses.has(address)), []);
+    const lastLine = lines[lines.length - 1];
+    assert.ok(lastLine.address + Number(hasTwoBytes(bytes[lastLine.address])) >= 4095);
   }
 });
 
 test("at the end of ROM, the last lines fill the rows", async () => {
   for (const bytes of createPrograms()) {
     const reader = new ListingReader(createFakeBench(bytes).ask);
-    for (const rows of [1, 7, 40]) {
-      const lines = await readLines(reader, 4095, null, rows);
-      assert.equal(lines.length, rows);
-      const { address } = lines[rows - 1];
-      assert.ok(address + (hasTwoWords(bytes[address]) && address < 4095 ? 2 : 1) === 4096);
+    for (const rowCount of [1, 7, 40]) {
+      const lines = await readLines(reader, 4095, null, rowCount);
+      assert.equal(lines.length, rowCount);
+      const { address } = lines[rowCount - 1];
+      assert.ok(address + (hasTwoBytes(bytes[address]) && address < 4095 ? 2 : 1) === 4096);
     }
   }
 });
@@ -107,10 +107,10 @@ test("at the end of ROM, the last lines fill the rows", async () => {
 test("the bench is asked for only a few more lines than are shown", async () => {
   const random = createRandom(2);
   for (const bytes of createPrograms()) {
-    const { ask, requested } = createFakeBench(bytes);
+    const { ask, requestCounts } = createFakeBench(bytes);
     const reader = new ListingReader(ask);
     for (let round = 0; round < 50; round++) await readLines(reader, random(4096), null, 20);
-    assert.deepEqual([requested.lists, requested.lines <= 50 * 60], [50, true]);
+    assert.deepEqual([requestCounts.lists, requestCounts.lines <= 50 * 60], [50, true]);
   }
 });
 

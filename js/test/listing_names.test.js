@@ -19,10 +19,10 @@ test("a line has its labels, its target's label and its line of the source", () 
 });
 
 test("a line that is not part of the program stays unchanged", () => {
-  const plain = { address: 5, firstAddress: "005", secondAddress: "006", bytes: "005 40 02", labels: "",
+  const plainLine = { address: 5, firstAddress: "005", secondAddress: "006", bytes: "005 40 02", labels: "",
     instruction: "JUN 0x002", source: "" };
-  assert.deepEqual(addLineNames(listingLine("005 40 02 JUN 0x002"), MAP), plain);
-  assert.deepEqual(addLineNames(listingLine("005 40 02 JUN 0x002"), null), plain);
+  assert.deepEqual(addLineNames(listingLine("005 40 02 JUN 0x002"), MAP), plainLine);
+  assert.deepEqual(addLineNames(listingLine("005 40 02 JUN 0x002"), null), plainLine);
 });
 
 test("only jump targets are replaced by labels", () => {

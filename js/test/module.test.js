@@ -42,9 +42,9 @@ test("lines with other than ASCII characters, and more lines than the initial bu
 
 test("bytes that are not a session are rejected, and the session stays", async () => {
   const { calls } = await openExample(calculator);
-  for (const [bytes, number] of [[0, 50], [9, 50], [163857, 50], [163856, 50]]) {
-    assert.throws(() => calls.open(new Uint8Array(bytes)), { number });
-    assert.throws(() => calls.settleFile(new Uint8Array(bytes)), { number });
+  for (const [byteCount, number] of [[0, 50], [9, 50], [163857, 50], [163856, 50]]) {
+    assert.throws(() => calls.open(new Uint8Array(byteCount)), { number });
+    assert.throws(() => calls.settleFile(new Uint8Array(byteCount)), { number });
   }
   assert.equal(calls.ask("board\n")[0], "board");
 });
@@ -60,8 +60,8 @@ test("frames press keys, run cycles, and reuse returned buffers", async () => {
   const changes = frame.runEntries.filter(({ runs }) => runs === 0).map(({ line }) => line);
   assert.deepEqual(changes, ["press 2 1", "release 2 1", "press 3 2", "release 3 2"]);
   assert.equal(frame.file.byteLength, 163856);
-  const next = calls.advance(1000);
-  assert.notEqual(next.file, frame.file);
+  const nextFrame = calls.advance(1000);
+  assert.notEqual(nextFrame.file, frame.file);
   calls.bench.spareBuffers.push(frame.file);
   assert.equal(calls.advance(1000).file, frame.file);
 });
@@ -92,8 +92,8 @@ test("a session with an example's board and program gets the example's texts, an
   const texts = calls.recoverTexts(calls.createFile(calculator));
   const { board, program, tests = "", properties = "" } = calculator;
   assert.deepEqual(texts, { boardText: board, programText: program, testText: tests, propertiesText: properties });
-  const session = calls.createFile({ ...calculator, board: '[[rom]]\nchip = 0\nport = "0000"\n', program: "\tLDM 5\n\tJUN 0\n" });
-  assert.deepEqual(calls.recoverTexts(session), {
+  const file = calls.createFile({ ...calculator, board: '[[rom]]\nchip = 0\nport = "0000"\n', program: "\tLDM 5\n\tJUN 0\n" });
+  assert.deepEqual(calls.recoverTexts(file), {
     boardText: '[[rom]]\nchip = 0\nport = "0000"\n', programText: "\tLDM 5\n\tJUN 0x000\n", testText: "", propertiesText: "",
   });
 });

@@ -80,16 +80,16 @@ function createBench(program) {
  * Returns the source of nested delay loops (`lines`), and the number of cycles that they take. An ISZ takes two cycles, and each loop has
  * 16 iterations.
  */
-function createDelayLoops(loops) {
-  const registers = [0, 1, 2, 3, 4].slice(0, loops);
+function createDelayLoops(loopCount) {
+  const registers = [0, 1, 2, 3, 4].slice(0, loopCount);
   const lines = `FIM P0, 0\nFIM P1, 0\nFIM P2, 0\nloop: ${registers.map((register) => `ISZ R${register}, loop\n`).join("")}`;
   return { lines, cycles: 6 + registers.reduce((cycles) => 16 * (cycles + 2), 0) };
 }
 
-/** Runs frames of `frame` cycles until a stop. Returns the last frame. */
-function runUntilStop(calls, frame) {
+/** Runs frames of `frameCycles` cycles until a stop. Returns the last frame. */
+function runUntilStop(calls, frameCycles) {
   for (;;) {
-    const result = calls.advance(frame);
+    const result = calls.advance(frameCycles);
     if (result.stop) return result;
   }
 }
@@ -137,12 +137,12 @@ test("runs to a distant change of a register, a port, a lamp and a RAM character
     const calls = await openExample("three lamps", `asm\n${program}.\nreset\n${lines}`);
     return await runToGoal(calls, { kind: "change", place });
   };
-  const { lines: wait, cycles } = createDelayLoops(4);
-  const write = `${wait}SRC P0\nLDM 7\nWMP\nWRM\nend: JUN end\n`;
+  const { lines: delayLines, cycles } = createDelayLoops(4);
+  const writingProgram = `${delayLines}SRC P0\nLDM 7\nWMP\nWRM\nend: JUN end\n`;
   for (const [place, cyclesAfter] of [["acc", 2], ["ram0.0", 3], ["ram0.0.2", 3], ["lamp 2", 3], ["lamps", 3], ["ram.0.0", 4]]) {
-    assert.deepEqual(await runToChange(write, place), { cycles: cycles + cyclesAfter, isReached: true, end: "" }, place);
+    assert.deepEqual(await runToChange(writingProgram, place), { cycles: cycles + cyclesAfter, isReached: true, end: "" }, place);
   }
-  assert.deepEqual(await runToChange(write, "acc", "break 8\n"), { cycles: 38, isReached: false, end: "break" });
+  assert.deepEqual(await runToChange(writingProgram, "acc", "break 8\n"), { cycles: 38, isReached: false, end: "break" });
 });
 
 test("the user's breakpoints stop a move first; a goal that is never reached has no effect", async () => {

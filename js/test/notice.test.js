@@ -4,19 +4,19 @@ import { test } from "node:test";
 import { findNoticesToRemove } from "../page/ui/notice.js";
 
 /** Returns the kinds of the notices that are removed from a list. `kinds` has the kinds of all notices in the list, newest first. */
-const kindsToRemove = (...kinds) => findNoticesToRemove(kinds.map((kind) => ({ kind }))).map(({ kind }) => kind);
+const findKindsToRemove = (...kinds) => findNoticesToRemove(kinds.map((kind) => ({ kind }))).map(({ kind }) => kind);
 
 test("the newest three notices are shown", () => {
-  assert.deepEqual(kindsToRemove(), []);
-  assert.deepEqual(kindsToRemove("undo", "undo", "file"), []);
-  assert.deepEqual(kindsToRemove("undo", "undo", "left", "file"), ["file"]);
+  assert.deepEqual(findKindsToRemove(), []);
+  assert.deepEqual(findKindsToRemove("undo", "undo", "file"), []);
+  assert.deepEqual(findKindsToRemove("undo", "undo", "left", "file"), ["file"]);
 });
 
 test("notices of success are removed before notices of failure", () => {
-  assert.deepEqual(kindsToRemove("session", "undo", "refusal", "saveError"), ["undo"]);
-  assert.deepEqual(kindsToRemove("undo", "refusal", "session", "saveError"), ["saveError"]);
+  assert.deepEqual(findKindsToRemove("session", "undo", "refusal", "saveError"), ["undo"]);
+  assert.deepEqual(findKindsToRemove("undo", "refusal", "session", "saveError"), ["saveError"]);
 });
 
 test("the newest notice stays, whatever its kind", () => {
-  assert.deepEqual(kindsToRemove("undo", "unopened", "unopened", "unopened"), ["unopened"]);
+  assert.deepEqual(findKindsToRemove("undo", "unopened", "unopened", "unopened"), ["unopened"]);
 });

@@ -115,20 +115,21 @@ test("names of keys have the format of the table or of the editor", () => {
   assert.deepEqual(Object.keys(makeEditorBindings("debug.condition", () => {})), ["Shift-F9"]);
 });
 
-const entry = (label, hint = "", keys = []) => ({ label, hint, disabledReason: "", keys, act: () => {} });
+const createEntry = (label, hint = "", keys = []) => ({ label, hint, disabledReason: "", keys, act: () => {} });
 
 test("the palette finds entries by words in any order, and ranks matches at the beginning first", () => {
-  const entries = [entry("Show Source"), entry("Save project"), entry("Step over", "Time", ["F10"]), entry("Zoom to fit")];
-  const names = (query) => searchEntries(entries, query).map(({ label }) => label);
-  assert.deepEqual(names(""), ["Show Source", "Save project", "Step over", "Zoom to fit"]);
-  assert.deepEqual(names("s"), ["Show Source", "Save project", "Step over"]);
-  assert.deepEqual(names("over st"), ["Step over"]);
-  assert.deepEqual(names("OVER"), ["Step over"]);
-  assert.deepEqual(names("time"), ["Step over"]);
-  assert.deepEqual(names("f10"), ["Step over"]);
-  assert.deepEqual(names("sou"), ["Show Source"]);
-  assert.deepEqual(names("xyz"), []);
-  assert.ok(rankEntry(entry("Step over"), ["step"]) < rankEntry(entry("Show a step"), ["step"]));
+  const entries = [createEntry("Show Source"), createEntry("Save project"), createEntry("Step over", "Time", ["F10"]),
+    createEntry("Zoom to fit")];
+  const findLabels = (query) => searchEntries(entries, query).map(({ label }) => label);
+  assert.deepEqual(findLabels(""), ["Show Source", "Save project", "Step over", "Zoom to fit"]);
+  assert.deepEqual(findLabels("s"), ["Show Source", "Save project", "Step over"]);
+  assert.deepEqual(findLabels("over st"), ["Step over"]);
+  assert.deepEqual(findLabels("OVER"), ["Step over"]);
+  assert.deepEqual(findLabels("time"), ["Step over"]);
+  assert.deepEqual(findLabels("f10"), ["Step over"]);
+  assert.deepEqual(findLabels("sou"), ["Show Source"]);
+  assert.deepEqual(findLabels("xyz"), []);
+  assert.ok(rankEntry(createEntry("Step over"), ["step"]) < rankEntry(createEntry("Show a step"), ["step"]));
 });
 
 test("places: texts, labels, typed addresses and lines, projects, examples", () => {
@@ -153,7 +154,6 @@ test("places: texts, labels, typed addresses and lines, projects, examples", () 
   assert.deepEqual(openFirst("clo"), ["clock", "Example", "example clock"]);
   assert.deepEqual(searchEntries(listDestinations("nowhere", calls), "nowhere"), []);
   assert.equal(listDestinations("", { ...calls, map: () => null }).some(({ label }) => label === "loop"), false);
-
 });
 
 test("the help section about the keyboard begins with the keys of commands", () => {

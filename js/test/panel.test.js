@@ -37,7 +37,7 @@ rom = [{ chip = 0, port = "00ii" }]\nram = [{ bank = 2, chips = 1 }]\nlamp = [{ 
 
 /**
  * Resolves to a panel for a session with the given board and program. `ask` executes lines in its session, `typeKeys` types characters, and
- * `text` returns the text of the screen's rows.
+ * `getScreenText` returns the text of the screen's rows.
  */
 async function openPanel({ board, program }, { lines = "", isPaused = false, hasSource = false } = {}) {
   const state = engine.begin();
@@ -69,9 +69,9 @@ async function openPanel({ board, program }, { lines = "", isPaused = false, has
     }
     await panel.snapshot.refresh(countMiddleRows(TERMINAL_SIZE));
   };
-  const rows = (size = TERMINAL_SIZE) => screen.buildRows(size).map(({ pieces }) => pieces.map(({ text }) => text).join(""));
-  const text = (size = TERMINAL_SIZE) => rows(size).map((row) => row.trimEnd()).join("\n");
-  return { panel, screen, ask, typeKeys, passTime, rows, text };
+  const getScreenRows = (size = TERMINAL_SIZE) => screen.buildRows(size).map(({ pieces }) => pieces.map(({ text }) => text).join(""));
+  const getScreenText = (size = TERMINAL_SIZE) => getScreenRows(size).map((row) => row.trimEnd()).join("\n");
+  return { panel, screen, ask, typeKeys, passTime, getScreenRows, getScreenText };
 }
 
 const queryKeysDown = async (ask) => stateValue((await ask("state\n"))[0], "keys");
@@ -85,27 +85,27 @@ test("terminal input is split into keys", () => {
 });
 
 test("numbers are drawn in large digits", () => {
-  const rows = (number) => largeDigitRows(number).map((row) => row.trimEnd());
-  assert.deepEqual(rows("4.2"), ["         ###", "#   #       #", " ###     ###", "    #   #", "      #  ###"]);
-  assert.deepEqual(rows("-?"), ["       ###", "          #", " ###   ###", "      #", ""]);
+  const digitRowsOf = (number) => largeDigitRows(number).map((row) => row.trimEnd());
+  assert.deepEqual(digitRowsOf("4.2"), ["         ###", "#   #       #", " ###     ###", "    #   #", "      #  ###"]);
+  assert.deepEqual(digitRowsOf("-?"), ["       ###", "          #", " ###   ###", "      #", ""]);
 });
 
 test("rows of lamps: a die, a matrix, a grid, and others with names", () => {
-  const lampRows = (text, count, isLit) => buildLampRows(new Face(text), count)
+  const formatLampRows = (text, count, isLit) => buildLampRows(new Face(text), count)
     .map((row) => row.map((cell) => formatCell(cell, cell.reader && cell.reader.isLit(isLit) ? 3 : 0)).join("").trimEnd());
-  assert.deepEqual(lampRows("# die 0: 7 lamps\n", 7, "*..*..*"), ["*       .", ".   *   .", ".       *", ""]);
-  assert.deepEqual(lampRows("# matrix 0: 2 rows of 2 scanned by 2\n", 4, ".**."), [". *", ". .", ""]);
-  assert.deepEqual(lampRows("# lamp 0: red go_on _ far\n# grid 0: red 2\n# grid 1: _ go_on\n", 4, "*..*"),
+  assert.deepEqual(formatLampRows("# die 0: 7 lamps\n", 7, "*..*..*"), ["*       .", ".   *   .", ".       *", ""]);
+  assert.deepEqual(formatLampRows("# matrix 0: 2 rows of 2 scanned by 2\n", 4, ".**."), [". *", ". .", ""]);
+  assert.deepEqual(formatLampRows("# lamp 0: red go_on _ far\n# grid 0: red 2\n# grid 1: _ go_on\n", 4, "*..*"),
     ["(*) red .", "        ( ) go on", "", "(*) far"]);
-  assert.deepEqual(lampRows("# bar 0: 14 lamps\n", 14, `*${".".repeat(13)}`), [`*${".".repeat(13)}`, ""]);
+  assert.deepEqual(formatLampRows("# bar 0: 14 lamps\n", 14, `*${".".repeat(13)}`), [`*${".".repeat(13)}`, ""]);
 });
 
 test("a calculator: typed keys are pressed one after the other, and the display has large digits", async () => {
-  const { typeKeys, passTime, text, panel } = await openPanel(CALCULATOR);
+  const { typeKeys, passTime, getScreenText, panel } = await openPanel(CALCULATOR);
   await typeKeys("12+30=");
   await passTime(2 * SECOND_MS);
-  assert.match(text(), /^ Desk calculator: s\.mcs {3}\d+ commands {3}running\n {7}###.* display 42\n# {3}# {5}#/);
-  assert.match(text(), / 7 {5}8 {5}9 /);
+  assert.match(getScreenText(), /^ Desk calculator: s\.mcs {3}\d+ commands {3}running\n {7}###.* display 42\n# {3}# {5}#/);
+  assert.match(getScreenText(), / 7 {5}8 {5}9 /);
   await panel.end();
   assert.deepEqual([panel.isEnded, panel.snapshot.keysDown.count], [true, 0]);
 });
@@ -129,40 +129,40 @@ test("the panel runs at the speed of the chip, and skips time that a slow host m
 });
 
 test("a session at a breakpoint is paused; Enter runs one instruction; Tab toggles a breakpoint", async () => {
-  const { typeKeys, text, panel } = await openPanel(COUNTER, { lines: "poke r3 15\npoke r2 3\nbreak 2\nrun 100\n" });
+  const { typeKeys, getScreenText, panel } = await openPanel(COUNTER, { lines: "poke r3 15\npoke r2 3\nbreak 2\nrun 100\n" });
   await panel.snapshot.refresh(countMiddleRows(TERMINAL_SIZE));
-  assert.match(text(), /paused at a breakpoint\n/);
-  assert.match(text(), />\*002 72 00 ISZ R2, 0x000/);
+  assert.match(getScreenText(), /paused at a breakpoint\n/);
+  assert.match(getScreenText(), />\*002 72 00 ISZ R2, 0x000/);
   await typeKeys("\r");
-  assert.match(text(), /commands {3}paused\n/);
-  assert.match(text(), /> 000 73 00 ISZ R3, 0x000/);
-  assert.match(text(), /P1 40 /);
-  assert.match(text(), /2\.0\.3 0000000000000000 0000/);
-  assert.match(text(), /2\.0 out 0/);
+  assert.match(getScreenText(), /commands {3}paused\n/);
+  assert.match(getScreenText(), /> 000 73 00 ISZ R3, 0x000/);
+  assert.match(getScreenText(), /P1 40 /);
+  assert.match(getScreenText(), /2\.0\.3 0000000000000000 0000/);
+  assert.match(getScreenText(), /2\.0 out 0/);
   await typeKeys("\t");
-  assert.match(text(), />\*000/);
+  assert.match(getScreenText(), />\*000/);
   await typeKeys("\t");
-  assert.match(text(), /> 000/);
+  assert.match(getScreenText(), /> 000/);
 });
 
 test("while paused, typing a key toggles it; a key that was down before stays down at the end", async () => {
-  const { typeKeys, text, panel, ask } = await openPanel(COUNTER, { lines: "press 0 1\n", isPaused: true });
+  const { typeKeys, getScreenText, panel, ask } = await openPanel(COUNTER, { lines: "press 0 1\n", isPaused: true });
   await typeKeys("a");
-  assert.match(text(), /\[a\] {3}\[CE:c\]/);
+  assert.match(getScreenText(), /\[a\] {3}\[CE:c\]/);
   await typeKeys("ac");
-  assert.match(text(), / a {5}CE:c /);
+  assert.match(getScreenText(), / a {5}CE:c /);
   await typeKeys("C");
-  assert.match(text(), /\[CE:c\]/);
+  assert.match(getScreenText(), /\[CE:c\]/);
   await typeKeys("z");
-  assert.match(text(), /the board has no key z\n/);
+  assert.match(getScreenText(), /the board has no key z\n/);
   await typeKeys("\u001b[21~");
-  assert.match(text(), /this key does nothing here; the last line lists the keys\n/);
+  assert.match(getScreenText(), /this key does nothing here; the last line lists the keys\n/);
   await typeKeys("\u0014");
-  assert.match(text(), / test 0 /);
+  assert.match(getScreenText(), / test 0 /);
   await typeKeys("\u0012");
-  const [count] = await ask("seq\n");
+  const [seqAnswer] = await ask("seq\n");
   await typeKeys("\u0004");
-  const finalSeq = `seq ${Number(count.slice("seq ".length)) + 1}`;
+  const finalSeq = `seq ${Number(seqAnswer.slice("seq ".length)) + 1}`;
   assert.deepEqual([panel.isEnded, await queryKeysDown(ask), await ask("seq\n")], [true, "-", [finalSeq]]);
   const otherPanel = await openPanel(COUNTER, { lines: "press 0 1\n", isPaused: true });
   const seqBefore = await otherPanel.ask("seq\n");
@@ -172,37 +172,37 @@ test("while paused, typing a key toggles it; a key that was down before stays do
 
 test("a rejected line is reported", async () => {
   const breakLines = Array.from({ length: 32 }, (_, index) => `break ${100 + index}\n`).join("");
-  const { typeKeys, text } = await openPanel(COUNTER, { lines: breakLines, isPaused: true });
+  const { typeKeys, getScreenText } = await openPanel(COUNTER, { lines: breakLines, isPaused: true });
   await typeKeys("\t");
-  assert.match(text(), /break 0x000 is rejected: no (\d+): words of \1\n/);
+  assert.match(getScreenText(), /break 0x000 is rejected: no (\d+): words of \1\n/);
 });
 
 test("with a source, the listing has source lines, and the next line is above it", async () => {
-  const { typeKeys, text } = await openPanel(COUNTER, { isPaused: true, hasSource: true });
+  const { typeKeys, getScreenText } = await openPanel(COUNTER, { isPaused: true, hasSource: true });
   await typeKeys("\r");
-  assert.match(text(), /\ncount, line 1: count: ISZ R3, count ; low\n/);
-  assert.match(text(), /> 000 count: ISZ R3, count\n/);
-  assert.match(text(), / {2}002 {3}ISZ R2, count\n/);
-  assert.match(text(), / {2}00A 00 {4}NOP\n/);
+  assert.match(getScreenText(), /\ncount, line 1: count: ISZ R3, count ; low\n/);
+  assert.match(getScreenText(), /> 000 count: ISZ R3, count\n/);
+  assert.match(getScreenText(), / {2}002 {3}ISZ R2, count\n/);
+  assert.match(getScreenText(), / {2}00A 00 {4}NOP\n/);
 });
 
 test("lamps have levels of brightness while running, and the state of an instant while paused", async () => {
   const board = `# lamp 0: seldom mostly always never\n[[rom]]\nchip = 0\nport = "0000"\n${
     [0, 1, 2, 3].map((line) => `[[lamp]]\nline = "rom0.${line}"\n`).join("")}`;
   const program = "FIM P0, 0\nSRC P0\nloop: LDM 5\nWRR\nNOP\nLDM 6\nWRR\nFIM P1, 0\nwait: ISZ R2, wait\nJUN loop\n";
-  const { passTime, typeKeys, text, screen } = await openPanel({ board, program });
+  const { passTime, typeKeys, getScreenText, screen } = await openPanel({ board, program });
   await passTime(200);
-  assert.match(text(), /\(:\) seldom[^]*\(\*\) mostly[^]*\(\*\) always[^]*\( \) never/);
+  assert.match(getScreenText(), /\(:\) seldom[^]*\(\*\) mostly[^]*\(\*\) always[^]*\( \) never/);
   const seldomPiece = screen.buildRows(TERMINAL_SIZE).flatMap(({ pieces }) => pieces).find((piece) => piece.text.includes("seldom"));
   assert.deepEqual([seldomPiece.colour, seldomPiece.level], ["red", 1]);
   await typeKeys(" ");
-  assert.doesNotMatch(text(), /\(:\)/);
+  assert.doesNotMatch(getScreenText(), /\(:\)/);
 });
 
 test("the panel shows the last lines of the printout, after running and after steps", async () => {
-  const { typeKeys, passTime, rows, panel } = await openPanel(PRINTING);
+  const { typeKeys, passTime, getScreenRows, panel } = await openPanel(PRINTING);
   const readPrintout = () => {
-    const panelRows = rows().map((row) => row.slice(29, 53).trimEnd());
+    const panelRows = getScreenRows().map((row) => row.slice(29, 53).trimEnd());
     return panelRows.slice(panelRows.indexOf("--- printout -----------") + 1, -2).filter(Boolean).join("/");
   };
   await typeKeys("12+30=5");
@@ -220,15 +220,15 @@ test("the panel shows the last lines of the printout, after running and after st
 test("rows fit the terminal, and texts from files cannot send control characters to it", async () => {
   const hostileTexts = { ...COUNTER };
   hostileTexts.board = COUNTER.board.replace("# title: Own", `# title: O\u001b[2Jwn ${"x".repeat(200)}\n# lamp 0: go\u009b31m`);
-  const { typeKeys, rows, text } = await openPanel(hostileTexts, { isPaused: true });
+  const { typeKeys, getScreenRows, getScreenText } = await openPanel(hostileTexts, { isPaused: true });
   await typeKeys("\u001b[C");
   for (const size of [TERMINAL_SIZE, { rows: 31, columns: 97 }]) {
-    assert.deepEqual(rows(size).map((row) => [...row].length), Array(size.rows).fill(size.columns));
+    assert.deepEqual(getScreenRows(size).map((row) => [...row].length), Array(size.rows).fill(size.columns));
   }
-  assert.match(text(), /^ O\\x1B\[2Jwn x+\n/);
-  assert.match(text(), /\( \) go\\x9B31m/);
+  assert.match(getScreenText(), /^ O\\x1B\[2Jwn x+\n/);
+  assert.match(getScreenText(), /\( \) go\\x9B31m/);
   // eslint-disable-next-line no-control-regex
-  assert.doesNotMatch(text(), /[\u0000-\u0009\u000b-\u001f\u007f-\u009f]/);
+  assert.doesNotMatch(getScreenText(), /[\u0000-\u0009\u000b-\u001f\u007f-\u009f]/);
   assert.deepEqual([fitsPanel(TERMINAL_SIZE), fitsPanel({ rows: 23, columns: 80 }), fitsPanel({ rows: 24, columns: 79 })],
     [true, false, false]);
 });

@@ -20,9 +20,9 @@ test("a preference is stored for the next visit", () => {
 
 test("two tabs keep each other's preferences", () => {
   const store = createFakeStore();
-  const [first, second] = [new Preferences(store), new Preferences(store)];
-  first.set("text", "board");
-  second.set("fold.talk", "folded");
+  const [firstPreferences, secondPreferences] = [new Preferences(store), new Preferences(store)];
+  firstPreferences.set("text", "board");
+  secondPreferences.set("fold.talk", "folded");
   const reloadedPreferences = new Preferences(store);
   assert.deepEqual([reloadedPreferences.get("text"), reloadedPreferences.get("fold.talk")], ["board", "folded"]);
 });

@@ -19,36 +19,36 @@ const DOWN_CYCLES = 2000;
 const UP_CYCLES = 14000;
 
 /** Resolves to a session with the calculator. `printed` is the last reported printout, and `lastReport` the last report. */
-async function openCalculator(file = null, stored = {}) {
+async function openCalculator(file = null, storedValues = {}) {
   const calls = new BenchCalls(async () => true);
   await calls.load(pageModule, []);
-  const tape = { calls, printed: null };
-  recordReport(tape, calls.open(file || calls.createFile(EXAMPLE), stored.total, stored.reset, stored.printed));
+  const session = { calls, printed: null };
+  recordReport(session, calls.open(file || calls.createFile(EXAMPLE), storedValues.total, storedValues.reset, storedValues.printed));
   calls.watchPrinter(printer);
-  return tape;
+  return session;
 }
 
-function recordReport(tape, report) {
-  if (report.printed) tape.printed = report.printed;
-  return Object.assign(tape, { lastReport: report });
+function recordReport(session, report) {
+  if (report.printed) session.printed = report.printed;
+  return Object.assign(session, { lastReport: report });
 }
 
 /** Presses keys one after another, while time is running or with console lines. `names` contains the keys' names, separated by blanks. */
-async function pressKeys(tape, names, usesLines = false) {
+async function pressKeys(session, names, usesLines = false) {
   for (const name of names.split(" ")) {
     if (usesLines) {
       const place = PLACE_BY_LEGEND.get(name);
-      recordReport(tape, await tape.calls.serve(`press ${place}\nrun ${DOWN_CYCLES}\nrelease ${place}\nrun ${UP_CYCLES}\n`));
+      recordReport(session, await session.calls.serve(`press ${place}\nrun ${DOWN_CYCLES}\nrelease ${place}\nrun ${UP_CYCLES}\n`));
     } else {
-      tape.calls.press(KEY_BY_LEGEND.get(name));
-      recordReport(tape, tape.calls.advance(4000));
-      tape.calls.release(KEY_BY_LEGEND.get(name));
-      recordReport(tape, tape.calls.advance(UP_CYCLES));
+      session.calls.press(KEY_BY_LEGEND.get(name));
+      recordReport(session, session.calls.advance(4000));
+      session.calls.release(KEY_BY_LEGEND.get(name));
+      recordReport(session, session.calls.advance(UP_CYCLES));
     }
   }
 }
 
-const printedLines = ({ printed }) => printoutLines(printed ? printed.codes.map(([, code]) => code) : [], printer.words).slice(0, -1);
+const printedLinesOf = ({ printed }) => printoutLines(printed ? printed.codes.map(([, code]) => code) : [], printer.words).slice(0, -1);
 
 test("printed codes become lines", () => {
   assert.deepEqual(printoutLines([1, 2, 10, 15, 3], printer.words), ["12+", "3"]);
@@ -57,59 +57,59 @@ test("printed codes become lines", () => {
 });
 
 test("the printout has the keys and the results", async () => {
-  const tape = await openCalculator();
-  await pressKeys(tape, "1 2 + 3 0 =");
-  assert.deepEqual(printedLines(tape), ["12+", "30=", "42"]);
-  await pressKeys(tape, "- 5 00 = C 7 *", true);
-  assert.deepEqual(printedLines(tape), ["12+", "30=", "42", "42-", "500=", "-458", "C", "7*"]);
+  const session = await openCalculator();
+  await pressKeys(session, "1 2 + 3 0 =");
+  assert.deepEqual(printedLinesOf(session), ["12+", "30=", "42"]);
+  await pressKeys(session, "- 5 00 = C 7 *", true);
+  assert.deepEqual(printedLinesOf(session), ["12+", "30=", "42", "42-", "500=", "-458", "C", "7*"]);
 });
 
 test("going back removes printed lines, going forward restores them, and new lines replace them", async () => {
-  const tape = await openCalculator();
-  await pressKeys(tape, "4 + 5 =", true);
-  const linesBefore = printedLines(tape);
+  const session = await openCalculator();
+  await pressKeys(session, "4 + 5 =", true);
+  const linesBefore = printedLinesOf(session);
   assert.deepEqual(linesBefore, ["4+", "5=", "9"]);
-  recordReport(tape, await tape.calls.goBack({ kind: "stop" }));
-  assert.deepEqual(printedLines(tape), ["4+"]);
-  recordReport(tape, tape.calls.goForward());
-  assert.deepEqual(printedLines(tape), linesBefore);
-  recordReport(tape, await tape.calls.goBack({ kind: "stop" }));
-  await pressKeys(tape, "1 =", true);
-  assert.deepEqual(printedLines(tape), ["4+", "51=", "55"]);
+  recordReport(session, await session.calls.goBack({ kind: "stop" }));
+  assert.deepEqual(printedLinesOf(session), ["4+"]);
+  recordReport(session, session.calls.goForward());
+  assert.deepEqual(printedLinesOf(session), linesBefore);
+  recordReport(session, await session.calls.goBack({ kind: "stop" }));
+  await pressKeys(session, "1 =", true);
+  assert.deepEqual(printedLinesOf(session), ["4+", "51=", "55"]);
 });
 
 test("a long series of lines prints, and cancelled lines print nothing", async () => {
   let shouldContinue = true;
   const calls = new BenchCalls(async () => shouldContinue);
   await calls.load(pageModule, []);
-  const tape = recordReport({ calls, printed: null }, calls.open(calls.createFile(EXAMPLE)));
+  const session = recordReport({ calls, printed: null }, calls.open(calls.createFile(EXAMPLE)));
   calls.watchPrinter(printer);
   const runLines = "run 100\n".repeat(3000);
-  const [nine, equals] = [PLACE_BY_LEGEND.get("9"), PLACE_BY_LEGEND.get("=")];
-  const lines = `press ${nine}\nrun 2000\nrelease ${nine}\n${runLines}press ${equals}\n${runLines}`;
-  recordReport(tape, await calls.serve(lines));
-  assert.deepEqual(printedLines(tape), ["9=", "9"]);
+  const [ninePlace, equalsPlace] = [PLACE_BY_LEGEND.get("9"), PLACE_BY_LEGEND.get("=")];
+  const lines = `press ${ninePlace}\nrun 2000\nrelease ${ninePlace}\n${runLines}press ${equalsPlace}\n${runLines}`;
+  recordReport(session, await calls.serve(lines));
+  assert.deepEqual(printedLinesOf(session), ["9=", "9"]);
   shouldContinue = false;
   await assert.rejects(calls.serve(lines));
-  recordReport(tape, calls.advance(100));
-  assert.deepEqual(printedLines(tape), ["9=", "9"]);
+  recordReport(session, calls.advance(100));
+  assert.deepEqual(printedLinesOf(session), ["9=", "9"]);
 });
 
 test("a reload keeps the printout; clearing it and another printer remove it", async () => {
-  const tape = await openCalculator();
-  await pressKeys(tape, "8 =", true);
-  const { total, reset, file } = tape.lastReport;
-  const reloadedTape = await openCalculator(new Uint8Array(file), { total, reset, printed: tape.printed });
-  assert.deepEqual(printedLines(reloadedTape), ["8=", "8"]);
-  await pressKeys(reloadedTape, "+", true);
-  assert.deepEqual(printedLines(reloadedTape), ["8=", "8", "8+"]);
-  reloadedTape.calls.clearPrintout();
-  await pressKeys(reloadedTape, "1 =", true);
-  assert.deepEqual(printedLines(reloadedTape), ["1=", "9"]);
-  reloadedTape.calls.watchPrinter({ strobe: "rom0.1", port: "ram0.2" });
-  reloadedTape.calls.watchPrinter(printer);
-  recordReport(reloadedTape, reloadedTape.calls.advance(100));
-  assert.deepEqual(printedLines(reloadedTape), []);
+  const session = await openCalculator();
+  await pressKeys(session, "8 =", true);
+  const { total, reset, file } = session.lastReport;
+  const reloadedSession = await openCalculator(new Uint8Array(file), { total, reset, printed: session.printed });
+  assert.deepEqual(printedLinesOf(reloadedSession), ["8=", "8"]);
+  await pressKeys(reloadedSession, "+", true);
+  assert.deepEqual(printedLinesOf(reloadedSession), ["8=", "8", "8+"]);
+  reloadedSession.calls.clearPrintout();
+  await pressKeys(reloadedSession, "1 =", true);
+  assert.deepEqual(printedLinesOf(reloadedSession), ["1=", "9"]);
+  reloadedSession.calls.watchPrinter({ strobe: "rom0.1", port: "ram0.2" });
+  reloadedSession.calls.watchPrinter(printer);
+  recordReport(reloadedSession, reloadedSession.calls.advance(100));
+  assert.deepEqual(printedLinesOf(reloadedSession), []);
 });
 
 /** Returns the expected printout of the calculator, calculated with integers of any size. */
@@ -152,15 +152,15 @@ test("random key sequences print the results of exact arithmetic", async () => {
     seed = (seed * 16807) % 2147483647;
     return seed % limit;
   };
-  const tape = await openCalculator();
-  for (let chain = 0; chain < 12; chain++) {
+  const session = await openCalculator();
+  for (let round = 0; round < 12; round++) {
     const names = ["C"];
     for (let index = 0; index < 24; index++) {
       const kind = randomBelow(10);
       names.push(kind < 6 ? String(randomBelow(10)) : kind === 6 ? "00" : "+-*="[randomBelow(4)]);
     }
-    tape.calls.clearPrintout();
-    await pressKeys(tape, names.join(" "), true);
-    assert.deepEqual(printedLines(tape), computePrintout(names), names.join(" "));
+    session.calls.clearPrintout();
+    await pressKeys(session, names.join(" "), true);
+    assert.deepEqual(printedLinesOf(session), computePrintout(names), names.join(" "));
   }
 });

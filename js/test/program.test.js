@@ -18,9 +18,9 @@ const manual = readFileSync(new URL("../../docs/MANUAL.md", import.meta.url), "u
 const rows = manual.split("### The 45 instructions")[1].split("### What SRC")[0].split("\n").filter((line) => /^\| `[A-Z]/.test(line))
   .map((line) => line.slice(1, -1).split("|").map((cell) => cell.trim()));
 const instructions = readInstructions([{ title: "The 45 instructions", tables: [{ caption: "", head: [], rows }] }]);
-const programFacts = (text) => ({ instructions, names: findDefinedNames(text.split("\n")) });
-const errorOf = (line, number = 30, text = line) => (explainProgramLine(line, number, programFacts(text)) || { message: "" }).message;
-const wrongWordOf = (line, number = 30) => (explainProgramLine(line, number, programFacts(line)) || { word: { text: "" } }).word.text;
+const programFactsOf = (text) => ({ instructions, names: findDefinedNames(text.split("\n")) });
+const errorOf = (line, number = 30, text = line) => (explainProgramLine(line, number, programFactsOf(text)) || { message: "" }).message;
+const wrongWordOf = (line, number = 30) => (explainProgramLine(line, number, programFactsOf(line)) || { word: { text: "" } }).word.text;
 
 test("the manual's table has all 45 instructions", () => {
   assert.equal(instructions.size, 45);
@@ -87,8 +87,8 @@ test("wrong names, values and addresses are explained", () => {
   assert.match(errorOf("JCN 4, far", 34), /^far is on another page; JCN reaches/);
 });
 
-/** Returns a stand-in for a bench that reports these errors and rejects the program with the error number `number`. */
-const createFakeBench = (errors, number = 0) => {
+/** Returns a stand-in for a bench that reports these errors and rejects the program with the error number `refusalNumber`. */
+const createFakeBench = (errors, refusalNumber = 0) => {
   const requests = { sentTexts: [], refusalCount: 0 };
   return {
     requests,
@@ -98,7 +98,7 @@ const createFakeBench = (errors, number = 0) => {
     },
     findRefusal: async () => {
       requests.refusalCount += 1;
-      return number ? { number, line: 0 } : null;
+      return refusalNumber ? { number: refusalNumber, line: 0 } : null;
     },
   };
 };

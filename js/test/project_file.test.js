@@ -4,18 +4,18 @@ import { checksum } from "../core/session/checksum.js";
 import { InvalidProject, isProject, projectText, readProject, tooLongMessage } from "../core/session/project_file.js";
 import { parseBreakpoints, splitProject, parseWatchLines } from "../core/session/project_parts.js";
 
-const SIZE = 163856;
+const SESSION_SIZE = 163856;
 const encode = (text) => new TextEncoder().encode(text);
 
 function createProject(texts = {}) {
-  const file = new Uint8Array(SIZE);
+  const file = new Uint8Array(SESSION_SIZE);
   file.set(encode("MCS4BEN1"));
-  file[SIZE - 1] = 0xfe;
+  file[SESSION_SIZE - 1] = 0xfe;
   return { name: "a lock", boardText: "# b\n", programText: "; p\n", testText: "", propertiesText: "", file, ...texts };
 }
 
 function parse(text) {
-  return readProject(encode(text), SIZE);
+  return readProject(encode(text), SESSION_SIZE);
 }
 
 test("the checksum is that of the command `cksum`", () => {
@@ -89,7 +89,7 @@ test("a project with any single changed byte is rejected", () => {
   for (let index = 0; index < bytes.length; index++) {
     const changedBytes = bytes.slice();
     changedBytes[index] ^= 1;
-    assert.throws(() => readProject(changedBytes, SIZE), InvalidProject, `byte ${index}`);
+    assert.throws(() => readProject(changedBytes, SESSION_SIZE), InvalidProject, `byte ${index}`);
   }
 });
 
@@ -113,8 +113,8 @@ test("errors in a project without a checksum are reported with their lines", () 
     ["\n.\nend\n", "\n.\nmore\nend\n", /end of the file/],
   ];
   for (const [from, to, message] of cases) assert.throws(() => parse(text.replace(from, to)), message);
-  assert.throws(() => readProject(Uint8Array.of(...encode("fethsaim project 1\n"), 255), SIZE), /UTF-8/);
-  assert.throws(() => readProject(new Uint8Array((4 << 20) + 1), SIZE), /more bytes/);
+  assert.throws(() => readProject(Uint8Array.of(...encode("fethsaim project 1\n"), 255), SESSION_SIZE), /UTF-8/);
+  assert.throws(() => readProject(new Uint8Array((4 << 20) + 1), SESSION_SIZE), /more bytes/);
 });
 
 test("breakpoints are in the head of the project, and are read back unchanged", () => {
@@ -164,7 +164,7 @@ test("a project is split into the files of a folder, which can be parsed again",
 test("a text that is too long for the editors is read only on request; a text with NUL bytes is always rejected", () => {
   const longText = projectText(createProject({ programText: "; a remark\n".repeat(7000) }));
   assert.throws(() => parse(longText), /the source has 77,000 characters/);
-  assert.equal(readProject(encode(longText), SIZE, true).programText.length, 77000);
+  assert.equal(readProject(encode(longText), SESSION_SIZE, true).programText.length, 77000);
   assert.throws(() => parse(projectText(createProject({ boardText: "\0" }))), /NUL bytes/);
   const textWithExtraLine = projectText(createProject()).replace(/cksum \d+\n/, "").replace("\nend\n", "\nmore\nend\n");
   assert.throws(() => parse(textWithExtraLine),

@@ -13,7 +13,7 @@ import { readPageData } from "../node/page_parts.mjs";
 import { pageModule } from "./page_session.js";
 
 const engine = new Engine(new globalThis.WebAssembly.Module(pageModule));
-const data = readPageData();
+const pageData = readPageData();
 const readExample = (name) => readFileSync(new URL(`../../examples/${name}`, import.meta.url), "utf8");
 const BOARD = readExample("three_lamps/board.toml");
 const PROGRAM = readExample("three_lamps/three_lamps.asm");
@@ -21,14 +21,14 @@ const LOCK = { board: readExample("lock/board.toml"), program: readExample("lock
 
 /** Resolves to a prompt with files, and to the function `ask`, which enters lines and returns the prompt's output and errors. */
 async function createPrompt({ board, program } = { board: BOARD, program: PROGRAM }, isInteractive = false, files = {}) {
-  let printed = [];
+  let printedLines = [];
   const session = new DebugSession(engine, { board, program });
   const launchResult = {
     session, writer: null, program: "p.asm", board: "b.toml", stopsOnEntry: true, isDebugged: true, nameOf: (name) => name,
   };
   const calls = {
-    print: (words) => printed.push(...words.split("\n")),
-    printError: (words) => printed.push(`refused: ${words}`),
+    print: (words) => printedLines.push(...words.split("\n")),
+    printError: (words) => printedLines.push(`refused: ${words}`),
     pause: async () => {},
     source: () => PROGRAM.replace("time  = 0x0C", "time  = 0x0D"),
     read: (name) => files[name] ?? assert.fail(`cannot read ${name}`),
@@ -39,14 +39,14 @@ async function createPrompt({ board, program } = { board: BOARD, program: PROGRA
     isInteractive,
     view: null,
   };
-  const prompt = new Prompt(launchResult, data, calls);
+  const prompt = new Prompt(launchResult, pageData, calls);
   await prompt.begin();
   const ask = async (...lines) => {
-    printed = [];
+    printedLines = [];
     for (const line of lines) await prompt.enterLine(line);
-    return printed;
+    return printedLines;
   };
-  return { prompt, session, ask, printed: () => printed };
+  return { prompt, session, ask };
 }
 
 test("each command has a handler, is found by its names, and has help", async () => {
@@ -94,20 +94,25 @@ test("several steps back end early when the user pauses", async () => {
 
 test("steps forward and back", async () => {
   const { session, ask } = await createPrompt();
-  const state = () => session.debugger.session.ask("state\n")[0].replace(/^state seq \d+/, "");
-  const stateBefore = state();
+  const readState = () => session.debugger.session.ask("state\n")[0].replace(/^state seq \d+/, "");
+  const stateBefore = readState();
   assert.deepEqual(await ask("step 3"), ["3 instructions were done, after 4 cycles, 0.043 ms.", ">    7  004          XCH R4"]);
   assert.match((await ask("reverse-step 3"))[0], /^Back at 000 \(.*\), 4 cycles, 0\.043 ms earlier: this instruction has not run yet\.$/);
-  assert.equal(state(), stateBefore);
+  assert.equal(readState(), stateBefore);
+  assert.match((await ask("forward"))[0], /^Forward again to 004 \(.*\), 4 cycles, 0\.043 ms later\.$/);
+  assert.match((await ask("forward"))[0], /^refused: Nothing was done: forward returns to where going back started/);
+  await ask("reverse-step 3");
   await ask("step 2");
   assert.match((await ask("reverse-step 3"))[0], /^Back at 000 .* earlier, after 2 of 3 instructions: the remembered past begins here\.$/);
-  assert.equal(state(), stateBefore);
+  assert.equal(readState(), stateBefore);
   assert.deepEqual(await ask("reverse-step 3"), ["refused: Nothing was done: the remembered past reaches no further back."]);
   await ask("until wait");
   assert.equal(session.address, 0x014);
   assert.match((await ask("backtrace"))[1], /^#1 {2}007 {2}next \+ 2, line \d+, the call$/);
   assert.match((await ask("finish"))[0], /^Returned to 009 \(next \+ 4, line \d+\)/);
   assert.match((await ask("reverse-next"))[0], /^Back at 007 \(next \+ 2, line \d+\): this instruction has not run yet\.$/);
+  assert.match((await ask("forward"))[0], /^Forward again to 009/);
+  await ask("reverse-next");
   assert.match((await ask("next"))[0], /^Returned to 009/);
   assert.match((await ask("back lamps")).join(), /Back at 006 .*: this instruction changes lamps from \.\.\. to \.\.\*\./);
   assert.match((await ask("forward"))[1], /^Forward again to 009/);
@@ -126,13 +131,14 @@ test("going back to breakpoints, to changes of watched places, and to the previo
   await ask("break next if r4 = 2", "continue");
   const totalAtBreakpoint = getTotal();
   await ask("run 50", "run 60");
-  const backMessage = async (line) => (await ask(line)).find((message) => message.startsWith("Back at"));
-  assert.match(await backMessage("back"), /^Back at the stop at .*, 60 cycles, .* earlier\.$/);
-  assert.match(await backMessage("reverse-continue"), /^Back at 005 \(next, line \d+\), 50 cycles, .*, at a breakpoint, when r4 = 2\.$/);
+  const getBackMessage = async (line) => (await ask(line)).find((message) => message.startsWith("Back at"));
+  assert.match(await getBackMessage("back"), /^Back at the stop at .*, 60 cycles, .* earlier\.$/);
+  assert.match(await getBackMessage("reverse-continue"), /^Back at 005 \(next, line \d+\), 50 cycles, .*, at a breakpoint, when r4 = 2\.$/);
   assert.equal(getTotal(), totalAtBreakpoint);
   await ask("watch lamps");
-  assert.match(await backMessage("rc"), /: this instruction changes lamps from \.\.\. to \.\.\*\.$/);
-  assert.match(await backMessage("rc"), /^Back at 000 .*, at the beginning of the remembered past: no breakpoint was passed since then\.$/);
+  assert.match(await getBackMessage("rc"), /: this instruction changes lamps from \.\.\. to \.\.\*\.$/);
+  assert.match(await getBackMessage("rc"),
+    /^Back at 000 .*, at the beginning of the remembered past: no breakpoint was passed since then\.$/);
   assert.equal(getTotal(), 0);
   assert.deepEqual(await ask("rc"), ["refused: Nothing was done: the remembered past reaches no further back."]);
   assert.match((await ask("rc 3")).join(), /^refused: reverse-continue takes no argument/);
@@ -145,10 +151,10 @@ test("a run with `bench run` also ends at breakpoints", async () => {
   const [cycles, hitsBefore] = [getTotal(), session.breakpoints.all[0].hits];
   await ask("back");
   assert.equal(getTotal(), 0);
-  const printed = (await ask("bench run 100000")).filter((line) => /^(ok|Paused)/.test(line));
+  const resultLines = (await ask("bench run 100000")).filter((line) => /^(ok|Paused)/.test(line));
   assert.equal(getTotal(), cycles);
-  assert.match(printed[0], new RegExp(`^ok \\d+ ran ${cycles} end$`));
-  assert.match(printed[1], /^Paused at 005 \(next, line \d+\), at a breakpoint, when r4 = 2\. The line run 100000 ended there\.$/);
+  assert.match(resultLines[0], new RegExp(`^ok \\d+ ran ${cycles} end$`));
+  assert.match(resultLines[1], /^Paused at 005 \(next, line \d+\), at a breakpoint, when r4 = 2\. The line run 100000 ended there\.$/);
   assert.equal(session.breakpoints.all[0].hits, hitsBefore + 1);
   await ask("delete", 'break next if r4 = 4 log "R4 is {r4}"');
   const output = await ask("bench run 20000");
@@ -231,11 +237,11 @@ test("the view shows source, registers and lamps in each size, and marks changed
   assert.deepEqual(lines.slice(-3), ["lamps ..* right", "r4 = 0x1", "-".repeat(79)]);
   for (const [rows, columns] of [[12, 40], [24, 60], [50, 200]]) {
     const size = viewSize(rows, columns);
-    const printed = view.lines(size, { head: leaveUnmarked, nextInstruction: leaveUnmarked, changedValue: leaveUnmarked });
-    assert.equal(printed.length, size.rows);
-    assert.deepEqual(printed.filter((line) => line.length > size.columns), []);
-    assert.match(printed.join("\n"), /acc 1/);
-    assert.ok(printed.some((line) => line.startsWith(">")));
+    const plainLines = view.lines(size, { head: leaveUnmarked, nextInstruction: leaveUnmarked, changedValue: leaveUnmarked });
+    assert.equal(plainLines.length, size.rows);
+    assert.deepEqual(plainLines.filter((line) => line.length > size.columns), []);
+    assert.match(plainLines.join("\n"), /acc 1/);
+    assert.ok(plainLines.some((line) => line.startsWith(">")));
   }
 });
 
@@ -353,10 +359,10 @@ test("breakpoints are saved to a file, and commands are read from a file", async
     "# Breakpoints of mcs4 debug", "tbreak 19", "commands $bpnum", "  silent", "  print pc", "end", "break 31 from 3 if r4 = 7",
     "disable $bpnum", "break 125 log \"R4 is {r4}\"", "watch ram.0.0x01", "watch r4", "",
   ]);
-  const printed = [await ask("info breakpoints"), await ask("info watches")];
+  const infoBefore = [await ask("info breakpoints"), await ask("info watches")];
   await ask("delete", "delete r4", "delete ram.0.0x01", "source saved");
   const maskNumbers = (lines) => lines.map((line) => line.replace(/^\d/, "N"));
-  assert.deepEqual([maskNumbers(await ask("info breakpoints")), await ask("info watches")], [maskNumbers(printed[0]), printed[1]]);
+  assert.deepEqual([maskNumbers(await ask("info breakpoints")), await ask("info watches")], [maskNumbers(infoBefore[0]), infoBefore[1]]);
   await ask("delete");
   assert.deepEqual((await ask("source bad")).slice(1), ["refused: bad: line 4: there is no command bogus; help shows them all"]);
   assert.equal(session.breakpoints.all.length, 1);

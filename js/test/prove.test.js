@@ -157,6 +157,7 @@ test("conditions that use inputs, or too many places, are rejected with a reason
   assert.equal(questionOf("while r0 = 2, never r1 = 1").question.forbidden.length, 1);
 });
 
+/** The conditions that the machine is at address 0, at the label look, and at the label lit. */
 const AT_ADDRESS_0 = ["in counter 3 whole 0 0", "in counter 4 whole 0 0", "in counter 5 whole 0 0"];
 const AT_LOOK = [...AT_ADDRESS_0.slice(0, 2), "in counter 5 whole 9 9"];
 const AT_LIT = [...AT_ADDRESS_0.slice(0, 2), "in counter 5 whole 22 22"];
@@ -259,8 +260,8 @@ test("mistakes are another forbidden condition", () => {
 
 test("the prover's answers are parsed", () => {
   assert.deepEqual(readAnswer("holds 12\n"), { kind: "holds", states: 12 });
-  assert.deepEqual(readAnswer("may fail\n"), { kind: "fails", values: [] });
-  assert.deepEqual(readAnswer("may fail 0 15 1\n"), { kind: "fails", values: [0, 15, 1] });
+  assert.deepEqual(readAnswer("may fail\n"), { kind: "fails", reads: { values: [] } });
+  assert.deepEqual(readAnswer("may fail 0 15 1\n"), { kind: "fails", reads: { values: [0, 15, 1] } });
   assert.deepEqual(readAnswer("too many\n"), { kind: "more" });
   assert.deepEqual(readAnswer("gave up\n"), { kind: "lost" });
   assert.deepEqual(readAnswer("no 90\n"), { kind: "full", states: 0 });
@@ -274,7 +275,7 @@ const LAMP_ON_VALUES = [0, ...Array(16).fill(3)];
 
 async function findCounterexample(properties, values, index = 0) {
   const { campaign } = readCampaign(properties, subject);
-  return { campaign, found: await replayCounterexample(subject, campaign, index, values, async () => {}) };
+  return { campaign, found: await replayCounterexample(subject, campaign, index, { values }, async () => {}) };
 }
 
 test("the values of a run become key presses and a failing test", async () => {
@@ -335,7 +336,7 @@ test("a condition can be true for exactly its time, whichever instruction change
     const program = `loop:   ${first}\n        NOP\n        NOP\n        ${end}\n        JUN loop\n`;
     const loopSubject = createSubject(engine, BOARD, program);
     const campaignFor = (cycles) => readCampaign(`test\nnever ${condition} for ${cycles}`, loopSubject).campaign;
-    const findCounterexampleFor = (cycles) => replayCounterexample(loopSubject, campaignFor(cycles), 0, [0], async () => {});
+    const findCounterexampleFor = (cycles) => replayCounterexample(loopSubject, campaignFor(cycles), 0, { values: [0] }, async () => {});
     const found = await findCounterexampleFor(cycleCount - 1);
     assert.ok(found && await doesTestFail(found, program), `${first}, ${end}`);
     assert.equal(await findCounterexampleFor(cycleCount), null, `${first}, ${end}`);

@@ -143,14 +143,14 @@ test("a property with such a guard has its own question, also before a search", 
 test("presses that no read detects are not a counterexample", async () => {
   // The first read already finds START down. The key was pressed before that read, so no read sees it go down.
   const text = "lamp waiting on only after press START\n";
-  const [open] = await findVerdicts(text, new FixedAnswerEngine("may fail 0 8\n"));
-  assert.deepEqual(open, { kind: "open", reason: "it can become true before the program has read each key up and then down" });
-  const [proved] = await findVerdicts(text, new FixedAnswerEngine("holds 12\n"));
-  assert.deepEqual(proved, { kind: "proved", states: 12, bySets: false, limits: [], leftOut: "" });
-  const [found] = await findVerdicts("lamp go on only after press START, press START\n",
+  const [openVerdict] = await findVerdicts(text, new FixedAnswerEngine("may fail 0 8\n"));
+  assert.deepEqual(openVerdict, { kind: "open", reason: "it can become true before the program has read each key up and then down" });
+  const [provedVerdict] = await findVerdicts(text, new FixedAnswerEngine("holds 12\n"));
+  assert.deepEqual(provedVerdict, { kind: "proved", states: 12, bySets: false, limits: [], leftOut: "" });
+  const [foundVerdict] = await findVerdicts("lamp go on only after press START, press START\n",
     new FixedAnswerEngine(`may fail 0 8${" 1".repeat(16)}\n`));
-  assert.equal(found.kind, "found");
-  assert.match(found.counterexample.text, /\n {2}press START\n {2}run \d+\n {2}expect not lamp go on\n$/);
-  const [pin] = await findVerdicts("lamp foul on only after press PRESS\n");
-  assert.match(pin.reason, /^PRESS is at the TEST pin/);
+  assert.equal(foundVerdict.kind, "found");
+  assert.match(foundVerdict.counterexample.text, /\n {2}press START\n {2}run \d+\n {2}expect not lamp go on\n$/);
+  const [pinVerdict] = await findVerdicts("lamp foul on only after press PRESS\n");
+  assert.match(pinVerdict.reason, /^PRESS is at the TEST pin/);
 });

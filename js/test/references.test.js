@@ -25,16 +25,16 @@ test("the name at a position is found", () => {
 });
 
 test("a new name must be valid", () => {
-  const renamingError = (/** @type {string} */ newName) => findRenamingError(LINES, "loop", newName, isInstruction);
-  assert.equal(renamingError("again"), "");
-  assert.equal(renamingError("loop"), "");
-  assert.match(renamingError("9"), /does not begin with a digit/);
-  assert.match(renamingError("a_name_of_17_long"), /at most 16 characters; this has 17/);
-  assert.equal(renamingError("jun"), "jun is an instruction.");
-  assert.equal(renamingError("WPM"), "WPM is an instruction.");
-  assert.equal(renamingError("db"), "db is an instruction.");
-  assert.equal(renamingError("R5"), "R5 is a register.");
-  assert.equal(renamingError("count"), "count is already defined in line 1.");
+  const renamingErrorOf = (/** @type {string} */ newName) => findRenamingError(LINES, "loop", newName, isInstruction);
+  assert.equal(renamingErrorOf("again"), "");
+  assert.equal(renamingErrorOf("loop"), "");
+  assert.match(renamingErrorOf("9"), /does not begin with a digit/);
+  assert.match(renamingErrorOf("a_name_of_17_long"), /at most 16 characters; this has 17/);
+  assert.equal(renamingErrorOf("jun"), "jun is an instruction.");
+  assert.equal(renamingErrorOf("WPM"), "WPM is an instruction.");
+  assert.equal(renamingErrorOf("db"), "db is an instruction.");
+  assert.equal(renamingErrorOf("R5"), "R5 is a register.");
+  assert.equal(renamingErrorOf("count"), "count is already defined in line 1.");
 });
 
 test("lines can be commented and uncommented", () => {

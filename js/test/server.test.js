@@ -3,7 +3,7 @@ import assert from "node:assert/strict";
 import { test } from "node:test";
 import { readFileSync } from "node:fs";
 import { createQuickFixes, toDiagnostics } from "../core/server/diagnostics.js";
-import { MAX_MESSAGE, MessageReader, StreamError, frameMessage } from "../core/server/framing.js";
+import { MAX_MESSAGE_BYTES, MessageReader, StreamError, frameMessage } from "../core/server/framing.js";
 import { findBoard, isBoard, isProgram } from "../core/server/text_kinds.js";
 import { OpenText } from "../core/server/open_text.js";
 import { encodeTokens } from "../core/server/token_codes.js";
@@ -13,10 +13,12 @@ const BOARD = readFileSync(new URL("../../examples/lock/board.toml", import.meta
 
 test("messages are read from a stream in pieces of any size", () => {
   const bytes = new Uint8Array([...frameMessage({ id: 1 }), ...frameMessage({ id: "\u00e9" })]);
-  for (const step of [1, 2, 7, bytes.length]) {
+  for (const pieceSize of [1, 2, 7, bytes.length]) {
     const reader = new MessageReader();
     const texts = [];
-    for (let offset = 0; offset < bytes.length; offset += step) texts.push(...reader.readMessages(bytes.subarray(offset, offset + step)));
+    for (let offset = 0; offset < bytes.length; offset += pieceSize) {
+      texts.push(...reader.readMessages(bytes.subarray(offset, offset + pieceSize)));
+    }
     assert.deepEqual(texts.map(({ text }) => JSON.parse(text).id), [1, "\u00e9"]);
   }
   const reader = new MessageReader();
@@ -27,10 +29,10 @@ test("messages are read from a stream in pieces of any size", () => {
 
 test("a message that is too long is skipped, and the next message is read", () => {
   const reader = new MessageReader();
-  assert.deepEqual([...reader.readMessages(bytesOf(`Content-Length: ${MAX_MESSAGE + 1}\r\n\r\n`))], []);
-  assert.deepEqual([...reader.readMessages(new Uint8Array(MAX_MESSAGE))], []);
+  assert.deepEqual([...reader.readMessages(bytesOf(`Content-Length: ${MAX_MESSAGE_BYTES + 1}\r\n\r\n`))], []);
+  assert.deepEqual([...reader.readMessages(new Uint8Array(MAX_MESSAGE_BYTES))], []);
   const results = [...reader.readMessages(new Uint8Array([32, ...frameMessage({ id: 1 })]))];
-  assert.deepEqual(results.map((result) => result.skippedSize || JSON.parse(result.text).id), [MAX_MESSAGE + 1, 1]);
+  assert.deepEqual(results.map((result) => result.skippedSize || JSON.parse(result.text).id), [MAX_MESSAGE_BYTES + 1, 1]);
 });
 
 test("an impossible size is an error at once, after the messages before it", () => {
@@ -49,10 +51,10 @@ test("an impossible size is an error at once, after the messages before it", () 
 test("messages in one chunk with `initialize`, or with `shutdown`, are served in order", async () => {
   const { connection, messages, getExitStatus } = startServer();
   const textDocument = { uri: "file:///a.asm", languageId: "asm", version: 1, text: "foo\n" };
-  const hover = { textDocument, position: { line: 0, character: 0 } };
+  const hoverParams = { textDocument, position: { line: 0, character: 0 } };
   const notifications = [["initialized", {}], ["textDocument/didOpen", { textDocument }]].map(([method, params]) => ({ method, params }));
   const messagesToServer =
-    [{ id: 1, method: "initialize", params: {} }, ...notifications, { id: 2, method: "textDocument/hover", params: hover }];
+    [{ id: 1, method: "initialize", params: {} }, ...notifications, { id: 2, method: "textDocument/hover", params: hoverParams }];
   connection.receive(new Uint8Array(messagesToServer.flatMap((message) => [...frameMessage({ jsonrpc: "2.0", ...message })])));
   const waitForMessages = async (count) => {
     for (let turn = 0; turn < 2000 && messages.length < count; turn++) await new Promise(setImmediate);
@@ -60,7 +62,7 @@ test("messages in one chunk with `initialize`, or with `shutdown`, are served in
   await waitForMessages(3);
   assert.deepEqual(messages.slice(0, 2).map(({ id, result }) => [id, result !== undefined]), [[1, true], [2, true]]);
   assert.deepEqual(messages[2].params.diagnostics.map(({ range }) => range.start.line), [0]);
-  const lastMessages = [{ id: 3, method: "shutdown" }, { id: 4, method: "textDocument/hover", params: hover }, { method: "exit" }];
+  const lastMessages = [{ id: 3, method: "shutdown" }, { id: 4, method: "textDocument/hover", params: hoverParams }, { method: "exit" }];
   connection.receive(new Uint8Array(lastMessages.flatMap((message) => [...frameMessage({ jsonrpc: "2.0", ...message })])));
   await waitForMessages(5);
   assert.deepEqual([messages.find(({ id }) => id === 3).result, messages.find(({ id }) => id === 4).error.code], [null, -32600]);
@@ -215,11 +217,11 @@ test("hover, definitions and references in a board: a lamp's line leads to its c
   const uri = "file:///a/board.toml";
   assert.deepEqual(await openText(uri, BOARD, "toml"), []);
   const lines = BOARD.split("\n");
-  const lamp = lines.findIndex((line) => line.startsWith("lamp ="));
-  const column = lines[lamp].indexOf("ram0.0.2");
-  assert.deepEqual((await request("textDocument/definition", positionIn(uri, lamp, column + 3))).range.start.line,
+  const lampLine = lines.findIndex((line) => line.startsWith("lamp ="));
+  const column = lines[lampLine].indexOf("ram0.0.2");
+  assert.deepEqual((await request("textDocument/definition", positionIn(uri, lampLine, column + 3))).range.start.line,
     lines.indexOf("[[ram]]"));
-  assert.match((await request("textDocument/hover", positionIn(uri, lamp, column + 3))).contents.value,
+  assert.match((await request("textDocument/hover", positionIn(uri, lampLine, column + 3))).contents.value,
     /^ram0\.0\.2: line 2 of the port of RAM chip 0 in bank 0, lamp 2 \(alarm\); its chip is in line \d+\.$/);
   assert.equal((await request("textDocument/references", positionIn(uri, lines.indexOf("[[ram]]"), 3))).length, 4);
   const diagnostics = await openText("file:///b/board.toml", BOARD.replace("chips = 1", "chip = 1"), "toml");

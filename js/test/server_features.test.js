@@ -83,10 +83,11 @@ test("a call hierarchy", async () => {
   const { request, positionIn } = await startServerWithText("begin: JMS show\n JMS show\n JUN begin\nshow: JMS key\n BBL 0\nkey: BBL 1\n");
   const [item] = await request("textDocument/prepareCallHierarchy", positionIn(uri, 0, 13));
   assert.deepEqual([item.name, item.detail, item.range.end.line], ["show", "show: address 0x006, line 4", 4]);
-  const incoming = await request("callHierarchy/incomingCalls", { item });
-  assert.deepEqual(incoming.map(({ from, fromRanges }) => [from.name, fromRanges.map(({ start }) => start.line)]), [["begin", [0, 1]]]);
-  const outgoing = await request("callHierarchy/outgoingCalls", { item });
-  assert.deepEqual(outgoing.map(({ to, fromRanges }) => [to.name, fromRanges[0].start.line]), [["key", 3]]);
+  const incomingCalls = await request("callHierarchy/incomingCalls", { item });
+  assert.deepEqual(incomingCalls.map(({ from, fromRanges }) => [from.name, fromRanges.map(({ start }) => start.line)]),
+    [["begin", [0, 1]]]);
+  const outgoingCalls = await request("callHierarchy/outgoingCalls", { item });
+  assert.deepEqual(outgoingCalls.map(({ to, fromRanges }) => [to.name, fromRanges[0].start.line]), [["key", 3]]);
   assert.equal((await request("textDocument/prepareCallHierarchy", positionIn(uri, 4, 2)))[0].name, "show", "a line of a routine");
 });
 
@@ -105,9 +106,9 @@ test("code lenses count references to labels, with locations for clients that ca
 });
 
 test("a project file has links to the files that it names", async () => {
-  const name = `${PROJECT}mcs4.toml`;
-  const { request } = await startServerWithText(FILES[name].replace("lock.props", "gone.props"), {}, name);
-  const links = await request("textDocument/documentLink", { textDocument: { uri: name } });
+  const projectUri = `${PROJECT}mcs4.toml`;
+  const { request } = await startServerWithText(FILES[projectUri].replace("lock.props", "gone.props"), {}, projectUri);
+  const links = await request("textDocument/documentLink", { textDocument: { uri: projectUri } });
   assert.deepEqual(links.map(({ target }) => target), ["board.toml", "lock.asm", "lock.test"].map((fileName) => PROJECT + fileName));
   assert.equal(links[0].range.start.line, 0);
 });
@@ -175,8 +176,8 @@ test("completion items have details, and a blank that only indents has none", as
 
 test("hover in Markdown: an instruction's row, a condition's meaning, and a name's comment", async () => {
   const text = "; shows <b>\n; all\nshow: LDM 5 ; now\n JCN 4, show\n JUN show\n";
-  const client = { capabilities: { textDocument: { hover: { contentFormat: ["markdown", "plaintext"] } } } };
-  const { request, positionIn } = await startServerWithText(text, client);
+  const initializeParams = { capabilities: { textDocument: { hover: { contentFormat: ["markdown", "plaintext"] } } } };
+  const { request, positionIn } = await startServerWithText(text, initializeParams);
   const hoverContents = async (line, character) => (await request("textDocument/hover", positionIn(uri, line, character))).contents;
   const { kind, value: row } = await hoverContents(3, 2);
   assert.equal(kind, "markdown");
@@ -186,9 +187,9 @@ test("hover in Markdown: an instruction's row, a condition's meaning, and a name
 });
 
 test("diagnostics on request, and the server's request for a refresh", async () => {
-  const client = { capabilities: { textDocument: { diagnostic: {} }, workspace: { diagnostics: { refreshSupport: true } } } };
+  const initializeParams = { capabilities: { textDocument: { diagnostic: {} }, workspace: { diagnostics: { refreshSupport: true } } } };
   const server = startServer({});
-  const { capabilities } = await server.initialize(client);
+  const { capabilities } = await server.initialize(initializeParams);
   assert.equal(capabilities.diagnosticProvider.interFileDependencies, true);
   const notify = (method, params) => server.connection.receive(frameMessage({ jsonrpc: "2.0", method, params }));
   notify("textDocument/didOpen", { textDocument: { uri, languageId: "asm", version: 1, text: "JMP x\n" } });

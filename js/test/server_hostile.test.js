@@ -36,26 +36,26 @@ const getProcessorTime = () => process.cpuUsage().user / 1000;
 
 /** Sends every kind of request about a text. Resolves to the name of the request that took longest, and to its time. */
 async function sendAllRequests({ getResponse, positionIn }, uri, lines) {
-  const last = lines.length - 1;
-  const middle = Math.floor(lines[0].length / 2);
+  const lastLine = lines.length - 1;
+  const middleCharacter = Math.floor(lines[0].length / 2);
   const requests = [
-    ...POSITION_REQUESTS.flatMap((name) => [[0, middle], [last, lines[last].length]].map(([line, character]) => (
+    ...POSITION_REQUESTS.flatMap((name) => [[0, middleCharacter], [lastLine, lines[lastLine].length]].map(([line, character]) => (
       [name, { ...positionIn(uri, line, character), context: { includeDeclaration: true } }]))),
     ...DOCUMENT_REQUESTS.map((name) => [name, { textDocument: { uri } }]),
     ["formatting", { textDocument: { uri }, options: { tabSize: 4, insertSpaces: true } }],
     ["inlayHint", { textDocument: { uri }, range: WHOLE_RANGE }], ["codeAction", { textDocument: { uri }, range: WHOLE_RANGE }],
     ["semanticTokens/range", { textDocument: { uri }, range: WHOLE_RANGE }],
-    ["selectionRange", { textDocument: { uri }, positions: [{ line: 0, character: middle }] }],
+    ["selectionRange", { textDocument: { uri }, positions: [{ line: 0, character: middleCharacter }] }],
   ];
-  const longest = { name: "", time: 0 };
+  const slowestRequest = { name: "", time: 0 };
   for (const [name, params] of requests) {
     const startTime = getProcessorTime();
     const reply = await getResponse(`textDocument/${name}`, params);
     assert.ok(reply && ("result" in reply || "error" in reply), `${name} is answered`);
     const time = getProcessorTime() - startTime;
-    if (time > longest.time) Object.assign(longest, { name, time });
+    if (time > slowestRequest.time) Object.assign(slowestRequest, { name, time });
   }
-  return longest;
+  return slowestRequest;
 }
 
 for (const [name, text] of Object.entries(TEXTS)) {

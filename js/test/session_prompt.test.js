@@ -125,7 +125,7 @@ test("lines of a file are served up to an error", async () => {
   assert.deepEqual(await ask("source itself"), ["(itself: line 1: source files can be nested at most 8 deep)"]);
   assert.deepEqual(await ask("source"), ["(source is written as: source FILE)"]);
   assert.deepEqual(await ask("source none"), ["(cannot read none: there is no such file)"]);
-  assert.equal(prompt.sources.files.length, 0);
+  assert.equal(prompt.sourceCommand.files.length, 0);
   await ask("source leave");
   assert.equal(prompt.isEnded, true);
 });

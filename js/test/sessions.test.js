@@ -48,28 +48,29 @@ test("several sessions can be deleted at once, and restored unchanged", async ()
   for (const storedRecord of records) await store.put(storedRecord);
   const messages = [];
   const trash = new Trash(store, AVAILABLE_LOCKS, (message) => messages.push(message));
-  const [first, second] = await store.all();
-  assert.deepEqual(await trash.remove([first, second]), [first, second]);
+  const [firstRecord, secondRecord] = await store.all();
+  assert.deepEqual(await trash.remove([firstRecord, secondRecord]), [firstRecord, secondRecord]);
   assert.deepEqual((await store.all()).map(({ name }) => name), ["three"]);
-  assert.deepEqual(trash.deletedRecords, [first, second]);
-  await trash.restoreSessions([first, second]);
-  await trash.restoreSessions([first]);
+  assert.deepEqual(trash.deletedRecords, [firstRecord, secondRecord]);
+  await trash.restoreSessions([firstRecord, secondRecord]);
+  await trash.restoreSessions([firstRecord]);
   assert.deepEqual((await store.all()).map(({ name, programText }) => name + programText), ["three; p", "one; p", "two; p"]);
   assert.deepEqual([trash.deletedRecords, messages], [[], []]);
-  assert.deepEqual([formatNames([first]), formatNames([first, second])], ['"one"', "2 sessions"]);
+  assert.deepEqual([formatNames([firstRecord]), formatNames([firstRecord, secondRecord])], ['"one"', "2 sessions"]);
 });
 
 test("a session that is open in another tab is not deleted; a failed restoration can be repeated", async () => {
   const store = new MemoryStore();
-  const [first, second] = [createRecord("one"), createRecord("two")];
-  await store.put(first);
-  await store.put(second);
+  const [firstRecord, secondRecord] = [createRecord("one"), createRecord("two")];
+  await store.put(firstRecord);
+  await store.put(secondRecord);
   const messages = [];
-  const trash = new Trash(store, { acquire: async (id) => (id === second.id ? null : () => {}) }, (message) => messages.push(message));
-  assert.deepEqual(await trash.remove([first, second]), [first]);
+  const locks = { acquire: async (id) => (id === secondRecord.id ? null : () => {}) };
+  const trash = new Trash(store, locks, (message) => messages.push(message));
+  assert.deepEqual(await trash.remove([firstRecord, secondRecord]), [firstRecord]);
   store.put = async () => { throw new DOMException("", "QuotaExceededError"); };
-  await trash.restoreSessions([first]);
-  assert.deepEqual(trash.deletedRecords, [first]);
+  await trash.restoreSessions([firstRecord]);
+  assert.deepEqual(trash.deletedRecords, [firstRecord]);
   assert.deepEqual(messages, ['The session "two" is open in another tab, so it was not deleted.',
     'The session "one" was not restored: the browser has no more space for this page.']);
 });
@@ -112,8 +113,8 @@ function createController(answers, programText, disassembly) {
   const editors = ["# b", programText, "", ""].map(createEditor);
   const controller = new TextsController(...editors, confirmDialog, notice, {
     handleEdit: () => {},
-    session: () => current.session, markChanged: () => {}, save: async () => "", updateNames: () => {}, source: async () => disassembly,
-    reportFailure: (error) => { throw error; },
+    session: () => current.session, markChanged: () => {}, save: async () => "", updateNames: () => {},
+    disassembleRom: async () => disassembly, reportFailure: (error) => { throw error; },
     isProbablyNotProgram: async (text) => text.includes("prose"), handleLoadedTexts: () => {},
   });
   return { controller, log, current, session };
@@ -169,19 +170,19 @@ test("a source is not restored into another session", async () => {
   clearTimeout(controller.saveTimer);
 });
 
-const FROM_FILE = { board: null, program: "some prose\n", tests: null, properties: null, lines: "" };
+const TEXTS_FROM_FILE = { board: null, program: "some prose\n", tests: null, properties: null, lines: "" };
 
 test("a file that is perhaps not a program needs a confirmation before it replaces the source", async () => {
   const { controller, log, session } = createController([false, true], "; mine", "");
-  await controller.open("notes", { ...FROM_FILE, isGuess: true });
+  await controller.open("notes", { ...TEXTS_FROM_FILE, isGuess: true });
   assert.deepEqual([controller.program.text, log.questionCount, log.notices.length], ["; mine", 1, 0]);
-  await controller.open("notes", { ...FROM_FILE, isGuess: true });
+  await controller.open("notes", { ...TEXTS_FROM_FILE, isGuess: true });
   assert.deepEqual([controller.program.text, session.record.programText, log.questionCount], ["some prose\n", "some prose\n", 2]);
   clearTimeout(controller.saveTimer);
 });
 
 test("a file with a program's name, or with a valid line, needs no confirmation", async () => {
-  for (const [name, texts] of [["notes.asm", FROM_FILE], ["notes", { ...FROM_FILE, program: " NOP\n", isGuess: true }]]) {
+  for (const [name, texts] of [["notes.asm", TEXTS_FROM_FILE], ["notes", { ...TEXTS_FROM_FILE, program: " NOP\n", isGuess: true }]]) {
     const { controller, log } = createController([], "; mine", "");
     await controller.open(name, texts);
     assert.deepEqual([controller.program.text, log.questionCount], [texts.program, 0]);
@@ -191,7 +192,7 @@ test("a file with a program's name, or with a valid line, needs no confirmation"
 
 test("an opened file has one notice, which can undo all replacements", async () => {
   const { controller, log } = createController([], "; mine", "");
-  await controller.open("both.txt", { ...FROM_FILE, board: "# new", program: "\tNOP\n" });
+  await controller.open("both.txt", { ...TEXTS_FROM_FILE, board: "# new", program: "\tNOP\n" });
   assert.deepEqual([controller.board.text, controller.program.text, log.notices.length], ["# new", "\tNOP\n", 1]);
   const [{ message, kind, action }] = log.notices;
   assert.match(message, /^both\.txt is in Board and Source\./);
@@ -205,7 +206,7 @@ test("an opened file has one notice, which can undo all replacements", async () 
 
 test("if a file replaces nothing, its notice has no Undo", async () => {
   const { controller, log } = createController([], " \n", "");
-  await controller.open("a.asm", { ...FROM_FILE, program: "\tNOP\n" });
+  await controller.open("a.asm", { ...TEXTS_FROM_FILE, program: "\tNOP\n" });
   assert.deepEqual(log.notices.map(({ kind, action }) => [kind, action]), [["file", undefined]]);
   clearTimeout(controller.saveTimer);
 });

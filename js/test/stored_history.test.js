@@ -104,9 +104,9 @@ test("after going back, only the remaining past is stored", async () => {
 test("a history of another session or moment, a damaged one, or one that is too large is not used", async () => {
   const store = createStore();
   const { calls: callsBefore } = await leavePage(store, LINES);
-  const text = store.items.get("fethsaim.past");
+  const storedText = store.items.get("fethsaim.past");
   assert.deepEqual((await reopenPage(store, callsBefore, "two")).storedSegments, []);
-  store.setItem("fethsaim.past", text);
+  store.setItem("fethsaim.past", storedText);
   const { storedSegments, calls } = await reopenPage(store, callsBefore);
   assert.equal(store.items.size, 0);
   await callsBefore.serve("poke r1 7\n");
@@ -114,8 +114,8 @@ test("a history of another session or moment, a damaged one, or one that is too 
   assert.equal(sendHistory(laterPage.calls, storedSegments), -1);
   assert.equal(sendHistory(calls, [{ ...storedSegments[0], file: storedSegments[0].file.map((byte) => byte ^ 1) }]), -1);
   assert.equal(sendHistory(calls, []), -1);
-  const damagedTexts = [text.replace(/"entries":/, '"entry":'), text.replace(/"cycles":\d+/, '"cycles":"9"')];
-  for (const damagedText of [text.slice(0, 500), "{}", "null", ...damagedTexts]) {
+  const damagedTexts = [storedText.replace(/"entries":/, '"entry":'), storedText.replace(/"cycles":\d+/, '"cycles":"9"')];
+  for (const damagedText of [storedText.slice(0, 500), "{}", "null", ...damagedTexts]) {
     store.setItem("fethsaim.past", damagedText);
     assert.deepEqual((await reopenPage(store, callsBefore)).storedSegments, []);
   }
@@ -129,11 +129,11 @@ test("if the saved session is older than the history, the later entries are igno
   const store = createStore();
   const { calls: callsBefore, states } = await leavePage(store, LINES.slice(0, 3));
   const { calls, storedSegments } = await reopenPage(store, callsBefore);
-  const poke = { line: "poke r1 7", cycles: 0, resets: false, isStop: true };
-  const missingEntries = [{ ...poke, line: "run 50", cycles: 50 }, poke];
-  const count = storedSegments[0].entries.length;
-  storedSegments[0].entries.push({ ...poke, line: "poke r2 9" }, ...missingEntries);
-  assert.equal(sendHistory(calls, storedSegments), count);
+  const pokeEntry = { line: "poke r1 7", cycles: 0, resets: false, isStop: true };
+  const missingEntries = [{ ...pokeEntry, line: "run 50", cycles: 50 }, pokeEntry];
+  const entryCount = storedSegments[0].entries.length;
+  storedSegments[0].entries.push({ ...pokeEntry, line: "poke r2 9" }, ...missingEntries);
+  assert.equal(sendHistory(calls, storedSegments), entryCount);
   for (const state of states.slice(0, -1).reverse()) {
     assert.equal((await calls.goBack({ kind: "stop" })).isDone, true);
     assert.deepEqual(calls.ask(ALL_QUERIES), state);

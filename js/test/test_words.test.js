@@ -18,7 +18,7 @@ const manual = [{ title: "The lines of a test", tables: [
 }, { title: "Properties", tables: [table(["`never C`", "the condition never holds"], ["`at @LABEL C`", "it holds there"])] }];
 const forms = testForms(manual);
 const completeLine = (line) => completeTest([line], 0, line.length, names, forms).list.map(({ text }) => text);
-const help = (line, at) => helpForTest([line], 0, at, forms);
+const helpAt = (line, at) => helpForTest([line], 0, at, forms);
 
 test("shared steps that are defined before a line are completed", () => {
   const lines = ["steps unlock", "  keys 1", " steps  lock", "test a", "  do ", "steps later"];
@@ -42,12 +42,12 @@ test("words of tests are completed with the names of board and program", () => {
 });
 
 test("words have the help of the manual", () => {
-  assert.equal(help("  run 20 ms", 3), "run TIME: runs for that long");
-  assert.equal(help("release 3", 3), "release KEY ..: keys go down, or up");
-  assert.equal(help("expect lamps red", 9), "lamps NAME ..: these lamps are lit");
-  assert.equal(help("until not ram.1.0x20 3 within 5", 12), "ram.B.S V ..: the RAM character: ram.0.0x00 2 4");
-  assert.equal(help("until @stop within 5", 8), "@LABEL: the counter is there");
-  assert.deepEqual([help("# run", 3), help("", 0), help("keys run", 6)], ["", "", ""]);
+  assert.equal(helpAt("  run 20 ms", 3), "run TIME: runs for that long");
+  assert.equal(helpAt("release 3", 3), "release KEY ..: keys go down, or up");
+  assert.equal(helpAt("expect lamps red", 9), "lamps NAME ..: these lamps are lit");
+  assert.equal(helpAt("until not ram.1.0x20 3 within 5", 12), "ram.B.S V ..: the RAM character: ram.0.0x00 2 4");
+  assert.equal(helpAt("until @stop within 5", 8), "@LABEL: the counter is there");
+  assert.deepEqual([helpAt("# run", 3), helpAt("", 0), helpAt("keys run", 6)], ["", "", ""]);
 });
 
 test("test results are described", () => {
@@ -78,18 +78,18 @@ test("line counts are formatted", () => {
 
 test("words of properties are completed, and have the help of the manual", () => {
   const listedForms = propertyForms(manual);
-  const list = (line) => completeProperty([line], 0, line.length, names, listedForms).list.map(({ text }) => text);
-  assert.deepEqual(list("ne"), ["never"]);
-  assert.deepEqual(list("press "), ["1", "2", "ENTER"]);
-  assert.deepEqual(list("lamp red on only after press "), ["1", "2", "ENTER"]);
-  assert.deepEqual(list("never lamp "), ["red", "green"]);
-  assert.deepEqual(list("always lamp red on and lamp g"), ["green"]);
-  assert.deepEqual(list("at @sto"), ["@stop"]);
-  assert.deepEqual(list("@stop "), ["to", "at most once for each press", "only after"]);
-  assert.deepEqual(list("@stop to @sto"), ["@stop"]);
-  assert.deepEqual(list("@stop to @stop "), ["within"]);
-  assert.deepEqual(list("@stop only after press "), ["1", "2", "ENTER"]);
-  assert.deepEqual(list("# ne"), []);
+  const listCompletions = (line) => completeProperty([line], 0, line.length, names, listedForms).list.map(({ text }) => text);
+  assert.deepEqual(listCompletions("ne"), ["never"]);
+  assert.deepEqual(listCompletions("press "), ["1", "2", "ENTER"]);
+  assert.deepEqual(listCompletions("lamp red on only after press "), ["1", "2", "ENTER"]);
+  assert.deepEqual(listCompletions("never lamp "), ["red", "green"]);
+  assert.deepEqual(listCompletions("always lamp red on and lamp g"), ["green"]);
+  assert.deepEqual(listCompletions("at @sto"), ["@stop"]);
+  assert.deepEqual(listCompletions("@stop "), ["to", "at most once for each press", "only after"]);
+  assert.deepEqual(listCompletions("@stop to @sto"), ["@stop"]);
+  assert.deepEqual(listCompletions("@stop to @stop "), ["within"]);
+  assert.deepEqual(listCompletions("@stop only after press "), ["1", "2", "ENTER"]);
+  assert.deepEqual(listCompletions("# ne"), []);
   assert.equal(helpForProperty(["never lamp red on"], 0, 2, listedForms), "never C: the condition never holds");
   assert.equal(helpForProperty(["never lamps none"], 0, 8, listedForms), "lamps NAME ..: these lamps are lit");
   assert.match(createFirstProperties(names), /\nnote lamps\n\nreach lamp red on\n/);

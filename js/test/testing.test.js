@@ -12,11 +12,11 @@ import { Engine } from "../core/engine/engine.js";
 import { pageModule } from "./page_session.js";
 
 const readExample = (name) => readFileSync(new URL(`../../examples/${name}`, import.meta.url), "utf8");
-const example = (name) => readExample(`three_lamps/${name}`);
-const boardText = example("board.toml");
-const programText = example("three_lamps.asm");
+const readThreeLamps = (name) => readExample(`three_lamps/${name}`);
+const boardText = readThreeLamps("board.toml");
+const programText = readThreeLamps("three_lamps.asm");
 const textsOf = (name) => ({ boardText: readExample(`${name}/board.toml`), programText: readExample(`${name}/${name}.asm`) });
-const texts = (testText, program = programText) => ({ boardText, programText: program, testText });
+const createTexts = (testText, program = programText) => ({ boardText, programText: program, testText });
 const alwaysContinue = async () => true;
 
 /** @type {Engine} */
@@ -26,7 +26,7 @@ before(async () => {
 });
 
 test("tests pass, and their coverage and profile are counted", async () => {
-  const { errors, outcomes, coverage, profile } = await runTests(engine, texts(example("three_lamps.test")), alwaysContinue);
+  const { errors, outcomes, coverage, profile } = await runTests(engine, createTexts(readThreeLamps("three_lamps.test")), alwaysContinue);
   assert.deepEqual(errors, []);
   assert.deepEqual(outcomes.map(({ failure, cycles }) => [failure, cycles]), [[null, 1621], [null, 538]]);
   assert.equal(formatCoverageSummary(coverage), "20 of 20 instructions were run (100.0 %), 6 of 6 branch directions (100.0 %)");
@@ -39,7 +39,7 @@ test("tests pass, and their coverage and profile are counted", async () => {
 
 test("a failing test reports its line and its trace, and provides the session at the failure", async () => {
   const fasterProgram = programText.replace("0x0C", "0x0D");
-  const { outcomes } = await runTests(engine, texts(example("three_lamps.test"), fasterProgram), alwaysContinue);
+  const { outcomes } = await runTests(engine, createTexts(readThreeLamps("three_lamps.test"), fasterProgram), alwaysContinue);
   const { failure } = outcomes[1];
   const words = "536 cycles have passed, but the test expects 538";
   assert.deepEqual([failure.line, failure.text, failure.words], [14, "expect cycles 538", words]);
@@ -51,7 +51,7 @@ test("a failing test reports its line and its trace, and provides the session at
 
 test("a test whose start state was never saved is not run", async () => {
   const text = "test one\n expect acc 1\n save there\ntest two\n from there\n run 1\n";
-  const { outcomes } = await runTests(engine, texts(text), alwaysContinue);
+  const { outcomes } = await runTests(engine, createTexts(text), alwaysContinue);
   assert.equal(outcomes[0].failure.words, "acc is 0, but must be 1");
   assert.equal(outcomes[1].failure.words, "the state there is missing, because the test `one` did not reach its `save`");
   assert.equal(outcomes[1].failure.file, null);
@@ -59,24 +59,24 @@ test("a test whose start state was never saved is not run", async () => {
 
 test("a comment can follow a line unless its mark is the name of a key", async () => {
   const text = "test a # 1 ; 2\n run 5   # a moment\n mark ;\n run 10 us ; # ;\n expect cycles 1 #\n expect lamps #none\n";
-  const { errors } = parseTestedTexts(engine, texts(text));
+  const { errors } = parseTestedTexts(engine, createTexts(text));
   assert.deepEqual(errors.map(({ line, words }) => `${line}: ${words.slice(0, 26)}`), ["6: the board has no lamp #non"]);
-  const { outcomes } = await runTests(engine, texts(text.replace("#none", "... ; dark")), alwaysContinue);
+  const { outcomes } = await runTests(engine, createTexts(text.replace("#none", "... ; dark")), alwaysContinue);
   assert.deepEqual(outcomes.map(({ name, failure }) => [name, failure]), [["a # 1 ; 2", null]]);
-  const lock = textsOf("lock");
-  const keys = "test b\n press 1 # 2 ; keys\n release # ; the key #\n keys # ; #\n press x ; y\n";
-  const [error, ...moreErrors] = parseTestedTexts(engine, { ...lock, testText: keys }).errors;
+  const lockTexts = textsOf("lock");
+  const testWithKeys = "test b\n press 1 # 2 ; keys\n release # ; the key #\n keys # ; #\n press x ; y\n";
+  const [error, ...moreErrors] = parseTestedTexts(engine, { ...lockTexts, testText: testWithKeys }).errors;
   assert.deepEqual([error.line, moreErrors], [5, []]);
 });
 
 test("failures in `repeat` and shared steps have their iteration and the last passed label", async () => {
-  const text = [
+  const testLines = [
     "steps wait", " run 538",
     "test a", " run 7", " repeat 3", "  expect lamps right", "  repeat 3", "   do wait", "  end", " end",
     " mark", " repeat 2", "  repeat 5", "   do wait", "   expect cycles at most 2000", "  end", " end",
     "test b", " run 9", " until @first within 4",
   ];
-  const { outcomes } = await runTests(engine, texts(text.join("\n")), alwaysContinue);
+  const { outcomes } = await runTests(engine, createTexts(testLines.join("\n")), alwaysContinue);
   assert.deepEqual([outcomes[0].cycles, outcomes[0].failure.line], [7 + 13 * 538, 15]);
   assert.equal(outcomes[0].failure.words,
     "2152 cycles have passed, but the test expects at most 2000; in turn 4 of 5 of line 13, in turn 1 of 2 of line 12");
@@ -86,7 +86,7 @@ test("failures in `repeat` and shared steps have their iteration and the last pa
 
 test("`until` reads `owed` at the end of an instruction, where it is 0", async () => {
   const text = "test a\n until owed = 1 within 100\ntest b\n run 1\n until owed = 0 within 1\n";
-  const { outcomes } = await runTests(engine, texts(text), alwaysContinue);
+  const { outcomes } = await runTests(engine, createTexts(text), alwaysContinue);
   assert.match(outcomes[0].failure.words, /^it did not become true within 100 cycles: owed is 0, but must be 1;/);
   assert.deepEqual([outcomes[1].failure, outcomes[1].cycles], [null, 2]);
 });
@@ -94,24 +94,26 @@ test("`until` reads `owed` at the end of an instruction, where it is 0", async (
 test("a test with many repetitions can be cancelled", async () => {
   const text = "test a\n repeat 100000\n  run 100000\n end\n";
   let callCount = 0;
-  await assert.rejects(() => runTests(engine, texts(text), async () => ++callCount < 3), CancelledError);
+  await assert.rejects(() => runTests(engine, createTexts(text), async () => ++callCount < 3), CancelledError);
   assert.equal(callCount, 3);
 });
 
 test("if the texts have errors, they are reported and no test is run", async () => {
-  const report = await runTests(engine, texts("test a\n  until lamps green within 10 ms\n  press x\n  run 10 years\n"), alwaysContinue);
+  const testText = "test a\n  until lamps green within 10 ms\n  press x\n  run 10 years\n";
+  const report = await runTests(engine, createTexts(testText), alwaysContinue);
   assert.deepEqual(report.errors.map(({ text, line, words }) => `${text}:${line}: ${words}`), [
     "tests:2: the board has no lamp green; it has: left middle right (column 9)",
     "tests:3: the board has no key x; its text names no keys (`# row 0: NAME ..`)",
     "tests:4: write `run TIME`, as in: run 500, run 20 ms, run 1.5 s",
   ]);
   assert.deepEqual([report.outcomes, report.coverage, report.profile], [[], null, null]);
-  assert.deepEqual(parseTestedTexts(engine, texts("", " JUN nowhere\n")).errors, [{ text: "program", line: 1, number: 32, words: "" }]);
-  assert.equal(parseTestedTexts(engine, { ...texts(""), boardText: "rom = 3\n" }).errors[0].text, "board");
-  const [lampError] = parseTestedTexts(engine, { ...texts(""), boardText: `# lamp 7: x\n${boardText}` }).errors;
+  assert.deepEqual(parseTestedTexts(engine, createTexts("", " JUN nowhere\n")).errors,
+    [{ text: "program", line: 1, number: 32, words: "" }]);
+  assert.equal(parseTestedTexts(engine, { ...createTexts(""), boardText: "rom = 3\n" }).errors[0].text, "board");
+  const [lampError] = parseTestedTexts(engine, { ...createTexts(""), boardText: `# lamp 7: x\n${boardText}` }).errors;
   assert.equal(lampError.words, "the lamp x is number 7, but the board has 3");
-  assert.equal(parseTestedTexts(engine, texts("")).errors[0].words, "there is no line `test NAME`");
-  assert.match(parseTestedTexts(engine, texts("test a\n run 1 \u00fc\n")).errors[0].words, /^a byte that is neither/);
+  assert.equal(parseTestedTexts(engine, createTexts("")).errors[0].words, "there is no line `test NAME`");
+  assert.match(parseTestedTexts(engine, createTexts("test a\n run 1 \u00fc\n")).errors[0].words, /^a byte that is neither/);
 });
 
 test("long work is cancelled between pieces", async () => {
@@ -120,21 +122,21 @@ test("long work is cancelled between pieces", async () => {
     callCount += 1;
     return callCount < 3;
   };
-  await assert.rejects(runTests(engine, texts("test for ever\n until r15 9 within 10000 s\n"), shouldContinue), CancelledError);
+  await assert.rejects(runTests(engine, createTexts("test for ever\n until r15 9 within 10000 s\n"), shouldContinue), CancelledError);
   assert.equal(callCount, 3);
 });
 
 test("ROM bytes that a test sets are counted only in its own run", async () => {
   // The test replaces ISZ R3, which takes two cycles, with two NOPs. A NOP takes one cycle.
   const text = "test a\n set rom.0x016 0\n set rom.0x017 0\n run 20\n save s\ntest b\n from s\n run 20\ntest c\n run 20\n";
-  const { outcomes, profile } = await runTests(engine, texts(text), alwaysContinue);
+  const { outcomes, profile } = await runTests(engine, createTexts(text), alwaysContinue);
   assert.deepEqual(outcomes.map(({ failure }) => failure), [null, null, null]);
   assert.equal(profile.total, profile.rows.reduce((sum, { ownCycles }) => sum + ownCycles, 0) + profile.earlierInstructionCycles);
 });
 
 test("tenths are rounded half to even, as by printf", () => {
-  const printed = [0, 6.25, 93.75, 0.05, 33.3333, 99.96, 0.75, 20.25].map(formatTenths);
-  assert.deepEqual(printed, ["0.0", "6.2", "93.8", "0.1", "33.3", "100.0", "0.8", "20.2"]);
+  const formattedNumbers = [0, 6.25, 93.75, 0.05, 33.3333, 99.96, 0.75, 20.25].map(formatTenths);
+  assert.deepEqual(formattedNumbers, ["0.0", "6.2", "93.8", "0.1", "33.3", "100.0", "0.8", "20.2"]);
 });
 
 test("the sample test presses the first key and expects what the bench shows then, so it passes", async () => {

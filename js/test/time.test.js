@@ -4,7 +4,7 @@ import { Rate } from "../core/time/rate.js";
 import { CYCLES_PER_SECOND, CYCLE_US, EYE_CYCLES, FRAME_CYCLES, FRAME_MS, cyclesFromMilliseconds } from "../core/time/mcs4_time.js";
 import { MAX_EARLY_MS, MAX_CYCLES_PER_FRAME, RealTime } from "../core/time/real_time.js";
 import { formatDuration } from "../core/bench/error_messages.js";
-import { PLACES_ARE } from "../words/conditions.js";
+import { PLACES_HINT } from "../words/conditions.js";
 import { cannotSearchForMessage } from "../words/time.js";
 
 test("cycles of the 4004: eight periods of a clock of 740,740.7 Hz", () => {
@@ -16,89 +16,89 @@ test("cycles of the 4004: eight periods of a clock of 740,740.7 Hz", () => {
 });
 
 test("a second of frames is 92,593 cycles, whatever their length", () => {
-  for (const frame of [1000 / 60, 1000 / 144, 7, 100]) {
-    const time = new RealTime(0, 0);
-    let sum = 0;
+  for (const frameMs of [1000 / 60, 1000 / 144, 7, 100]) {
+    const realTime = new RealTime(0, 0);
+    let totalCycles = 0;
     let now = 0;
-    for (; now < 10000; now += frame) sum += time.takeDueCycles(now);
-    assert.ok(Math.abs(sum - ((now - frame) / 1000) * CYCLES_PER_SECOND) < 1, `${frame}: ${sum}`);
+    for (; now < 10000; now += frameMs) totalCycles += realTime.takeDueCycles(now);
+    assert.ok(Math.abs(totalCycles - ((now - frameMs) / 1000) * CYCLES_PER_SECOND) < 1, `${frameMs}: ${totalCycles}`);
   }
 });
 
 test("the cycles of a slow frame are limited, and a clock that goes back gives no cycles", () => {
-  const time = new RealTime(0, 0);
-  assert.equal(time.takeDueCycles(900), MAX_CYCLES_PER_FRAME);
-  assert.equal(time.takeDueCycles(900), 0);
-  assert.equal(time.takeDueCycles(890), 0);
-  assert.equal(time.takeDueCycles(910), 925);
+  const realTime = new RealTime(0, 0);
+  assert.equal(realTime.takeDueCycles(900), MAX_CYCLES_PER_FRAME);
+  assert.equal(realTime.takeDueCycles(900), 0);
+  assert.equal(realTime.takeDueCycles(890), 0);
+  assert.equal(realTime.takeDueCycles(910), 925);
 });
 
 test("after an hour in the background no cycles are due, and the gap is reported", () => {
-  const time = new RealTime(0, 0);
-  time.hide();
-  assert.deepEqual(time.skipGap(3600000, 3600000), { gap: 3600000, wasHidden: true });
-  assert.equal(time.takeDueCycles(3600000), 0);
-  assert.equal(time.skipGap(3600010, 3600010), null);
-  assert.equal(time.takeDueCycles(3600010), 925);
+  const realTime = new RealTime(0, 0);
+  realTime.hide();
+  assert.deepEqual(realTime.skipGap(3600000, 3600000), { gap: 3600000, wasHidden: true });
+  assert.equal(realTime.takeDueCycles(3600000), 0);
+  assert.equal(realTime.skipGap(3600010, 3600010), null);
+  assert.equal(realTime.takeDueCycles(3600010), 925);
 });
 
 test("a gap is also detected if only the wall clock has advanced", () => {
-  const time = new RealTime(0, 0);
-  assert.equal(time.skipGap(999, 999), null);
-  assert.deepEqual(time.skipGap(1000, 8000), { gap: 7001, wasHidden: false });
-  assert.equal(time.takeDueCycles(1000), 0);
+  const realTime = new RealTime(0, 0);
+  assert.equal(realTime.skipGap(999, 999), null);
+  assert.deepEqual(realTime.skipGap(1000, 8000), { gap: 7001, wasHidden: false });
+  assert.equal(realTime.takeDueCycles(1000), 0);
 });
 
 /**
- * Returns the number of cycles that run in one second of frames, with key presses at the times in `keys`. At each key press, some cycles
- * are simulated early.
+ * Returns the number of cycles that run in one second of frames, with key presses at the times in `pressTimes`. At each key press, some
+ * cycles are simulated early.
  */
-function countSimulatedCycles(frame, keys) {
-  const time = new RealTime(0, 0);
-  const events = keys.map((now) => ({ now, earlyMs: MAX_EARLY_MS }));
-  for (let now = 0; now <= 1000; now += frame) events.push({ now, earlyMs: 0 });
+function countSimulatedCycles(frameMs, pressTimes) {
+  const realTime = new RealTime(0, 0);
+  const events = pressTimes.map((now) => ({ now, earlyMs: MAX_EARLY_MS }));
+  for (let now = 0; now <= 1000; now += frameMs) events.push({ now, earlyMs: 0 });
   events.push({ now: 1000.5, earlyMs: 0 });
-  let sum = 0;
+  let totalCycles = 0;
   for (const { now, earlyMs } of events.sort((a, b) => a.now - b.now)) {
-    const dueCycles = time.takeDueCycles(now, earlyMs);
+    const dueCycles = realTime.takeDueCycles(now, earlyMs);
     assert.ok(dueCycles >= 0, `${dueCycles} at ${now}`);
-    sum += dueCycles;
-    assert.ok(sum <= ((now + MAX_EARLY_MS) / 1000) * CYCLES_PER_SECOND, `ahead of its time at ${now}`);
-    const expectedTime = (sum + Math.max(0, time.dueCycles)) * (1000 / CYCLES_PER_SECOND);
-    assert.ok(Math.abs(time.simulatedUntil - expectedTime) < 0.001, `reached at ${now}`);
+    totalCycles += dueCycles;
+    assert.ok(totalCycles <= ((now + MAX_EARLY_MS) / 1000) * CYCLES_PER_SECOND, `ahead of its time at ${now}`);
+    const expectedTime = (totalCycles + Math.max(0, realTime.dueCycles)) * (1000 / CYCLES_PER_SECOND);
+    assert.ok(Math.abs(realTime.simulatedUntil - expectedTime) < 0.001, `reached at ${now}`);
   }
-  return sum;
+  return totalCycles;
 }
 
 test("key presses do not change the number of cycles in a second, and time is at most a frame ahead", () => {
-  for (const frame of [1000 / 60, 1000 / 144, 7, 100]) {
-    const sum = countSimulatedCycles(frame, []);
-    for (const keys of [[3], [3, 4, 5], [100, 130, 160.5, 700], Array.from({ length: 500 }, (_, index) => 1.7 * index)]) {
-      assert.equal(countSimulatedCycles(frame, keys), sum);
+  for (const frameMs of [1000 / 60, 1000 / 144, 7, 100]) {
+    const totalCycles = countSimulatedCycles(frameMs, []);
+    for (const pressTimes of [[3], [3, 4, 5], [100, 130, 160.5, 700], Array.from({ length: 500 }, (_, index) => 1.7 * index)]) {
+      assert.equal(countSimulatedCycles(frameMs, pressTimes), totalCycles);
     }
   }
 });
 
 test("a key press simulates cycles early, and later frames simulate fewer", () => {
-  const time = new RealTime(0, 0);
-  assert.equal(time.takeDueCycles(10), 925);
-  assert.equal(time.takeDueCycles(15, MAX_EARLY_MS), 464 + 1543);
-  assert.equal(time.takeDueCycles(20), 0);
-  assert.equal(time.takeDueCycles(25), 0);
-  assert.equal(time.takeDueCycles(31.6), 0);
-  assert.equal(time.takeDueCycles(40), Math.floor(40 * CYCLES_PER_SECOND / 1000) - 925 - 464 - 1543);
+  const realTime = new RealTime(0, 0);
+  assert.equal(realTime.takeDueCycles(10), 925);
+  assert.equal(realTime.takeDueCycles(15, MAX_EARLY_MS), 464 + 1543);
+  assert.equal(realTime.takeDueCycles(20), 0);
+  assert.equal(realTime.takeDueCycles(25), 0);
+  assert.equal(realTime.takeDueCycles(31.6), 0);
+  assert.equal(realTime.takeDueCycles(40), Math.floor(40 * CYCLES_PER_SECOND / 1000) - 925 - 464 - 1543);
 });
 
 test("cycles that were simulated early are forgotten after a pause or a gap", () => {
-  const time = new RealTime(0, 0);
-  assert.equal(time.takeDueCycles(0, MAX_EARLY_MS), 1543);
-  time.hide();
-  time.skipGap(1000, 1000);
-  assert.equal(time.simulatedUntil, 1000);
-  assert.equal(time.takeDueCycles(1010), 925);
-  assert.equal(time.takeDueCycles(1010, MAX_EARLY_MS), 1544);
-  time.restart(1011, 1011);
-  assert.equal(time.takeDueCycles(1021), 925);
+  const realTime = new RealTime(0, 0);
+  assert.equal(realTime.takeDueCycles(0, MAX_EARLY_MS), 1543);
+  realTime.hide();
+  realTime.skipGap(1000, 1000);
+  assert.equal(realTime.simulatedUntil, 1000);
+  assert.equal(realTime.takeDueCycles(1010), 925);
+  assert.equal(realTime.takeDueCycles(1010, MAX_EARLY_MS), 1544);
+  realTime.restart(1011, 1011);
+  assert.equal(realTime.takeDueCycles(1021), 925);
 });
 
 test("the rate is reported every half second", () => {
@@ -117,6 +117,6 @@ test("durations are formatted", () => {
 });
 
 test("the status bar answers an unknown place with some examples", () => {
-  assert.equal(cannotSearchForMessage(`nonsense: no such place; ${PLACES_ARE} (column 1)`),
+  assert.equal(cannotSearchForMessage(`nonsense: no such place; ${PLACES_HINT} (column 1)`),
     "Nothing was done: nonsense: no such place; enter something such as r5, lamp 3 or rom0.2 (column 1).");
 });

@@ -7,16 +7,16 @@ import { openExample } from "./page_session.js";
 const BOARD = "[[rom]]\nchip = 0\nport = \"0000\"\n";
 const PROGRAM = "loop:   INC R9\n        NOP\n        JUN loop\n";
 // An iteration takes 4 cycles. The program reaches the NOP at 001 after 1, 5, 9, .. cycles, with 1, 2, 3, .. in R9.
-const NOP = 1;
+const NOP_ADDRESS = 1;
 
 /**
- * Resolves to a session that is ready to run this program, with a breakpoint at NOP.
+ * Resolves to a session that is ready to run this program, with a breakpoint at NOP_ADDRESS.
  * @param {object} properties the breakpoint's properties that differ from the defaults
  */
 async function createSession(properties) {
   const calls = await openExample("three lamps");
   await calls.serve(`wire\n${BOARD}.\nasm\n${PROGRAM}.\nreset\n`);
-  const breakpoint = { id: 7, address: NOP, condition: "", from: 1, note: "", hits: 0, ...properties };
+  const breakpoint = { id: 7, address: NOP_ADDRESS, condition: "", from: 1, note: "", hits: 0, ...properties };
   await calls.setBreakpoints([breakpoint], { board: BOARD, program: PROGRAM });
   return calls;
 }
@@ -33,8 +33,8 @@ test("a run ends when the condition holds", async () => {
   const { lines, id, cutLine, cycles, hits } = await serveTypedLines(calls, "run 1000\n");
   assert.deepEqual([lines, id, cutLine, cycles, hits], [["run 9: ran 9 end"], 7, "run 1000", 9, [[7, 1]]]);
   assert.match(calls.ask("regs\n")[0], /pc 001 owed 0 .* r 0000000003/);
-  const next = await serveTypedLines(calls, "run 1000\n");
-  assert.deepEqual([next.lines, next.cutLine], [["run 64: ran 64 end"], "run 1000"]);
+  const secondResult = await serveTypedLines(calls, "run 1000\n");
+  assert.deepEqual([secondResult.lines, secondResult.cutLine], [["run 64: ran 64 end"], "run 1000"]);
 });
 
 test("each run ends when the condition holds, and later lines are still served", async () => {
@@ -64,14 +64,14 @@ test("rejected lines, steps and texts are served unchanged; an unconditional bre
 
 test("cancelled lines change nothing, and no hits are counted", async () => {
   const calls = await createSession({ from: 2 });
-  const before = calls.ask("seq\nstate\n");
+  const answersBefore = calls.ask("seq\nstate\n");
   let callCount = 0;
   calls.bench.shouldContinue = async () => {
     callCount += 1;
     return callCount < 2;
   };
   await assert.rejects(calls.serveTyped("run 4\nrun 4\nrun 4\n"), CancelledError);
-  assert.deepEqual(calls.ask("seq\nstate\n"), before);
+  assert.deepEqual(calls.ask("seq\nstate\n"), answersBefore);
   calls.bench.shouldContinue = async () => true;
   assert.deepEqual((await serveTypedLines(calls, "run 1000\n")).lines, ["run 5: ran 5 end"]);
 });

@@ -11,13 +11,13 @@ import { Client as ServerClient } from "../../checks/lib/lsp_client.mjs";
 import { Client as AdapterClient } from "../../checks/lib/dap_client.mjs";
 import { isInside, readUserText, prepareReplacement, writeUserFile } from "../node/user_files.mjs";
 
-const top = mkdtempSync(join(tmpdir(), "user_files."));
-after(() => rmSync(top, { recursive: true }));
+const temporaryFolder = mkdtempSync(join(tmpdir(), "user_files."));
+after(() => rmSync(temporaryFolder, { recursive: true }));
 const MODULE = new URL("../node/user_files.mjs", import.meta.url).pathname;
 const MCS4 = new URL("../../mcs4", import.meta.url).pathname;
 
 function createFolder(name) {
-  const folder = join(top, name);
+  const folder = join(temporaryFolder, name);
   mkdirSync(folder);
   return folder;
 }
@@ -136,7 +136,7 @@ function startClient(context, Client) {
 
 /** Returns a new folder with a program and, for the kinds `fifo` and `zero`, a special file `name`: a FIFO, or a link to /dev/zero. */
 function createFolderWithSpecialFile(name, kind) {
-  const folder = mkdtempSync(join(top, `${kind}.`));
+  const folder = mkdtempSync(join(temporaryFolder, `${kind}.`));
   writeFileSync(join(folder, "p.asm"), "start:  LDM 1\n        JUN start\n");
   if (kind === "fifo") execFileSync("mkfifo", [join(folder, name)]);
   if (kind === "zero") symlinkSync("/dev/zero", join(folder, name));

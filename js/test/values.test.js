@@ -60,28 +60,28 @@ function piecesOf(line, word, { session, map }) {
 }
 
 test("values of a register and a pair, with what SRC would select", async () => {
-  const opened = await openSession();
-  assert.deepEqual(piecesOf("  LD R4", "R4", opened), ["R4 = ", { place: "r4", name: "R4", value: "6" }]);
-  assert.equal(joinPieces(piecesOf("  INC r5 ; R4", "r5", opened)), "R5 = 0");
-  assert.equal(joinPieces(piecesOf("  FIN P2", "P2", opened)), "P2 = 60: R4 6, R5 0");
-  assert.equal(joinPieces(piecesOf("  SRC P2", "P2", opened)),
+  const openedSession = await openSession();
+  assert.deepEqual(piecesOf("  LD R4", "R4", openedSession), ["R4 = ", { place: "r4", name: "R4", value: "6" }]);
+  assert.equal(joinPieces(piecesOf("  INC r5 ; R4", "r5", openedSession)), "R5 = 0");
+  assert.equal(joinPieces(piecesOf("  FIN P2", "P2", openedSession)), "P2 = 60: R4 6, R5 0");
+  assert.equal(joinPieces(piecesOf("  SRC P2", "P2", openedSession)),
     "P2 = 60: R4 6, R5 0; selects bank 0, chip 1, register 2, character 0, which the board lacks");
-  const source = "P0 = 12: R0 1, R1 2; selects ROM 1; bank 0, chip 0, register 1, character 2 = 7";
-  for (const word of ["SRC", "P0"]) assert.equal(joinPieces(piecesOf("x: SRC P0", word, opened)), source);
-  assert.deepEqual(piecesOf("x: SRC P0", "P0", opened).filter((piece) => typeof piece !== "string").map(({ place }) => place),
+  const expectedText = "P0 = 12: R0 1, R1 2; selects ROM 1; bank 0, chip 0, register 1, character 2 = 7";
+  for (const word of ["SRC", "P0"]) assert.equal(joinPieces(piecesOf("x: SRC P0", word, openedSession)), expectedText);
+  assert.deepEqual(piecesOf("x: SRC P0", "P0", openedSession).filter((piece) => typeof piece !== "string").map(({ place }) => place),
     ["r0", "r1", "ram.0.0x12"]);
-  assert.deepEqual(piecesOf("  INC r5 ; R4", "R4", opened), []);
+  assert.deepEqual(piecesOf("  INC r5 ; R4", "R4", openedSession), []);
 });
 
 test("values that an instruction reads or writes through SRC", async () => {
-  const opened = await openSession();
+  const openedSession = await openSession();
   const location = "bank 0, chip 0, register 1";
-  assert.equal(joinPieces(piecesOf("  WRM", "WRM", opened)), `${location}, character 2 = 7; acc 5, cy 1`);
-  assert.equal(joinPieces(piecesOf("  rd2", "rd2", opened)), `${location}, status character 2 = 9; acc 5, cy 1`);
-  assert.equal(joinPieces(piecesOf("  WMP", "WMP", opened)), "bank 0, chip 0: its port puts out 0; acc 5, cy 1");
-  assert.match(joinPieces(piecesOf("  RDR", "RDR", opened)), /^ROM 1: puts out \d, RDR reads [\dA-F]; acc 5, cy 1$/);
-  assert.equal(joinPieces(piecesOf("  ADD R4", "ADD", opened)), "acc 5, cy 1");
-  assert.deepEqual(piecesOf("  JUN end", "JUN", opened), []);
+  assert.equal(joinPieces(piecesOf("  WRM", "WRM", openedSession)), `${location}, character 2 = 7; acc 5, cy 1`);
+  assert.equal(joinPieces(piecesOf("  rd2", "rd2", openedSession)), `${location}, status character 2 = 9; acc 5, cy 1`);
+  assert.equal(joinPieces(piecesOf("  WMP", "WMP", openedSession)), "bank 0, chip 0: its port puts out 0; acc 5, cy 1");
+  assert.match(joinPieces(piecesOf("  RDR", "RDR", openedSession)), /^ROM 1: puts out \d, RDR reads [\dA-F]; acc 5, cy 1$/);
+  assert.equal(joinPieces(piecesOf("  ADD R4", "ADD", openedSession)), "acc 5, cy 1");
+  assert.deepEqual(piecesOf("  JUN end", "JUN", openedSession), []);
   const bank2Session = await openSession("poke dcl 2\npoke ram.2.0x00 3\n");
   assert.equal(joinPieces(piecesOf("  RDM", "RDM", bank2Session)), "bank 2, chip 0, register 0, character 0 = 3; acc 0, cy 0");
   const bank1Session = await openSession("poke dcl 1\n");
@@ -89,12 +89,12 @@ test("values that an instruction reads or writes through SRC", async () => {
 });
 
 test("values of numbers and names", async () => {
-  const opened = await openSession();
-  assert.equal(joinPieces(piecesOf("  LDM 6", "6", opened)), "6 = 0x6, 0110");
-  assert.equal(joinPieces(piecesOf("  FIM P0, k", "k", opened)),
+  const openedSession = await openSession();
+  assert.equal(joinPieces(piecesOf("  LDM 6", "6", openedSession)), "6 = 0x6, 0110");
+  assert.equal(joinPieces(piecesOf("  FIM P0, k", "k", openedSession)),
     "k 18, 0001 0010; sent by SRC, it selects ROM 1; bank 0, chip 0, register 1, character 2 = 7");
-  assert.equal(joinPieces(piecesOf("  JUN end", "end", opened)), "end 5, and comes next");
-  assert.deepEqual(piecesOf("  JUN other", "other", opened), []);
+  assert.equal(joinPieces(piecesOf("  JUN end", "end", openedSession)), "end 5, and comes next");
+  assert.deepEqual(piecesOf("  JUN other", "other", openedSession), []);
 });
 
 test("values are read from the right bank, even if it is not the first", async () => {
@@ -138,7 +138,7 @@ test("the changes by a line are known after a step and a step over, but not afte
 test("values from a snapshot are those in the answers of `trace`", async () => {
   const random = createRandom(4);
   const randomBelow = (limit) => Math.floor(random() * limit);
-  const text = `rom = [{ chip = 0, port = "0000" }, { chip = 1, port = "1i0i" }, { chip = 3, port = "i100" }]
+  const boardText = `rom = [{ chip = 0, port = "0000" }, { chip = 1, port = "1i0i" }, { chip = 3, port = "i100" }]
 ram = [{ bank = 0, chips = 2 }, { bank = 5, chips = 1 }]
 lamp = [{ line = "ram0.1.2" }, { line = "chain0.3" }, { line = "rom3.1" }]
 chain = [{ clock = "rom0.0", data = "rom0.1", chips = 2 }]
@@ -147,14 +147,14 @@ keys = { chain = 0, first = 0, rows = 2, columns = ["rom1.0", "rom1.2"] }
   const places = ["acc", "cy", "dcl", "pc", "r0", "r15", "src", "ret", "lamps", "rom0", "rom1", "rom3", "rom1.0", "rom1.1",
     "rom1.2", "rom1.3", "rom3.3", "rom3.2", "ram0.0", "ram0.1", "ram5.0", "ram0.1.2", "ram0.1.3", "chain0", "chain0.0", "chain0.3",
     "chain0.19", "ram.0.0x12", "ram.0.0x7F", "ram.5.0x00", "st.0.1.2", "st.5.3.0", "ram.7.0x00", "rom9", "rom9.1"];
-  const { debugger: { session } } = new DebugSession(engine, { board: text, program: "" });
+  const { debugger: { session } } = new DebugSession(engine, { board: boardText, program: "" });
   const board = readBoard(session.ask("board\n"));
   for (let round = 0; round < 60; round++) {
-    const heads = [" FIM P0, ", " SRC P0", " LDM ", " WRR", " WMP", " WRM", " WR2", " DCL", " JMS x"];
-    const rows = Array.from({ length: 12 }, () => heads[randomBelow(heads.length)]);
-    const code = rows.map((row) => (/ $/.test(row) ? row + randomBelow(row.includes("FIM") ? 256 : 16) : row)).join("\n");
-    const moves = [0, 1].map((row) => `${randomBelow(2) ? "press" : "release"} ${row} ${randomBelow(2)}\n`).join("");
-    const lines = `${moves}asm\n${code}\nx: NOP\n.\npoke pc 0\npoke acc ${randomBelow(16)}\nrun ${1 + randomBelow(30)}\n`;
+    const instructionHeads = [" FIM P0, ", " SRC P0", " LDM ", " WRR", " WMP", " WRM", " WR2", " DCL", " JMS x"];
+    const instructions = Array.from({ length: 12 }, () => instructionHeads[randomBelow(instructionHeads.length)]);
+    const code = instructions.map((row) => (/ $/.test(row) ? row + randomBelow(row.includes("FIM") ? 256 : 16) : row)).join("\n");
+    const keyLines = [0, 1].map((row) => `${randomBelow(2) ? "press" : "release"} ${row} ${randomBelow(2)}\n`).join("");
+    const lines = `${keyLines}asm\n${code}\nx: NOP\n.\npoke pc 0\npoke acc ${randomBelow(16)}\nrun ${1 + randomBelow(30)}\n`;
     await session.serve(lines, async () => true);
     const machineState = readMachineState(session, [0, 5]);
     for (let from = 0; from < places.length; from += 16) {

@@ -6,12 +6,13 @@ import { findMatch, readSearch } from "../core/waves/wave_search.js";
 import { findLineByName } from "../core/waves/trigger.js";
 import { openExample, examplesOfPage } from "./page_session.js";
 
-const line = (name, kind, rest = {}) => ({ name, title: "", group: "", kind, places: [], members: [], width: 1, columns: 0, ...rest });
+const createLine = (name, kind, changes = {}) => (
+  { name, title: "", group: "", kind, places: [], members: [], width: 1, columns: 0, ...changes });
 const LINES = [
-  line("rom0.0", "level"), line("rom0.1", "level"), line("lamp.minus", "level", { group: "lamps" }),
-  line("lamp1", "level", { group: "lamps", title: "over.flow" }), line("key.7", "key", { group: "keys" }),
-  line("rom0[1:0]", "port", { members: [0, 1], width: 2, title: "to the chain" }), line("r5", "value", { width: 4 }),
-  line("pc", "pc", { width: 12 }), line("label", "label", { width: 16 }),
+  createLine("rom0.0", "level"), createLine("rom0.1", "level"), createLine("lamp.minus", "level", { group: "lamps" }),
+  createLine("lamp1", "level", { group: "lamps", title: "over.flow" }), createLine("key.7", "key", { group: "keys" }),
+  createLine("rom0[1:0]", "port", { members: [0, 1], width: 2, title: "to the chain" }), createLine("r5", "value", { width: 4 }),
+  createLine("pc", "pc", { width: 12 }), createLine("label", "label", { width: 16 }),
 ];
 const createBitTrack = (moments) => ({ first: 0, moments: Uint32Array.from(moments), values: null });
 const EMPTY_TRACK = { first: 0, moments: new Uint32Array(0), values: new Uint16Array(0) };
@@ -60,15 +61,15 @@ test("values and edges are found in both directions", () => {
 
 test("invalid searches are rejected with a reason", () => {
   const waves = createWaves();
-  const error = (text, markedLine = 6) => readSearch(text, waves, markedLine).error;
-  assert.match(error(""), /^Enter a search: a value of the selected row/);
-  assert.match(error("A"), /^A is not a number such as 10, 0x0A or 0b1010/);
-  assert.equal(error("16"), "r5 has 4 bits: its value is at most 15.");
-  assert.equal(error("2", 0), "rom0.0 has 1 bit: its value is at most 1.");
-  assert.equal(error("r9 = 3"), "Nothing that was recorded is called r9: select it and record again.");
-  assert.equal(error("r5 rises"), "r5 is a number: search for a change, or for a value such as = 5.");
-  assert.equal(error("@nowhere"), "The program of this recording has no label nowhere.");
-  assert.equal(error("3", -1), "No row is selected: click one first.");
+  const errorOf = (text, markedLine = 6) => readSearch(text, waves, markedLine).error;
+  assert.match(errorOf(""), /^Enter a search: a value of the selected row/);
+  assert.match(errorOf("A"), /^A is not a number such as 10, 0x0A or 0b1010/);
+  assert.equal(errorOf("16"), "r5 has 4 bits: its value is at most 15.");
+  assert.equal(errorOf("2", 0), "rom0.0 has 1 bit: its value is at most 1.");
+  assert.equal(errorOf("r9 = 3"), "Nothing that was recorded is called r9: select it and record again.");
+  assert.equal(errorOf("r5 rises"), "r5 is a number: search for a change, or for a value such as = 5.");
+  assert.equal(errorOf("@nowhere"), "The program of this recording has no label nowhere.");
+  assert.equal(errorOf("3", -1), "No row is selected: click one first.");
 });
 
 test("an edge found in two million cycles is the one that the bench reports", async () => {
@@ -76,9 +77,9 @@ test("an edge found in two million cycles is the one that the bench reports", as
   const calls = await openExample("stopwatch", "test 0\n");
   const waves = new Waves(await calls.record(2000000, false, { board, program, values: ["r4"] }));
   const findMoment = (text, moment, isForward) => findMatch(waves, readSearch(text, waves, -1).search, moment, isForward);
-  const first = findMoment("lamp15 rises", 0, true);
+  const firstEdge = findMoment("lamp15 rises", 0, true);
   assert.ok(findMoment("lamp15 rises", 2000000, false) > 1990000);
   assert.equal(findMoment("pc = 0xFFF", 0, true), -1);
-  const [answer] = calls.ask(`trace ${first} lamps\n`).slice(-1);
-  assert.equal(Number(answer.split(" ")[0]) + 1, first);
+  const [answer] = calls.ask(`trace ${firstEdge} lamps\n`).slice(-1);
+  assert.equal(Number(answer.split(" ")[0]) + 1, firstEdge);
 });

@@ -112,7 +112,7 @@ const LEVELS = { "rom0.0": 1, "rom0.1": 1, "rom1.1": 1, "rom1.2": 1, "chain0.0":
  * cycles before it, its address, and the values that it changes.
  */
 function answersOf({ groups }, levels, instructions = []) {
-  const now = { ...levels };
+  const currentLevels = { ...levels };
   const levelsOf = (place, count, values) => Array.from({ length: count }, (_, line) => values[`${place}.${line}`] || 0);
   const digitOf = (bits) => bits.reduce((sum, level, line) => sum + level * 2 ** line, 0).toString(16).toUpperCase();
   const answerOf = (place, values) => {
@@ -121,15 +121,15 @@ function answersOf({ groups }, levels, instructions = []) {
   };
   const rowOf = ({ fields }, values) => fields.map(({ place }) => ` ${answerOf(place, values)}`).join("");
   const rows = instructions.map(([cycles, address, changes]) => {
-    const before = { ...now };
-    Object.assign(now, changes);
-    return { cycles, address, before, after: { ...now } };
+    const before = { ...currentLevels };
+    Object.assign(currentLevels, changes);
+    return { cycles, address, before, after: { ...currentLevels } };
   });
-  const head = (lines, row) => [`trace ran 9 end lines ${lines.length}${row}`, ...lines];
+  const addHeadLine = (lines, row) => [`trace ran 9 end lines ${lines.length}${row}`, ...lines];
   const formatChanges = (group) => rows.filter(({ before, after }) => rowOf(group, before) !== rowOf(group, after))
     .map(({ cycles, address, after }) => `${cycles} ${address}${rowOf(group, after)}`);
-  return [...head(rows.map(({ cycles, address }) => `${cycles} ${address}`), ""),
-    ...groups.flatMap((group) => head(formatChanges(group), rowOf(group, levels)))];
+  return [...addHeadLine(rows.map(({ cycles, address }) => `${cycles} ${address}`), ""),
+    ...groups.flatMap((group) => addHeadLine(formatChanges(group), rowOf(group, levels)))];
 }
 
 /** Returns a recording that begins with a state. `values` names the values to record besides the lines. */
@@ -203,13 +203,13 @@ test("a two-cycle instruction is recorded once, and commands between cycles take
 
 test("the value at a moment and the edges around it", () => {
   const waves = wavesOf(recordProgram(100));
-  const data = lineIndexOf(waves.lines, "rom0.1");
-  assert.deepEqual([0, 1, 4, 5].map((moment) => waves.valueAt(data, moment)), ["1", "0", "0", "1"]);
-  assert.equal(waves.changeAfter(data, 0), 1);
-  assert.equal(waves.changeAfter(data, 1), 5);
-  assert.equal(waves.changeAfter(data, 5), undefined);
-  assert.equal(waves.changeBefore(data, 5), 1);
-  assert.equal(waves.changeBefore(data, 1), undefined);
+  const dataLine = lineIndexOf(waves.lines, "rom0.1");
+  assert.deepEqual([0, 1, 4, 5].map((moment) => waves.valueAt(dataLine, moment)), ["1", "0", "0", "1"]);
+  assert.equal(waves.changeAfter(dataLine, 0), 1);
+  assert.equal(waves.changeAfter(dataLine, 1), 5);
+  assert.equal(waves.changeAfter(dataLine, 5), undefined);
+  assert.equal(waves.changeBefore(dataLine, 5), 1);
+  assert.equal(waves.changeBefore(dataLine, 1), undefined);
   assert.deepEqual([0, 2, 3, 4].map((moment) => waves.valueAt(lineIndexOf(waves.lines, "pc"), moment)), ["00A", "00C", "00C", "00A"]);
 });
 
@@ -243,16 +243,16 @@ test("a recording can be extended, and cut at both ends", () => {
   const builder = beginRecording();
   addRun(builder, LEVELS, PROGRAM.slice(0, 1), "ok 9 ran 1 end", { pc: "00B" });
   const recording = wavesOf(builder);
-  const after = { ...LEVELS, "rom0.1": 0 };
+  const laterLevels = { ...LEVELS, "rom0.1": 0 };
   const shiftedProgram = PROGRAM.slice(1, 3).map(([cycles, ...rest]) => [cycles - 1, ...rest]);
   const pc = lineIndexOf(recording.lines, "pc");
   assert.deepEqual([...recording.changesOf(pc)], [1]);
-  addRun(builder, after, shiftedProgram, "ok 10 ran 3 end", { pc: "00A" });
+  addRun(builder, laterLevels, shiftedProgram, "ok 10 ran 3 end", { pc: "00A" });
   recording.append({ ...builder.take(), listing: [] });
   assert.equal(textOf(recording, recording.lines.map((_, line) => line)), textOf(wholeWaves, wholeWaves.lines.map((_, line) => line)));
   recording.beginAt(2);
-  const data = lineIndexOf(recording.lines, "rom0.1");
-  assert.deepEqual([recording.from, recording.length, recording.valueAt(data, 2), [...recording.changesOf(pc)]], [2, 2, "0", [4]]);
+  const dataLine = lineIndexOf(recording.lines, "rom0.1");
+  assert.deepEqual([recording.from, recording.length, recording.valueAt(dataLine, 2), [...recording.changesOf(pc)]], [2, 2, "0", [4]]);
   assert.deepEqual([recording.counterAt(2), recording.counterAt(3)], [0x00c, 0x00c]);
   assert.equal(recording.valueAt(lineIndexOf(recording.lines, "lamp2"), 2), "1");
   recording.endAt(3);
@@ -318,9 +318,9 @@ test("a VCD file ends with the end of the recording", () => {
 
 test("the short names of lines in the file differ", () => {
   const waves = wavesOf(recordProgram(3));
-  const all = waves.lines.map((_, line) => line);
-  const codes = textOf(waves, all).split("\n").filter((line) => line.startsWith("$var")).map((line) => line.split(" ")[3]);
-  assert.equal(new Set(codes).size, all.length);
+  const allLines = waves.lines.map((_, line) => line);
+  const codes = textOf(waves, allLines).split("\n").filter((line) => line.startsWith("$var")).map((line) => line.split(" ")[3]);
+  assert.equal(new Set(codes).size, allLines.length);
   assert.deepEqual([codes[0], codes[21], codes[22], codes[43], codes[44]], ["A", "Y", "AA", "AY", "CA"]);
 });
 

@@ -20,13 +20,13 @@ function startRecording(calls, texts, { maxCycles = 1000000, cyclesAfterTrigger 
   const { recording, error } = calls.recordLive(texts, { trigger, cyclesAfterTrigger, stopsMachine: stopsTime });
   assert.equal(error, "");
   const liveWaves = new LiveWaves(recording, { maxCycles, cyclesAfterTrigger, trigger, stopsTime });
-  return { live: liveWaves, addPart: (answer) => liveWaves.append(answer.waves) };
+  return { liveWaves, addPart: (answer) => liveWaves.append(answer.waves) };
 }
 
 test("a live recording of frames, keys, lines and steps equals a recording of the past", async () => {
   const { calls, texts } = await openSession("calculator", "run 30000\n");
   texts.values = ["r5", "p2", "ram.0.0x12"];
-  const { live, addPart } = startRecording(calls, texts);
+  const { liveWaves, addPart } = startRecording(calls, texts);
   for (let frame = 0; frame < 4; frame++) addPart(calls.advance(1543));
   addPart(calls.advance(1543, matrixKey(2, 0)));
   addPart(calls.advance(3000));
@@ -35,46 +35,46 @@ test("a live recording of frames, keys, lines and steps equals a recording of th
   addPart(await calls.serve("step\nrun 777\npress 0 0\nrun 50\nrelease 0 0\npoke r5 3\nstep\nreset\nstep\nrun 100\n"));
   addPart(await calls.runToGoal({ kind: "over" }));
   addPart(calls.advance(500));
-  const whole = new Waves(await calls.record(live.waves.cycles, true, texts));
-  assert.equal(live.waves.cycles, whole.cycles);
-  assert.equal(wholeText(live.waves), wholeText(whole));
-  assert.deepEqual([...live.waves.listing].sort(), [...whole.listing].sort());
-  assert.ok(live.waves.changesOf(lineIndexOf(live.waves, "key.1")).length === 2);
-  live.append(calls.endRecording());
-  assert.match(live.statusText, /^Recorded .* Stopped by you\.$/);
+  const wholeWaves = new Waves(await calls.record(liveWaves.waves.cycles, true, texts));
+  assert.equal(liveWaves.waves.cycles, wholeWaves.cycles);
+  assert.equal(wholeText(liveWaves.waves), wholeText(wholeWaves));
+  assert.deepEqual([...liveWaves.waves.listing].sort(), [...wholeWaves.listing].sort());
+  assert.ok(liveWaves.waves.changesOf(lineIndexOf(liveWaves.waves, "key.1")).length === 2);
+  liveWaves.append(calls.endRecording());
+  assert.match(liveWaves.statusText, /^Recorded .* Stopped by you\.$/);
   assert.equal(calls.advance(100).waves, null);
 });
 
 test("the session is the same with and without a recording", async () => {
-  const [plain, recording] = [await openSession("stopwatch", "test 0\n"), await openSession("stopwatch", "test 0\n")];
-  startRecording(recording.calls, recording.texts, { trigger: "lamp 15 on", cyclesAfterTrigger: 100 });
-  for (const { calls } of [plain, recording]) {
+  const [plainSession, recordingSession] = [await openSession("stopwatch", "test 0\n"), await openSession("stopwatch", "test 0\n")];
+  startRecording(recordingSession.calls, recordingSession.texts, { trigger: "lamp 15 on", cyclesAfterTrigger: 100 });
+  for (const { calls } of [plainSession, recordingSession]) {
     for (let frame = 0; frame < 20; frame++) calls.advance(1543);
     await calls.serve("break 0x00C\n");
     calls.advance(5000);
   }
-  assert.deepEqual(plain.calls.ask("state\n"), recording.calls.ask("state\n"));
-  assert.deepEqual(plain.calls.bench.session.file, recording.calls.bench.session.file);
+  assert.deepEqual(plainSession.calls.ask("state\n"), recordingSession.calls.ask("state\n"));
+  assert.deepEqual(plainSession.calls.bench.session.file, recordingSession.calls.bench.session.file);
 });
 
 test("only the last cycles are kept, without changes", async () => {
   const { calls, texts } = await openSession("stopwatch", "test 0\n");
-  const { live, addPart } = startRecording(calls, texts, { maxCycles: 5000 });
-  live.waves.changesOf(lineIndexOf(live.waves, "rom0[3:0]"));
+  const { liveWaves, addPart } = startRecording(calls, texts, { maxCycles: 5000 });
+  liveWaves.waves.changesOf(lineIndexOf(liveWaves.waves, "rom0[3:0]"));
   for (let frame = 0; frame < 30; frame++) addPart(calls.advance(1543));
-  assert.deepEqual([live.waves.length, live.waves.cycles], [5000, 30 * 1543]);
-  const whole = new Waves(await calls.record(5000, true, texts));
-  assert.equal(wholeText(live.waves), wholeText(whole));
+  assert.deepEqual([liveWaves.waves.length, liveWaves.waves.cycles], [5000, 30 * 1543]);
+  const wholeWaves = new Waves(await calls.record(5000, true, texts));
+  assert.equal(wholeText(liveWaves.waves), wholeText(wholeWaves));
 });
 
 test("a breakpoint stops the machine and the recording", async () => {
   const { calls, texts } = await openSession("three lamps", "break 0x00C\n");
-  const { live, addPart } = startRecording(calls, texts);
+  const { liveWaves, addPart } = startRecording(calls, texts);
   const frame = calls.advance(100000);
   addPart(frame);
   assert.equal(frame.stop.reason, "break");
-  assert.equal(live.waves.cycles, frame.cycles);
-  assert.equal(live.waves.counterAt(live.waves.cycles), 0x00c);
+  assert.equal(liveWaves.waves.cycles, frame.cycles);
+  assert.equal(liveWaves.waves.counterAt(liveWaves.waves.cycles), 0x00c);
 });
 
 /** Returns the values of a line one cycle before a moment and at this moment. */
@@ -92,25 +92,25 @@ for (const [trigger, readAround, expected] of TRIGGERS) {
   test(`a trigger, ${trigger}, with cycles before and after it`, async () => {
     const { calls, texts } = await openSession("stopwatch", "test 0\nrun 20000\n");
     texts.values = ["r3"];
-    const { live, addPart } = startRecording(calls, texts, { maxCycles: 3000, cyclesAfterTrigger: 1000, trigger });
-    for (let frame = 0; frame < 200 && live.isRecording; frame++) {
+    const { liveWaves, addPart } = startRecording(calls, texts, { maxCycles: 3000, cyclesAfterTrigger: 1000, trigger });
+    for (let frame = 0; frame < 200 && liveWaves.isRecording; frame++) {
       const answer = calls.advance(1543);
       assert.equal(answer.stop, null);
       addPart(answer);
     }
-    assert.equal(live.endReason, "trigger");
-    const { waves, triggerMoment } = live;
+    assert.equal(liveWaves.endReason, "trigger");
+    const { waves, triggerMoment } = liveWaves;
     assert.deepEqual(readAround(waves, triggerMoment), expected);
     assert.equal(waves.cycles, triggerMoment + 1000);
     assert.equal(waves.from, Math.max(0, triggerMoment - 2000));
-    assert.match(live.statusText, /The trigger was at cycle/);
+    assert.match(liveWaves.statusText, /The trigger was at cycle/);
   });
 }
 
 test("the machine stops at an instruction once the cycles after a trigger are recorded", async () => {
   const { calls, texts } = await openSession("stopwatch", "test 0\nrun 20000\n");
   const options = { maxCycles: 3000, cyclesAfterTrigger: 10, trigger: "lamp15 changes", stopsTime: true };
-  const { live, addPart } = startRecording(calls, texts, options);
+  const { liveWaves, addPart } = startRecording(calls, texts, options);
   let frame = calls.advance(1);
   for (let count = 0; count < 50 && !frame.stop; count++) {
     addPart(frame);
@@ -118,30 +118,30 @@ test("the machine stops at an instruction once the cycles after a trigger are re
   }
   addPart(frame);
   assert.equal(frame.stop.reason, "recorded");
-  assert.deepEqual([live.endReason, live.waves.cycles], ["trigger", live.triggerMoment + 10]);
+  assert.deepEqual([liveWaves.endReason, liveWaves.waves.cycles], ["trigger", liveWaves.triggerMoment + 10]);
   assert.match(calls.ask("regs\n")[0], / owed 0 /);
-  const after = calls.advance(1543);
-  assert.deepEqual([after.stop, after.cycles, after.waves], [null, 1543, null]);
+  const laterFrame = calls.advance(1543);
+  assert.deepEqual([laterFrame.stop, laterFrame.cycles, laterFrame.waves], [null, 1543, null]);
 });
 
 test("a key press can be a trigger", async () => {
   const { calls, texts } = await openSession("calculator", "run 30000\n");
-  const { live, addPart } = startRecording(calls, texts, { maxCycles: 9000, cyclesAfterTrigger: 3000, trigger: "key 1 rises" });
+  const { liveWaves, addPart } = startRecording(calls, texts, { maxCycles: 9000, cyclesAfterTrigger: 3000, trigger: "key 1 rises" });
   addPart(calls.advance(1543));
   addPart(calls.advance(1543, matrixKey(2, 0)));
   addPart(calls.advance(4000));
-  assert.equal(live.waves.valueAt(lineIndexOf(live.waves, "key.1"), live.triggerMoment), "1");
-  assert.deepEqual([live.triggerMoment, live.endReason], [1543, "trigger"]);
+  assert.equal(liveWaves.waves.valueAt(lineIndexOf(liveWaves.waves, "key.1"), liveWaves.triggerMoment), "1");
+  assert.deepEqual([liveWaves.triggerMoment, liveWaves.endReason], [1543, "trigger"]);
 });
 
 test("the reason for the end of a recording is reported", async () => {
   const statusAfter = async (action) => {
     const { calls, texts } = await openSession("three lamps", "run 500\n");
-    const { live, addPart } = startRecording(calls, texts);
+    const { liveWaves, addPart } = startRecording(calls, texts);
     addPart(calls.advance(100));
     addPart(await action(calls));
     assert.equal((await calls.serve("step\n")).waves, null);
-    return live.statusText.replace(/^Recorded [^.]*\.\d+ m?s\. /, "");
+    return liveWaves.statusText.replace(/^Recorded [^.]*\.\d+ m?s\. /, "");
   };
   assert.equal(await statusAfter((calls) => calls.goBack({ kind: "instruction" })), "It ended when the session went back or forward.");
   const board = "wire\n[[rom]]\nchip = 0\nport = \"0000\"\n.\n";

@@ -1,7 +1,7 @@
 // Tests the visible part of a recording, and the messages about it.
 import assert from "node:assert/strict";
 import { test } from "node:test";
-import { flagLeft } from "../page/waves/wave_canvas.js";
+import { findFlagLeft } from "../page/waves/wave_canvas.js";
 import { WaveWindow, tickMoments } from "../core/waves/wave_window.js";
 import {
   describeDistance, describeCursor, cyclesText, instructionText, readCycles, describeRecording, screenReaderText, valueText,
@@ -162,7 +162,7 @@ test("a finished recording is shown as a whole unless the user has zoomed", () =
 });
 
 test("the flag of a cursor stays within the picture", () => {
-  assert.deepEqual([flagLeft(300.5, 500), flagLeft(500.5, 500), flagLeft(498.5, 500)], [293.5, 486, 486]);
+  assert.deepEqual([findFlagLeft(300.5, 500), findFlagLeft(500.5, 500), findFlagLeft(498.5, 500)], [293.5, 486, 486]);
 });
 
 test("cursors that the user has not moved are placed at edges when a recording ends", () => {

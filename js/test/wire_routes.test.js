@@ -19,10 +19,10 @@ function createLargestBoard() {
   return readBoard(lines);
 }
 
-const SMALL = readBoard(["board", "[[rom]]", "chip = 1", 'port = "iiii"', "[[chain]]", 'clock = "rom0.0"', 'data = "rom0.1"', "chips = 4",
-  "[keys]", "chain = 0", "first = 0", "rows = 4", 'columns = ["rom1.0", "rom1.1"]']);
+const SMALL_BOARD = readBoard(["board", "[[rom]]", "chip = 1", 'port = "iiii"', "[[chain]]", 'clock = "rom0.0"', 'data = "rom0.1"',
+  "chips = 4", "[keys]", "chain = 0", "first = 0", "rows = 4", 'columns = ["rom1.0", "rom1.1"]']);
 
-for (const [name, board] of Object.entries({ "a small board": SMALL, "the largest board": createLargestBoard() })) {
+for (const [name, board] of Object.entries({ "a small board": SMALL_BOARD, "the largest board": createLargestBoard() })) {
   test(`${name}: no wire is hidden by a part, and each wire ends at its pin`, () => {
     const { parts, wires } = layOutBoard(board);
     assert.ok(wires.length > 0);
@@ -48,7 +48,7 @@ test("after parts were moved at random, almost no wire is hidden by a part", () 
   let [hiddenCount, directHiddenCount] = [0, 0];
   for (let seed = 1; seed <= 40; seed++) {
     const randomBelow = createRandom(seed);
-    const shuffledParts = layOutBoard(SMALL).parts.map(({ id, height }) => ({ id, height, rank: randomBelow(1000) }))
+    const shuffledParts = layOutBoard(SMALL_BOARD).parts.map(({ id, height }) => ({ id, height, rank: randomBelow(1000) }))
       .sort((a, b) => a.rank - b.rank);
     const positions = new Map();
     let y = 20;
@@ -56,7 +56,7 @@ test("after parts were moved at random, almost no wire is hidden by a part", () 
       positions.set(id, { x: 20 + 220 * randomBelow(4) + randomBelow(30), y });
       y += height + 24;
     });
-    const { parts, wires } = layOutBoard(SMALL, undefined, positions);
+    const { parts, wires } = layOutBoard(SMALL_BOARD, undefined, positions);
     const isHidden = (route) => route.some((curve) => parts.some((part) => isCurveCovered(curve, part)));
     wires.forEach((wire, index) => {
       hiddenCount += Number(isHidden(routeWire(wire, parts, index)));

@@ -15,10 +15,10 @@ test("each part of a board is drawn once, and no two parts overlap", () => {
   assert.deepEqual(parts.map(({ id }) => id), ["processor", "rom 0", "rom 1", "ram 0.0", "chain 0", "keys", "lamps"]);
   for (const part of parts) {
     assert.ok(part.x >= 0 && part.x + part.width <= width && part.y + part.height <= height);
-    for (const other of parts.filter((otherPart) => otherPart !== part)) {
-      const isApart = part.x + part.width <= other.x || other.x + other.width <= part.x || part.y + part.height <= other.y
-        || other.y + other.height <= part.y;
-      assert.ok(isApart, `${part.id} and ${other.id}`);
+    for (const otherPart of parts.filter((candidate) => candidate !== part)) {
+      const isApart = part.x + part.width <= otherPart.x || otherPart.x + otherPart.width <= part.x || part.y + part.height <= otherPart.y
+        || otherPart.y + otherPart.height <= part.y;
+      assert.ok(isApart, `${part.id} and ${otherPart.id}`);
     }
   }
 });
@@ -31,12 +31,12 @@ test("a wire goes from the pin that drives a line, or that the line reads, to th
 
 test("the description of a part states the uses of its lines", () => {
   const { parts } = layOutBoard(readBoard(BOARD), { names: ["red"], colours: ["green"], test: null, buzzer: null });
-  const descriptions = (id) => parts.find((part) => part.id === id).descriptions;
+  const descriptionsOf = (id) => parts.find((part) => part.id === id).descriptions;
   const outputs = ["line rom0.0, an output, clocks chain 0", "line rom0.1, an output, is the data of chain 0"];
-  assert.deepEqual(descriptions("rom 0").slice(0, 2), outputs);
-  assert.equal(descriptions("rom 1")[2], "line rom1.2, an input, is not used");
+  assert.deepEqual(descriptionsOf("rom 0").slice(0, 2), outputs);
+  assert.equal(descriptionsOf("rom 1")[2], "line rom1.2, an input, is not used");
   assert.deepEqual(parts.find(({ id }) => id === "lamps").pins.map(({ colour }) => colour), ["green", "red"]);
-  assert.deepEqual(descriptions("lamps"), ["red is at ram0.0.0", "lamp 1 is at chain0.9"]);
+  assert.deepEqual(descriptionsOf("lamps"), ["red is at ram0.0.0", "lamp 1 is at chain0.9"]);
 });
 
 test("the component at TEST is a part with a wire to the processor, and has a description", () => {
@@ -62,10 +62,10 @@ test("an empty board has a processor", () => {
 });
 
 test("the level of an input line is its read value, and the level of an output line is its latch value", () => {
-  const levels = (mask, portLevels) => [0, 1, 2, 3].map((line) => isHighAtRom(mask, portLevels, line));
-  assert.deepEqual(levels("0000", { out: "5", in: "0" }), [true, false, true, false]);
-  assert.deepEqual(levels("iiii", { out: "F", in: "2" }), [false, true, false, false]);
-  assert.deepEqual(levels("i0i1", { out: "9", in: "E" }), [true, true, false, true]);
+  const levelsOf = (mask, portLevels) => [0, 1, 2, 3].map((line) => isHighAtRom(mask, portLevels, line));
+  assert.deepEqual(levelsOf("0000", { out: "5", in: "0" }), [true, false, true, false]);
+  assert.deepEqual(levelsOf("iiii", { out: "F", in: "2" }), [false, true, false, false]);
+  assert.deepEqual(levelsOf("i0i1", { out: "9", in: "E" }), [true, true, false, true]);
   assert.deepEqual([0, 1, 2, 3].map((line) => isHigh("8", line)), [false, false, false, true]);
 });
 

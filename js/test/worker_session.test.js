@@ -61,8 +61,8 @@ test("if a piece of long work fails or is cancelled, nothing is changed", async 
   await assert.rejects(session.serve("step\n".repeat(9000), shouldContinue), /no 90/);
   assert.equal(session.file[0], 0);
   engine.callLimit = Infinity;
-  let pieces = 0;
-  await assert.rejects(session.serve("step\n".repeat(9000), async () => ++pieces < 2), /cancelled/);
+  let pieceCount = 0;
+  await assert.rejects(session.serve("step\n".repeat(9000), async () => ++pieceCount < 2), /cancelled/);
   assert.equal(session.file[0], 0);
   await session.serve("step\n", shouldContinue);
   assert.equal(session.file[0], 1);

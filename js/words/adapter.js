@@ -17,7 +17,6 @@ export const onlySourceMessage = (name) => `there is one source, ${name}`;
 export const NO_REFERENCE = "this reference is unknown";
 export const NO_FRAME = "there is no such frame; frameId is one of stackTrace";
 export const NO_LINE = "text has no such line";
-export const ADDRESSES_ARE = "addresses are 0x000 to 0xFFF";
 /** @type {(maximum: number) => string} */
 export const instructionCountRangeMessage = (maximum) => `instructionCount is 0 to ${maximum}`;
 /** @type {(part: string) => string} */
@@ -92,7 +91,7 @@ export const fileNotWritten = (answer) => `the session's file was not written: t
 export const STATES_DIFFER = "the session's file reached another state than the session in memory";
 
 // --- adapter/session_launch.js ---
-export const LAUNCH_NEEDS =
+export const LAUNCH_SYNTAX =
   "launch needs \"project\", a folder with mcs4.toml, or \"program\", a program's text, or \"session\", a session file";
 /** @type {(error: string) => string} */
 export const boardHint = (error) => `${error}; without "board" it is the project's, or board.toml next to the program`;
@@ -104,7 +103,7 @@ export const DOT_ALONE = "a line with only a dot";
 export const noBoardBesideMessage = (program) => `there is no board.toml next to ${program}: "board" names the board's text`;
 /** @type {(session: string) => string} */
 export const sessionMissing = (session) => `${session} does not exist; "board" and "program" create it`;
-export const ATTACH_NEEDS = "attach needs \"session\", a session file; launch starts a program";
+export const ATTACH_SYNTAX = "attach needs \"session\", a session file; launch starts a program";
 /** @type {(session: string) => string} */
 export const noSessionMessage = (session) => `there is no session file ${session}`;
 export const PROGRAM_HAS_ERRORS = "the program has errors";

@@ -2,7 +2,7 @@
 // are in tools/lib/refusals.txt.)
 
 // --- bench/script_answers.js ---
-export const FIRST_IS_SESSION = "the first line of the answers must be `session N`";
+export const SESSION_LINE_MISSING = "the first line of the answers must be `session N`";
 /** @type {(answerLine: number, answer: string, scriptLine: number, scriptText: string) => string} */
 export const noAnswerMessage = (answerLine, answer, scriptLine, scriptText) => (
   `line ${answerLine} of the answers, \`${answer}\`, does not answer line ${scriptLine} of the script, \`${scriptText}\``);
@@ -19,7 +19,7 @@ export const tooManyCommandsMessage = (commands, maximum) => `it has accepted ${
 export const answersDiffer = (commands) => `after ${commands} commands some answers differ`;
 
 // --- bench/bench_errors.js ---
-export const IT_WAS_CANCELLED = "it was cancelled";
+export const CANCELLED = "it was cancelled";
 export const WORKER_STOPPED = "the bench's worker has stopped";
 
 // --- bench/name_substitution.js ---
@@ -43,7 +43,7 @@ export const RECORD_SYNTAX = "a record has `:`, ten hexadecimal digits and two f
 export const wrongByteCountMessage = (count, bytes) => `it announces ${count} bytes and has ${bytes}`;
 /** @type {(actual: string, expected: string) => string} */
 export const wrongChecksum = (actual, expected) => `the checksum is ${actual}, and ${expected} would be right`;
-export const PAST_LAST = "past the last address, FFF";
+export const PAST_LAST_ADDRESS = "past the last address, FFF";
 /** @type {(address: string) => string} */
 export const duplicateAddress = (address) => `the address ${address}, which an earlier line has`;
 /** @type {(type: number) => string} */
@@ -52,7 +52,7 @@ export const addressPastLast = (type) => `type 0${type} with a value other than 
 export const wrongRecordSize = (type, size) => `a record of type ${type} has ${["no", "one", "two", "three", "four"][size]} bytes`;
 /** @type {(type: string) => string} */
 export const unknownTypeMessage = (type) => `type ${type}, which has no meaning for a 4004`;
-export const AFTER_LAST = "a record after the last one (type 01)";
+export const AFTER_LAST_RECORD = "a record after the last one (type 01)";
 /** @type {(line: number, error: string) => string} */
 export const imageErrorInLine = (line, error) => `line ${line}: ${error}`;
 export const NO_LAST_RECORD = "it has no last record (:00000001FF), so a part of it is missing";
@@ -73,7 +73,7 @@ export const UNKNOWN_REFUSAL = "no refusal has this number; the manual lists the
 export const moduleStopped = (error) => `the module stopped inside a call (${error}) and was started again`;
 /** @type {(error: string) => string} */
 export const restartedMessage = (error) => `${error} and was started again`;
-export const WAS_CANCELLED = "It was cancelled. The session is as it was before.";
+export const CALL_CANCELLED = "It was cancelled. The session is as it was before.";
 /** @type {(reason: string) => string} */
 export const notDoneMessage = (reason) => `It was not done: ${reason}. The session is as it was before.`;
 /** @type {(reason: string) => string} */

@@ -119,7 +119,7 @@ export const wiredAt = (line) => `at ${line}`;
 
 // --- board/lamp_answers.js ---
 /** @type {(board: string) => string} */
-export const hasNoDisplayMessage = (board) => `${board} has no display: a comment \`# display 0: 4 digits\` makes one`;
+export const noDisplayMessage = (board) => `${board} has no display: a comment \`# display 0: 4 digits\` makes one`;
 /** @type {(line: number, answer: string) => string} */
 export const answerIsRefusalMessage = (line, answer) => `line ${line} of the answers is a refusal: ${answer}; mcs4 explain says why`;
 /** @type {(line: number, board: string) => string} */

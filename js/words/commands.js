@@ -19,7 +19,7 @@ const PROGRAM_ALONE = `
       that mcs4.toml names in this folder.`;
 const FOLDER_OPTION = "Uses the project in FOLDER: the files that its mcs4.toml names.";
 const SESSION_OPTION = "Counts the next cycles of the session in SESSION.";
-const WHAT_IS_COUNTED = `
+const COUNTED_RUNS = `
       It counts a run of tests, as \`mcs4 test\` runs them, or the next CYCLES cycles of a copy of a session. CYCLES is 1 to
       100,000,000.`;
 const REPORT_OR_ERROR = "1: a test failed (the report is printed), or an error, printed on standard error.";
@@ -66,7 +66,7 @@ export const COMMAND_WORDS = {
       Prints each line of the source with the number of times it was run. A conditional jump has two numbers: how often it was taken,
       and how often it was not. Below the source are a summary and the lines that were never run.
 
-      ${WHAT_IS_COUNTED} The last instruction counts even if the last cycle only begins it. Breakpoints and watches of the session are
+      ${COUNTED_RUNS} The last instruction counts even if the last cycle only begins it. Breakpoints and watches of the session are
       ignored.
 
       ${BOARD_AND_PROGRAM}`,
@@ -360,7 +360,7 @@ ${SERVES_LINES}`,
       Prints for each label the cycles of its own instructions, the number of its calls, and the cycles of its calls, including everything
       that they call. For tests that press keys, it also prints how long the lamps took to answer.
 
-      ${WHAT_IS_COUNTED}
+      ${COUNTED_RUNS}
 
       ${BOARD_AND_PROGRAM}`,
     options: { folder: FOLDER_OPTION, session: SESSION_OPTION },
@@ -708,7 +708,7 @@ export const stoppedAtCode = (cycles) => `the session stopped after ${cycles} cy
 
 // --- project ---
 
-export const SPLIT_OR_JOIN = "split or join is missing";
+export const SPLIT_OR_JOIN_MISSING = "split or join is missing";
 /** @type {(word: string) => string} */
 export const neitherSplitNorJoinMessage = (word) => `'${word}' is neither split nor join`;
 /** @type {(name: string, folder: string) => string} */
@@ -735,13 +735,13 @@ export const alreadyExists = (name) => `${name} already exists; name another fol
 
 // --- rom ---
 
-export const LOAD_ASK_OR_SAVE = "load, ask or save is missing";
+export const LOAD_ASK_OR_SAVE_MISSING = "load, ask or save is missing";
 /** @type {(word: string) => string} */
 export const unknownRomActionMessage = (word) => `'${word}' is not load, ask or save`;
 /** @type {(action: string, format: string) => string} */
 export const unsupportedFormat = (action, format) => `rom ${action} takes no --${format}`;
 export const ADDRESS_RANGE = "ADDRESS is 0 to 4095, decimal or with 0x";
-export const NUMBERS_OF_RANGE = "FIRST and COUNT are numbers, decimal or with 0x";
+export const RANGE_NUMBERS_SYNTAX = "FIRST and COUNT are numbers, decimal or with 0x";
 export const BYTE_RANGE_SYNTAX = "FIRST is 0 to 4095, COUNT is at least 1, and 4096 is the address after the last one";
 /** @type {(name: string) => string} */
 export const textIsNotImageMessage = (name) => (
@@ -780,7 +780,7 @@ export const noAnswersMessage = (command) => (
 // --- cycles ---
 /** @type {(word: string) => string} */
 export const notALineNumberMessage = (word) => `FIRST and LAST are line numbers; '${word}' is not a number`;
-export const FIRST_AND_LAST = "FIRST is at least 1, and LAST is not before it";
+export const LINE_RANGE_SYNTAX = "FIRST is at least 1, and LAST is not before it";
 
 // --- explain ---
 /** @type {(mismatch: string) => string} */

@@ -110,12 +110,12 @@ export const ACCUMULATOR_HINT = "the accumulator is acc";
 export const CARRY_HINT = "the carry is cy";
 export const COUNTER_HINT = "the counter is pc";
 export const BANK_HINT = "the bank is dcl";
-export const REGISTERS_ARE = "the registers are r0 to r15";
-export const CHARACTERS_ARE = "a place of RAM is ram.BANK.SRC or st.BANK.REGISTER.NUMBER";
-export const PORTS_ARE = "ports are rom1 and ram0.1, their lines rom1.0 to rom1.3";
+export const REGISTERS_HINT = "the registers are r0 to r15";
+export const RAM_PLACES_HINT = "a place of RAM is ram.BANK.SRC or st.BANK.REGISTER.NUMBER";
+export const PORTS_HINT = "ports are rom1 and ram0.1, their lines rom1.0 to rom1.3";
 /** @type {(names: string) => string} */
 export const suggestion = (names) => `perhaps ${names}`;
-export const PLACES_ARE = "places are acc, cy, pc, dcl, test, r0 to r15, p0 to p7, ram.B.S, st.B.H.K, rom1, ram0.1, lamps, "
+export const PLACES_HINT = "places are acc, cy, pc, dcl, test, r0 to r15, p0 to p7, ram.B.S, st.B.H.K, rom1, ram0.1, lamps, "
   + "and names of the source, of Watch and of lamps";
 
 /** @type {(name: string, maximum: number) => string} */

@@ -4,7 +4,7 @@
 // --- drawing/drawing_actions.js ---
 export const TEST_IN_USE = "TEST has its button or switch: delete that one first.";
 /** @type {(part: string) => string} */
-export const boardHasNo = (part) => `The board has no ${part}.`;
+export const boardHasNoMessage = (part) => `The board has no ${part}.`;
 /** @type {(name: string, target: string) => string} */
 export const needsInput = (name, target) => `${name} is an output line: ${target} is read at an input line of a ROM.`;
 /** @type {(name: string, target: string) => string} */
@@ -156,7 +156,7 @@ export const WHAT_IS_THERE = "what is there";
 /** The kinds of ROM port lines: each kind's letter in the board's text and its description. */
 export const DIRECTIONS = [["i", "an input"], ["0", "an output"], ["1", "an output that reads as 1"]];
 /** @type {(line: number) => string} */
-export const lineIsA = (line) => `line ${line} is`;
+export const lineDirectionLabel = (line) => `line ${line} is`;
 export const COPY = "Copy";
 export const DELETE = "Delete";
 /** @type {(chip: number) => string} */

@@ -66,14 +66,14 @@ line = "ram0.0.2"
 line = "ram0.0.3"
 `;
 export const FIRST_PROGRAM = { name: "first program", title: "Five steps to your own program." };
-export const LAMP = `; Lights the first lamp.
+export const LAMP_PROGRAM = `; Lights the first lamp.
         FIM P0, 0x00    ; RAM chip 0 of bank 0
         SRC P0          ; is selected
         LDM 1           ; 1 into the accumulator
         WMP             ; and from there to the chip's port
 stop:   JUN stop
 `;
-export const COUNT = `; Counts on the four lamps.
+export const COUNT_PROGRAM = `; Counts on the four lamps.
         FIM P0, 0x00
         SRC P0
         LDM 0
@@ -84,7 +84,7 @@ wait:   ISZ R2, wait    ; three nested loops let time pass
         ISZ R4, wait
         JUN count
 `;
-export const KEY = `; Shows on the lamps which keys are down.
+export const KEY_PROGRAM = `; Shows on the lamps which keys are down.
         FIM P0, 0x00    ; ROM chip 0 and RAM chip 0
         SRC P0
         LDM 3           ; data and clock up:
@@ -93,7 +93,7 @@ read:   RDR             ; the keys are lines 2 and 3
 show:   WMP
         JUN read
 `;
-export const REMEMBER = `; Counts how often a key goes down, in a character of RAM.
+export const REMEMBER_PROGRAM = `; Counts how often a key goes down, in a character of RAM.
         FIM P0, 0x00
         SRC P0
         LDM 3
@@ -141,7 +141,7 @@ export const STEP_WATCH = {
 };
 
 // --- help/tour_view.js ---
-export const LAST_DONE = "Done: that was the last step. Help has all instructions and lines.";
+export const LAST_STEP_DONE = "Done: that was the last step. Help has all instructions and lines.";
 /** @type {(number: number, count: number, title: string) => string} */
 export const stepOf = (number, count, title) => `${number} of ${count}: ${title}`;
 export const FINISH = "Finish";

@@ -37,7 +37,7 @@ export const instructionOf4040 = (word) => `${word} is an instruction of the 404
 export const NO_PROGRAM_RAM = "WPM writes program RAM, which a board here does not have";
 /** @type {(word: string) => string} */
 export const notSupportedMessage = (word) => `${word} is not supported; write the lines that it stands for`;
-export const PAST_LAST = "past the last address, FFF";
+export const PAST_LAST_ADDRESS = "past the last address, FFF";
 /** @type {(word: string) => string} */
 export const noInstructionMessage = (word) => `\`${word}\` is neither an instruction nor a directive that is supported`;
 /** @type {(word: string, count: number) => string} */

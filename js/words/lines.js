@@ -49,7 +49,8 @@ const FORM_BY_FIRST_WORD = new Map(LINES_BY_GROUPS.flatMap(({ lines }) => lines.
 
 // --- bench/line_forms.js ---
 /** @type {(word: string, similarWords: string[]) => string} */
-export const noLineMessage = (word, similarWords) => `${word} is not a command${didYouMean(similarWords) || "; help shows the commands"}`;
+export const unknownCommandMessage = (word, similarWords) => (
+  `${word} is not a command${didYouMean(similarWords) || "; help shows the commands"}`);
 /** @type {(word: string) => string} */
 export const lineSyntax = (word) => `${word} is written as: ${FORM_BY_FIRST_WORD.get(word)}`;
 /** @type {(word: string, similarWords: string[]) => string} */

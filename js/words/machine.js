@@ -24,7 +24,7 @@ export const EDIT = "Edit";
 /** @type {(address: string) => string} */
 export const editBreakpoint = (address) => `edit the breakpoint at ${address}`;
 export const REMOVE_BREAKPOINT = "remove this breakpoint";
-export const REMOVES_IT = "removes it";
+export const REMOVE_TIP = "removes it";
 /** @type {(count: string) => string} */
 export const moreNotes = (count) => `${count} more`;
 
@@ -45,10 +45,10 @@ export const CANCEL = "Cancel";
 
 // --- machine/breakpoints_controller.js ---
 export const LINE = "Line";
-export const ADDS_BREAKPOINT = "Add breakpoint";
-export const REMOVES_BREAKPOINT = "Remove breakpoint";
-export const DISABLE = "Disable breakpoint";
-export const ENABLE = "Enable breakpoint";
+export const ADD_BREAKPOINT_ITEM = "Add breakpoint";
+export const REMOVE_BREAKPOINT_ITEM = "Remove breakpoint";
+export const DISABLE_BREAKPOINT_ITEM = "Disable breakpoint";
+export const ENABLE_BREAKPOINT_ITEM = "Enable breakpoint";
 export const RUN_TO_LINE = "Run to this line";
 
 // --- machine/cell_editor.js ---

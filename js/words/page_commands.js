@@ -206,6 +206,6 @@ export const KEY_TABLE = "Keys of commands";
 export const KEY = "Key";
 export const DOES = "Does";
 /** The part of the page in which a key works, by the key's scope. */
-export const WHERE = {
+export const KEY_SCOPES = {
   everywhere: "", texts: "in the texts", source: "in Source", board: "in Board", tests: "in Tests", properties: "in Properties",
 };

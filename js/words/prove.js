@@ -8,6 +8,8 @@ export const dependsOnInput = (place) => `its condition uses ${place}, an input`
 // --- prove/input_limits.js ---
 /** @type {(count: number) => string} */
 export const togetherLine = (count) => `together ${count}`;
+/** The first word of the line that sets the minimum time between two changes. */
+export const WAIT_WORD = "wait";
 
 // --- prove/question.js ---
 /** @type {(form: string) => string} */

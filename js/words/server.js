@@ -41,13 +41,13 @@ export const textTooLong = (maximum, size) => `a text has at most ${maximum} cha
 export const quickFixTitle = (text) => `Write ${text}`;
 
 // --- server/framing.js ---
-export const HEAD_SYNTAX = "a message begins with one line Content-Length: N, and an empty one after it";
+export const HEADER_SYNTAX = "a message begins with one line Content-Length: N, and an empty one after it";
 /** @type {(maximum: number) => string} */
-export const headTooLong = (maximum) => `the head of a message has more than ${maximum} bytes`;
+export const headerTooLongMessage = (maximum) => `the header of a message has more than ${maximum} bytes`;
 
 /** @type {(received: number, size: number) => string} */
 export const messageIncomplete = (received, size) => `only ${received} of the ${size} bytes that Content-Length announces have arrived`;
-export const HEAD_INCOMPLETE = "only a part of the head of a message has arrived";
+export const HEADER_INCOMPLETE = "only a part of the header of a message has arrived";
 
 /** @type {(size: number, maximum: number) => string} */
 export const sizeTooLarge = (size, maximum) => `Content-Length: ${size} is more than a message can have (${maximum} bytes)`;
@@ -94,7 +94,7 @@ export const NO_NAME_HERE = "There is no name of the program here.";
 // --- server/lsp_protocol.js ---
 /** @type {(name: string) => string} */
 export const mustBeTextMessage = (name) => `${name} must be a text`;
-export const POSITION_IS = "a position has a line and a character, whole numbers from 0";
+export const POSITION_SYNTAX = "a position has a line and a character, whole numbers from 0";
 
 // --- server/requests.js ---
 /** @type {(name: string) => string} */
@@ -127,12 +127,12 @@ export const CONTAINS_NUL = "it contains NUL bytes, so it is not a text";
 export const leadsOut = (path) => `${path} is a link that leads out of the project's folder`;
 
 // --- project/project_toml.js ---
-export const BOARD_IS = "board is the path of a file: board = \"board.toml\"";
-export const PROGRAM_IS = "program is the path of a file: program = \"program.asm\"";
-export const TESTS_ARE = "tests is a list of paths: tests = [\"program.test\"]";
-export const PROPERTIES_ARE = "properties is a list of paths: properties = [\"program.props\"]";
+export const BOARD_SYNTAX = "board is the path of a file: board = \"board.toml\"";
+export const PROGRAM_SYNTAX = "program is the path of a file: program = \"program.asm\"";
+export const TESTS_SYNTAX = "tests is a list of paths: tests = [\"program.test\"]";
+export const PROPERTIES_SYNTAX = "properties is a list of paths: properties = [\"program.props\"]";
 /** @type {(names: string, last: string) => string} */
-export const speedIs = (names, last) => `speed is one of ${names} or ${last}`;
+export const speedSyntax = (names, last) => `speed is one of ${names} or ${last}`;
 /** @type {(key: string, syntax: string | undefined) => string} */
 export const emptyPath = (key, syntax) => `${key} has an empty path; ${syntax}`;
 /** @type {(key: string) => string} */

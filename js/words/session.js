@@ -78,8 +78,8 @@ export const UNDO = "Undo";
 export const supportedFiles = (reason) => (
   `${reason}; supported are projects (.mcsp), sessions (.mcs), programs (.asm), boards (.toml), tests (.test), `
   + "properties (.props), lines (.txt) and ROM (.hex, .bin)");
-export const NAMES_FILES = "it names files of a project: drop its folder on the page, or choose all of them";
-export const NOT_A_KIND = "not a kind of text that the bench has";
+export const PROJECT_FILE_ALONE = "it names files of a project: drop its folder on the page, or choose all of them";
+export const UNKNOWN_TEXT_KIND = "not a kind of text that the bench has";
 /** @type {(size: string, maximum: string) => string} */
 export const tooLongMessage = (size, maximum) => `a text of ${size} characters; at most ${maximum} are accepted`;
 export const NOT_A_TEXT = "not a text, a session or a project";
@@ -204,7 +204,7 @@ export const noLinkMessage = (reason) => `No link was made: ${reason}. Shorten i
 export const characterCountText = (count) => `${count} characters`;
 /** @type {(size: string, warning: string) => string} */
 export const linkCopied = (size, warning) => `A link of ${size} was copied. ${warning}`;
-export const TOO_LONG_LINK = "Too long for a link";
+export const TOO_LONG_FOR_LINK = "Too long for a link";
 /** @type {(size: string, maximum: string) => string} */
 export const linkTooLongMessage = (size, maximum) => (
   `These texts would make a link of ${size}; browsers show at most ${maximum}. A project file has no such limit.`);
@@ -214,7 +214,7 @@ export const THE_LINK = "The link";
 export const COPY_LINK = "Copy this link";
 export const COPY_MANUALLY = "The browser does not let the page copy. Copy the link manually.";
 /** @type {(name: string) => string} */
-export const openFromLink = (name) => `Open "${name}" from a link?`;
+export const openFromLinkQuestion = (name) => `Open "${name}" from a link?`;
 export const OPEN_AS_NEW = "Open it as a new session";
 /** @type {(reason: string) => string} */
 export const linkNotOpened = (reason) => `Cannot open the link: ${reason}. Nothing was changed.`;

@@ -11,7 +11,7 @@ import { CYCLE_MS } from "../core/time/mcs4_time.js";
  */
 
 /** @type {Record<ProjectTextError["text"], string>} the titles of the texts */
-const WHERE = { board: "Board", program: "Source", tests: "Tests", properties: "Properties" };
+const TAB_NAMES = { board: "Board", program: "Source", tests: "Tests", properties: "Properties" };
 
 /**
  * Returns the summary of all tests.
@@ -41,7 +41,7 @@ export function textErrorsMessage(errors, describeRefusal) {
   const [{ text, line, number, words }] = errors;
   const errorText = words || `no ${number}: ${describeRefusal(number)}`;
   const othersText = errors.length > 1 ? `, and ${errors.length - 1} more` : "";
-  return `Nothing was run: ${WHERE[text]}${line > 0 ? `, line ${line}` : ""}: ${errorText}${othersText}.`;
+  return `Nothing was run: ${TAB_NAMES[text]}${line > 0 ? `, line ${line}` : ""}: ${errorText}${othersText}.`;
 }
 
 /**

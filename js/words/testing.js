@@ -68,11 +68,11 @@ export const runStopped = (cycles, reason) => `the run stopped after ${cycles} c
 /** @type {(address: string) => string} */
 export const beforeInvalidOpcode = (address) => `before a code that is not an instruction, at ${address}`;
 /** @type {(place: string, value: number) => string} */
-export const placeHasValue = (place, value) => `${place} is ${value}, and `;
+export const valuePrefix = (place, value) => `${place} is ${value}, and `;
 /** @type {(prefix: string, word: string, keys: string) => string} */
-export const valueHasKeys = (prefix, word, keys) => `${prefix}${word} has ${keys}`;
+export const tooFewKeysMessage = (prefix, word, keys) => `${prefix}${word} has ${keys}`;
 /** @type {(prefix: string, key: number, digit: string) => string} */
-export const valueHasNoKey = (prefix, key, digit) => `${prefix}the board has no key ${key}${digit}`;
+export const noKeyForValueMessage = (prefix, key, digit) => `${prefix}the board has no key ${key}${digit}`;
 /** @type {(digit: string | number) => string} */
 export const orDigitKey = (digit) => `, nor ${digit}`;
 /** @type {(cycles: number, reason: string, message: string) => string} */
@@ -137,7 +137,7 @@ export const CYCLES_NOT_ALLOWED = "`until` cannot ask for cycles; use `run` or `
 export const PACE_SYNTAX = "write `pace TIME TIME`: how long a key is down, and how long it is up after it";
 
 // --- testing/tests_tab.js ---
-export const WAS_CANCELLED = "It was cancelled; the results shown are from the previous run.";
+export const TESTS_CANCELLED = "It was cancelled; the results shown are from the previous run.";
 
 // --- testing/tests_view.js ---
 export const NOT_OK = "not ok";

@@ -41,7 +41,7 @@ export const valueMissing = (key) => `the value of ${key} is missing`;
 /** @type {(text: string) => string} */
 export const noValueMessage = (text) => `a value is needed here, not ${text}`;
 /** @type {(text: string) => string} */
-export const hasLeadingZeroMessage = (text) => `a number has no leading zero; write a text in quotes: "${text}"`;
+export const leadingZeroMessage = (text) => `a number has no leading zero; write a text in quotes: "${text}"`;
 /** @type {(text: string) => string} */
 export const needsQuotesMessage = (text) => `${text} is a text: write it in quotes: "${text}"`;
 /** @type {(maximum: number) => string} */
@@ -67,7 +67,7 @@ export const noBitInChainMessage = (line, chain, last) => `the board has no line
 export const noChainMessage = (chain, chains) => (
   `the board has no chain ${chain}: it has ${["no [[chain]]", "only chain 0"][chains] || `chains 0 to ${chains - 1}`}`);
 /** @type {(firstBit: number, lastBit: number, chain: number, highestBit: number) => string} */
-export const rowsNeed = (firstBit, lastBit, chain, highestBit) =>
+export const rowsNeedBits = (firstBit, lastBit, chain, highestBit) =>
   `the rows need bits ${firstBit} to ${lastBit} of chain ${chain}, which has bits 0 to ${highestBit}`;
 /** @type {(line: string) => string} */
 export const needsInput = (line) => `${line} is not an input line; a column needs a line of a ROM that is i in its port`;
@@ -78,7 +78,7 @@ export const needsOutput = (key, line, isBit) => (
 /** @type {(name: string) => string} */
 export const noLineNameMessage = (name) => `${name} is not the name of a line; names are like "rom1.0", "ram0.0.3" and "chain0.5"`;
 /** @type {(key: string, number: string) => string} */
-export const withoutQuotes = (key, number) => `${key} is a number: write ${number} without quotes`;
+export const needsNoQuotesMessage = (key, number) => `${key} is a number: write ${number} without quotes`;
 /** @type {(maximum: number, table: string) => string} */
 export const tooManyTablesMessage = (maximum, table) => `a board has at most ${maximum} [[${table}]]`;
 /** @type {(maximum: number) => string} */
@@ -121,9 +121,9 @@ export const MAY_BE_MORE = "There may be more.";
 /** @type {(bytes: string) => string} */
 export const assembledAll = (bytes) => `Assembled ${bytes}; running from 000.`;
 /** @type {Record<string, string>} the titles of the texts, by kind */
-const TEXTS = { program: "Source", board: "Board", tests: "Tests", properties: "Properties" };
+const TAB_NAMES = { program: "Source", board: "Board", tests: "Tests", properties: "Properties" };
 /** @type {(name: string, line: number) => string} */
-export const problemAt = (name, line) => `${TEXTS[name]}, line ${line}: `;
+export const problemAt = (name, line) => `${TAB_NAMES[name]}, line ${line}: `;
 export const BOARD_WIRED = "Board applied.";
 export const FIRST_BOARD = "The first board's text is in Board.";
 /** @type {(line: number, message: string, others: number) => string} */
@@ -156,9 +156,9 @@ export const RENAME = "Rename";
 /** @type {(oldName: string, newName: string, places: string) => string} */
 export const renamedMessage = (oldName, newName, places) => `${oldName} is now ${newName}, at ${places}.`;
 /** @type {(last: string) => string} */
-export const lineOfText = (last) => `Line, 1 to ${last}`;
+export const lineNumberLabel = (last) => `Line, 1 to ${last}`;
 /** @type {(last: string) => string} */
-export const lineIs = (last) => `The line must be a number from 1 to ${last}.`;
+export const lineRangeMessage = (last) => `The line must be a number from 1 to ${last}.`;
 
 // --- text/program_errors.js ---
 /** @type {(chip: number, address: string) => string} */
@@ -189,7 +189,7 @@ export const binaryHint = (number) => `binary numbers are not supported; it is $
 /** @type {(letter: string, number: string) => string} */
 export const characterCodeHint = (letter, number) => `characters are not supported; the code of ${letter} is ${number}`;
 /** @type {(number: string) => string} */
-export const withoutNumberSign = (number) => `without #: ${number}`;
+export const numberSignHint = (number) => `without #: ${number}`;
 export const NO_NEGATIVES = "there are no negative numbers";
 export const NO_EXPRESSIONS = "there are no expressions: write one number or one name";
 export const OPERAND_COMMA_MISSING = "write a comma between two operands";
@@ -265,8 +265,8 @@ export const searchIn = (label) => `Search in ${label}`;
 export const SHIFT_ENTER = "Shift+Enter";
 export const PREVIOUS = "Previous";
 export const NEXT = "Next";
-export const REPLACE_BY = "Replace with";
-export const REPLACE_BY_HINT = "replace with";
+export const REPLACE_WITH = "Replace with";
+export const REPLACE_WITH_HINT = "replace with";
 export const REPLACE_TITLE = "Enter: replaces this one and goes to the next";
 export const REPLACE = "Replace";
 export const REPLACE_ALL = "Replace all";
@@ -326,6 +326,6 @@ export const describeKey = (name, table, values) => `${name} of ${table}: ${valu
 
 // --- text/toml_words.js ---
 /** @type {(quote: string) => string} */
-export const closingMissing = (quote) => `the closing ${quote} of the text is missing`;
+export const closingQuoteMissingMessage = (quote) => `the closing ${quote} of the text is missing`;
 /** @type {(character: string) => string} */
 export const noMeaningMessage = (character) => `${character} has no meaning here`;

@@ -1,6 +1,6 @@
 // Messages and labels about time: cycles, speeds, steps, and moves back and forward in time.
 
-import { PLACES_ARE } from "./conditions.js";
+import { PLACES_HINT } from "./conditions.js";
 
 // --- time/cycles.js ---
 /** @type {(time: string) => string} */
@@ -12,7 +12,7 @@ export const inSeconds = (time) => `${time} s`;
 /** @type {(cycles: number, time: string) => string} */
 export const cyclesAndMicroseconds = (cycles, time) => `${cycles} cycle${cycles === 1 ? "" : "s"}, ${time} microseconds`;
 /** @type {(line: number, answer: string) => string} */
-export const isRefusalMessage = (line, answer) => `line ${line} is a refusal: ${answer}; mcs4 explain says why`;
+export const answerIsRefusalMessage = (line, answer) => `line ${line} is a refusal: ${answer}; mcs4 explain says why`;
 /** @type {(lines: number) => string} */
 export const tooFewAnswersMessage = (lines) => `there are only ${lines} lines of answers`;
 export const NO_RUN = "none of these lines shows a run, as `ok 5 ran 100 end` does";
@@ -38,7 +38,7 @@ export const BETWEEN_MARKS = "Between the marks ";
 export const instructionCountHint = (maximum) => `Nothing was done: give a number of instructions, 1 to ${maximum}.`;
 export const ENTER_CHANGE = "Nothing was done: enter a place such as r5, lamp 3 or rom0.2, or a condition such as r5 > 8.";
 /** @type {(error: string) => string} the error for the status bar; gives a few example places instead of the list of all places */
-export const cannotSearchForMessage = (error) => `Nothing was done: ${error.replace(PLACES_ARE, EXAMPLE_PLACES)}.`;
+export const cannotSearchForMessage = (error) => `Nothing was done: ${error.replace(PLACES_HINT, EXAMPLE_PLACES)}.`;
 const EXAMPLE_PLACES = "enter something such as r5, lamp 3 or rom0.2";
 
 // --- time/run_controller.js ---

@@ -20,8 +20,8 @@ export const recordedUntil = (duration, endReason, trigger) => `Recorded ${durat
 export const NOTHING = "nothing";
 /** @type {(trigger: string) => string} */
 export const recordsAfter = (trigger) => `Recording the cycles after the trigger.${trigger}`;
-export const RECORDS_SOON = "Records as soon as the machine runs.";
-export const RECORDS = "Recording.";
+export const RECORDS_WHEN_RUNNING = "Records as soon as the machine runs.";
+export const RECORDING = "Recording.";
 /** @type {(trigger: string) => string} */
 export const waitsFor = (trigger) => ` Waiting for ${trigger}.`;
 
@@ -104,11 +104,11 @@ export const RAM_GROUP = "RAM, ";
 export const valueAtRest = (value) => `= ${value}`;
 export const NO_ROW = "-";
 /** @type {(rows: number[]) => string} */
-export const rowsDriven = (rows) => `${rows.length === 1 ? "row" : "rows"} ${rows.join("+")}`;
+export const rowsText = (rows) => `${rows.length === 1 ? "row" : "rows"} ${rows.join("+")}`;
 /** @type {(columns: number[]) => string} */
-export const columnsAnswer = (columns) => `${columns.length === 1 ? "column" : "columns"} ${columns.join("+")}`;
-/** @type {(driven: string, answer: string) => string} */
-export const rowsAnswer = (driven, answer) => `${driven}: ${answer}`;
+export const columnsText = (columns) => `${columns.length === 1 ? "column" : "columns"} ${columns.join("+")}`;
+/** @type {(rows: string, keys: string) => string} */
+export const scanText = (rows, keys) => `${rows}: ${keys}`;
 
 // --- waves/wave_lines.js ---
 /** @type {(chain: number) => string} */

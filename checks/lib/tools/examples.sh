@@ -25,7 +25,7 @@ done
 
 board=$calculator/board.toml
 
-# Presses keys of the calculator, also in a session that is closed and continued, and compares the numbers that it shows.
+# Presses keys of the calculator, and compares the number that it shows with the expected one. Some sessions are closed and reopened before that.
 check_calculation "12*30=" 360
 check_calculation "22/7=" 3.1428571
 check_calculation "1 2 + 3 0 =" 42

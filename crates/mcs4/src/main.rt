@@ -6,6 +6,6 @@ use std::io;
 use std::process::ExitCode;
 
 fn main(rt: HostRuntime) -> io::Result<ExitCode> {
-    let ended = run_program(&rt);
-    Ok(ended.status)
+    let program_result = run_program(&rt);
+    Ok(program_result.status)
 }

@@ -12,7 +12,7 @@ const FAILURE_STATUS: u8 = 3;
 
 /// Reads the question from standard input. Returns an empty text if standard input cannot be read or is not valid
 /// UTF-8.
-fn question(rt: &HostRuntime) -> String {
+fn read_question(rt: &HostRuntime) -> String {
     let mut text = String::new(rt.alloc());
     match rt.reader().read_to_string(&mut text) {
         Ok(_) => text,
@@ -21,9 +21,9 @@ fn question(rt: &HostRuntime) -> String {
 }
 
 /// Reads the question and prints the answer. Returns the exit status of the answer. If memory runs
-/// out, prints `no 90` and returns `FAILURE_STATUS`. Fails if the line cannot be written.
+/// out, prints `no 90` and returns `FAILURE_STATUS`. Fails if standard output cannot be written.
 fn answer_question(rt: &HostRuntime) -> io::Result<u8> {
-    let Ok(Answer { text, status }) = answer_to(rt.alloc(), question(rt).as_str()) else {
+    let Ok(Answer { text, status }) = answer_to(rt.alloc(), read_question(rt).as_str()) else {
         println!(rt; "no 90")?;
         return Ok(FAILURE_STATUS);
     };

@@ -4,7 +4,7 @@ use Rattle.std.proofs.lemmas.Grind.{common_steps}
 use Rattle.std.proofs.lemmas.List.{map-append, take_more}
 use Rattle.std.specs.List.{flat_map, range_with_len}
 use Rattle.mcs_wiring.proofs.PartTexts.{texts_below_next}
-use Rattle.mcs_model.specs.QueryText.{or_dash, stretch}
+use Rattle.mcs_model.specs.QueryText.{or_dash, sublist}
 
 -- If `p` and then `x` are appended to a text, `p ++ x` is appended to it.
 pub append_one_piece : (a p b x c : List ℕ) → b ≡ a ++ p → c ≡ b ++ x → c ≡ a ++ (p ++ x)
@@ -26,13 +26,13 @@ append_mapped f xs i d a b c inside so_far here =
     ∙ append_assoc a (map f (take i xs)) (f (get_or xs i d) ∷ [])
     ∙ ap (λ v. a ++ v) (sym (ap (map f) (take_more xs i d inside) ∙ map-append f (take i xs) (get_or xs i d ∷ [])))
 
--- If the first `k` numbers of a `stretch` are written, writing the next number extends the text to
+-- If the first `k` numbers of a `sublist` are written, writing the next number extends the text to
 -- `k + 1` numbers.
-pub append_in_stretch : (f : ℕ → ℕ) (xs : List ℕ) (from k : ℕ) (a b c : List ℕ) → from + k < length xs
-    → b ≡ a ++ map f (stretch xs from k)
+pub append_in_sublist : (f : ℕ → ℕ) (xs : List ℕ) (from k : ℕ) (a b c : List ℕ) → from + k < length xs
+    → b ≡ a ++ map f (sublist xs from k)
     → c ≡ b ++ f (get_or xs (from + k) 0) ∷ []
-    → c ≡ a ++ map f (stretch xs from (k + 1))
-append_in_stretch f xs from k a b c inside so_far here =
+    → c ≡ a ++ map f (sublist xs from (k + 1))
+append_in_sublist f xs from k a b c inside so_far here =
     let there : get_or (drop from xs) k 0 ≡ get_or xs (from + k) 0 = grind (arith, common_steps) in
     let within : k < length (drop from xs) = grind (arith, common_steps) in
     append_mapped f (drop from xs) k 0 a b c within so_far (here ∙ ap (λ v. b ++ f v ∷ []) (sym there))

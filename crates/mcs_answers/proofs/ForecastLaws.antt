@@ -16,21 +16,21 @@ use Rattle.mcs_model.specs.Command.{after, machine_of, stops_of}
 use Rattle.mcs_model.specs.QueryText.{address_text, hex_digit}
 use Rattle.mcs_model.specs.Running.{after_run, run_length}
 use Rattle.mcs_probe.specs.declared.probe.Probe.{Probe}
-use Rattle.mcs_probe.specs.Forecast.{BegunInstruction, instructions_begun_in, begins_at_address, later, runs_at}
+use Rattle.mcs_probe.specs.Forecast.{BegunInstruction, instructions_begun_in, begins_at_address, with_earlier_start, runs_at}
 use Rattle.mcs_trace.proofs.Parts.{begun_instructions-add_up}
 use Rattle.mcs_answers.specs.ForecastLaws.{is_line_at, trace_lines_from}
 use Rattle.mcs_answers.specs.ForecastTexts.{trace_line, trace_lines}
 
-trace-lines-of-mapped-instructions : (probes : List Probe) (m : ℕ) (begun : List BegunInstruction) → flat_map (trace_line probes) (map (later m) begun) ≡ flat_map (λ x. trace_line probes (later m x)) begun
+trace-lines-of-mapped-instructions : (probes : List Probe) (m : ℕ) (begun : List BegunInstruction) → flat_map (trace_line probes) (map (with_earlier_start m) begun) ≡ flat_map (λ x. trace_line probes (with_earlier_start m x)) begun
 trace-lines-of-mapped-instructions probes m [] = refl
-trace-lines-of-mapped-instructions probes m (x ∷ begun) = ap (λ (l : List (List ℕ)). trace_line probes (later m x) ++ l) (trace-lines-of-mapped-instructions probes m begun)
+trace-lines-of-mapped-instructions probes m (x ∷ begun) = ap (λ (l : List (List ℕ)). trace_line probes (with_earlier_start m x) ++ l) (trace-lines-of-mapped-instructions probes m begun)
 
 pub traces-add-up : (probes : List Probe) (b : BenchState) (m n : ℕ) → run_length (stops_of b) (m + n) (machine_of b) ≡ m + n → trace_lines probes b (m + n) ≡ trace_lines probes b m ++ trace_lines_from probes m (after b (Run m)) n
 traces-add-up probes b m n e =
     let first = instructions_begun_in (stops_of b) m (machine_of b) in
     let second = instructions_begun_in (stops_of b) n (after_run (stops_of b) m (machine_of b)) in
     ap (flat_map (trace_line probes)) (begun_instructions-add_up (stops_of b) m n (machine_of b) e)
-    ∙ flat_map-append (trace_line probes) first (map (later m) second)
+    ∙ flat_map-append (trace_line probes) first (map (with_earlier_start m) second)
     ∙ ap (λ (l : List (List ℕ)). trace_lines probes b m ++ l) (trace-lines-of-mapped-instructions probes m second)
 
 -- ---- counts

@@ -109,7 +109,7 @@ pub record IsTraceSoFar (probes : List Probe) (k : ℕ) (s t : Machine) (before 
   pub row_now : before ≡ row probes t
   pub so_far : text ≡ lines_text (lines_within probes k s)
   pub count : lines ≡ length (lines_within probes k s)
-  pub few : lines ≤ k
+  pub within : lines ≤ k
 
 pub is-trace-of-run : (probes : List Probe) (n : ℕ) (b : BenchState) (t : Machine) (k : ℕ) (x : TraceResult) (text : List ℕ) → IsRunResult (stops_of b) n (machine_of b) t k x.stop → x.cycles ≡ k → x.lines ≡ length (lines_within probes k (machine_of b)) → text ≡ lines_text (lines_within probes k (machine_of b)) → IsTraceOfRun probes n b x text
 is-trace-of-run probes n b t k x text ran e lines report = record {
@@ -142,11 +142,11 @@ trace-so-far-next probes left k d s t u regs before text later longer lines adde
     (report.row_now ∙ ap (row probes) at)
     after in
     let all : lines_within probes (k + d) s ≡ lines_within probes k s ++ more = lines-within-next-instruction probes k (k + d) s (instructions_begun-after_instruction left k d s t u at ran some) ∙ ap (λ v. lines_within probes k s ++ v) (sym same) in
-    let few : length more ≤ 1 = at-most-one-line-in-either-case (regs.owed == 0) _ (at-most-one-reported-line (is_reported probes before (row probes u)) k regs.pc (row probes u)) in
-    let few_so_far = report.few in
+    let at_most_one : length more ≤ 1 = at-most-one-line-in-either-case (regs.owed == 0) _ (at-most-one-reported-line (is_reported probes before (row probes u)) k regs.pc (row probes u)) in
+    let within_so_far = report.within in
     record {
       row_now = now;
       so_far = text-of-appended-lines (lines_within probes k s) more _ text longer all report.so_far new_text;
       count = length-of-appended-lines (lines_within probes k s) more _ lines (lines + added) all report.count (ap (λ m. lines + m) count);
-      few = omega arith;
+      within = omega arith;
     }

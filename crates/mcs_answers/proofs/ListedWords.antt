@@ -15,7 +15,7 @@ joined_with_commas x (y ∷ ys) =
     append_assoc x (44 ∷ join_with_byte 44 (y ∷ ys)) (44 ∷ [])
     ∙ (ap (λ t. x ++ 44 ∷ t) (joined_with_commas y ys) ∙ sym (append_assoc x (44 ∷ []) (with_commas (y ∷ ys))))
 
--- If the last element of a list is removed after it was appended, the list is unchanged.
+-- If an element is appended to a list and then removed, the list is unchanged.
 take_all_but_last : (xs : List ℕ) (c : ℕ) → take (length (xs ++ c ∷ []) - 1) (xs ++ c ∷ []) ≡ xs
 take_all_but_last xs c = grind (arith, common_steps)
 

@@ -18,7 +18,7 @@ use Rattle.mcs_model.specs.Running.{Machine, StopConditions, after_cycles}
 use Rattle.mcs_bench.specs.declared.running.InstructionResult.{InstructionResult}
 use Rattle.mcs_bench.specs.Runs.{IsInstructionResult}
 use Rattle.mcs_probe.specs.declared.probe.Probe.{Probe}
-use Rattle.mcs_probe.specs.declared.probe.Probe.TheVariants as place
+use Rattle.mcs_probe.specs.declared.probe.Probe.TheVariants as probe
 use Rattle.mcs_probe.specs.Probes.{level_if_on_board, levels_of_four_lines, probe_text, row}
 use Rattle.mcs_trace.proofs.Steps.{only_owed_differs-after_instruction, with_owed}
 use Rattle.mcs_answers.specs.declared.traces.ProbeKinds.{ProbeKinds}
@@ -132,8 +132,8 @@ keeps-status op s m off =
     holds-after-instruction op s m P (λ o h. refl) (λ k h. holds-after-src m s.dcl _ Q (λ a b. refl)) (λ h. holds-after-ram-write m s.dcl s.acc Q (λ a. refl)) (λ h. holds-after-ram-port-write m s.dcl s.acc Q (λ a b. refl)) (λ h. holds-after-rom-port-write m s.acc Q (λ a b. refl))
     ((λ h. absurd (h (inl refl))), (λ h. absurd (h (inr (inl refl)))), (λ h. absurd (h (inr (inr (inl refl))))), (λ h. absurd (h (inr (inr (inr refl)))))) off
 
--- A property of the bus holds after an instruction that writes no port, if the property holds for
--- any RAM nibbles, status characters and SRC bytes.
+-- If a property of the bus holds for any RAM nibbles, status characters and SRC bytes, it holds
+-- after an instruction that writes no port.
 holds-if-no-port-written : (op : Op) (s : Regs) (m : BusState) → (WritesPort op → ⊥) → (Q : BusState → Type 0) → ((ram status srcs : List ℕ) (src : ℕ) → Q (record m { ram = ram; status = status; rom_src = src; ram_src = srcs })) → Q (bus_after op s m)
 holds-if-no-port-written op s m off Q h =
     let P : Op → BusState → Type 0 = λ o n. (WritesPort o → ⊥) → Q n in
@@ -156,9 +156,9 @@ keeps-level op s m line off =
     holds-if-no-port-written op s m off (λ n. level_if_on_board n line ≡ level_if_on_board m line)
     (λ ram status srcs src. ap (λ (v : ℕ). if is_on_board m.board line then v else 0) (level-unchanged-by-memory-and-src m ram status srcs src line))
 
-pub keeps-lamps : (op : Op) (s after : Regs) (m : BusState) → (WritesPort op → ⊥) → probe_text (after, bus_after op s m) place.Lamps ≡ probe_text (s, m) place.Lamps
+pub keeps-lamps : (op : Op) (s after : Regs) (m : BusState) → (WritesPort op → ⊥) → probe_text (after, bus_after op s m) probe.Lamps ≡ probe_text (s, m) probe.Lamps
 keeps-lamps op s after m off =
-    holds-if-no-port-written op s m off (λ n. probe_text (after, n) place.Lamps ≡ probe_text (s, m) place.Lamps)
+    holds-if-no-port-written op s m off (λ n. probe_text (after, n) probe.Lamps ≡ probe_text (s, m) probe.Lamps)
     (λ ram status srcs src. ap or_dash (map-of-equal-functions (λ (line : Line). lamp_mark (level (record m { ram = ram; status = status; rom_src = src; ram_src = srcs }) line)) (λ line. lamp_mark (level m line)) m.board.lamps.items (λ line. ap lamp_mark (level-unchanged-by-memory-and-src m ram status srcs src line))))
 
 keeps-src : (op : Op) (s : Regs) (m : BusState) → ((k : ℕ) → op ≢ Src k) → (bus_after op s m).rom_src ≡ m.rom_src
@@ -174,21 +174,21 @@ levels-equal-if-each-level-is m n f h = rw (h (f 0), h (f 1), h (f 2), h (f 3)) 
 -- ---- rows
 
 probe-text-ignores-owed : (p : Probe) (t : Machine) (n : ℕ) → probe_text (with_owed t n) p ≡ probe_text t p
-probe-text-ignores-owed place.Acc t n = refl
-probe-text-ignores-owed place.Cy t n = refl
-probe-text-ignores-owed place.Pc t n = refl
-probe-text-ignores-owed (place.Register k) t n = refl
-probe-text-ignores-owed place.Dcl t n = refl
-probe-text-ignores-owed (place.Rom at) t n = refl
-probe-text-ignores-owed (place.Ram bank src) t n = refl
-probe-text-ignores-owed (place.Status bank high k) t n = refl
-probe-text-ignores-owed (place.Level line) t n = refl
-probe-text-ignores-owed (place.RomPort chip) t n = refl
-probe-text-ignores-owed (place.RamPort bank chip) t n = refl
-probe-text-ignores-owed (place.Chain k) t n = refl
-probe-text-ignores-owed place.Src t n = refl
-probe-text-ignores-owed place.Lamps t n = refl
-probe-text-ignores-owed place.ReturnAddresses t n = refl
+probe-text-ignores-owed probe.Acc t n = refl
+probe-text-ignores-owed probe.Cy t n = refl
+probe-text-ignores-owed probe.Pc t n = refl
+probe-text-ignores-owed (probe.Register k) t n = refl
+probe-text-ignores-owed probe.Dcl t n = refl
+probe-text-ignores-owed (probe.Rom at) t n = refl
+probe-text-ignores-owed (probe.Ram bank src) t n = refl
+probe-text-ignores-owed (probe.Status bank high k) t n = refl
+probe-text-ignores-owed (probe.Level line) t n = refl
+probe-text-ignores-owed (probe.RomPort chip) t n = refl
+probe-text-ignores-owed (probe.RamPort bank chip) t n = refl
+probe-text-ignores-owed (probe.Chain k) t n = refl
+probe-text-ignores-owed probe.Src t n = refl
+probe-text-ignores-owed probe.Lamps t n = refl
+probe-text-ignores-owed probe.ReturnAddresses t n = refl
 
 -- No probe shows the pending second cycle (`owed`).
 pub row-ignores-owed : (probes : List Probe) (t : Machine) (n : ℕ) → row probes (with_owed t n) ≡ row probes t
@@ -223,35 +223,35 @@ pub excluded-if-false : {A : Type 0} (r : Bool) → not r ≡ true → (A → r 
 excluded-if-false true off on a = absurd (cc)
 excluded-if-false false off on a = let e = on a in absurd (cc)
 
-pub rom-probe-stays-same : (op : Op) (before after : Regs) (at : ℕ) → StaysSame op before after (place.Rom at)
+pub rom-probe-stays-same : (op : Op) (before after : Regs) (at : ℕ) → StaysSame op before after (probe.Rom at)
 rom-probe-stays-same op before after at m = ap (λ (xs : List ℕ). two_hex_digits (slice_index xs at)) (keeps-rom op before m)
 
-pub ram-probe-stays-same : (op : Op) (before after : Regs) (bank src : ℕ) → op ≢ Wrm → StaysSame op before after (place.Ram bank src)
+pub ram-probe-stays-same : (op : Op) (before after : Regs) (bank src : ℕ) → op ≢ Wrm → StaysSame op before after (probe.Ram bank src)
 ram-probe-stays-same op before after bank src off m = ap (λ (xs : List ℕ). digit_text (slice_index xs (ram_index bank src))) (keeps-ram op before m off)
 
-pub status-probe-stays-same : (op : Op) (before after : Regs) (bank high k : ℕ) → (WritesStatus op → ⊥) → StaysSame op before after (place.Status bank high k)
+pub status-probe-stays-same : (op : Op) (before after : Regs) (bank high k : ℕ) → (WritesStatus op → ⊥) → StaysSame op before after (probe.Status bank high k)
 status-probe-stays-same op before after bank high k off m = ap (λ (xs : List ℕ). digit_text (slice_index xs (status_index bank high k))) (keeps-status op before m off)
 
-pub level-probe-stays-same : (op : Op) (before after : Regs) (line : Line) → (WritesPort op → ⊥) → StaysSame op before after (place.Level line)
+pub level-probe-stays-same : (op : Op) (before after : Regs) (line : Line) → (WritesPort op → ⊥) → StaysSame op before after (probe.Level line)
 level-probe-stays-same op before after line off m = ap digit_text (keeps-level op before m line off)
 
-pub rom-port-probe-stays-same : (op : Op) (before after : Regs) (chip : ℕ) → (WritesPort op → ⊥) → StaysSame op before after (place.RomPort chip)
+pub rom-port-probe-stays-same : (op : Op) (before after : Regs) (chip : ℕ) → (WritesPort op → ⊥) → StaysSame op before after (probe.RomPort chip)
 rom-port-probe-stays-same op before after chip off m = ap digit_text (levels-equal-if-each-level-is m (bus_after op before m) (λ k. Rom chip k) (λ line. keeps-level op before m line off))
 
-pub ram-port-probe-stays-same : (op : Op) (before after : Regs) (bank chip : ℕ) → (WritesPort op → ⊥) → StaysSame op before after (place.RamPort bank chip)
+pub ram-port-probe-stays-same : (op : Op) (before after : Regs) (bank chip : ℕ) → (WritesPort op → ⊥) → StaysSame op before after (probe.RamPort bank chip)
 ram-port-probe-stays-same op before after bank chip off m = ap digit_text (levels-equal-if-each-level-is m (bus_after op before m) (λ k. Ram bank chip k) (λ line. keeps-level op before m line off))
 
-pub chain-probe-stays-same : (op : Op) (before after : Regs) (k : ℕ) → (WritesPort op → ⊥) → StaysSame op before after (place.Chain k)
+pub chain-probe-stays-same : (op : Op) (before after : Regs) (k : ℕ) → (WritesPort op → ⊥) → StaysSame op before after (probe.Chain k)
 chain-probe-stays-same op before after k off m =
-    holds-if-no-port-written op before m off (λ n. probe_text (after, n) (place.Chain k) ≡ probe_text (before, m) (place.Chain k)) (λ ram status srcs src. refl)
+    holds-if-no-port-written op before m off (λ n. probe_text (after, n) (probe.Chain k) ≡ probe_text (before, m) (probe.Chain k)) (λ ram status srcs src. refl)
 
-pub src-probe-stays-same : (op : Op) (before after : Regs) → ((k : ℕ) → op ≢ Src k) → StaysSame op before after place.Src
+pub src-probe-stays-same : (op : Op) (before after : Regs) → ((k : ℕ) → op ≢ Src k) → StaysSame op before after probe.Src
 src-probe-stays-same op before after off m = ap two_hex_digits (keeps-src op before m off)
 
-pub lamps-probe-stays-same : (op : Op) (before after : Regs) → (WritesPort op → ⊥) → StaysSame op before after place.Lamps
+pub lamps-probe-stays-same : (op : Op) (before after : Regs) → (WritesPort op → ⊥) → StaysSame op before after probe.Lamps
 lamps-probe-stays-same op before after off m = keeps-lamps op before after m off
 
-pub return-addresses-stay-same : (op : Op) (before after : Regs) → before.ret ≡ after.ret → StaysSame op before after place.ReturnAddresses
+pub return-addresses-stay-same : (op : Op) (before after : Regs) → before.ret ≡ after.ret → StaysSame op before after probe.ReturnAddresses
 return-addresses-stay-same op before after e m = ap (λ (xs : List ℕ). comma_list (map address_text xs)) (sym e)
 
 -- ---- probes that an instruction leaves unchanged for any registers
@@ -308,7 +308,7 @@ keeps-return-addresses Daa s m jms bbl = return-addresses-of-either-registers _ 
 keeps-return-addresses Kbp s m jms bbl = refl
 keeps-return-addresses Dcl s m jms bbl = refl
 
-pub return-addresses-always-stay-same : (op : Op) → ((high low : ℕ) → op ≢ Jms high low) → ((digit : ℕ) → op ≢ Bbl digit) → AlwaysStaysSame op place.ReturnAddresses
+pub return-addresses-always-stay-same : (op : Op) → ((high low : ℕ) → op ≢ Jms high low) → ((digit : ℕ) → op ≢ Bbl digit) → AlwaysStaysSame op probe.ReturnAddresses
 return-addresses-always-stay-same op jms bbl s m = ap (λ (xs : List ℕ). comma_list (map address_text xs)) (keeps-return-addresses op (after_fetch op s) m jms bbl)
 
 -- If an instruction leaves a probe unchanged for any registers before and after it,
@@ -331,53 +331,53 @@ row-stays-same stops left t u w before after probes h e f (inr same) = row-stays
 
 -- If `more` has all kinds in `probe_kinds`, an instruction that touches no kind in `more` touches
 -- no kind in `probe_kinds`.
-touches_fewer_kinds : (probe_kinds more : ProbeKinds) → (more.ports ≡ false → probe_kinds.ports ≡ false) → (more.ram ≡ false → probe_kinds.ram ≡ false) → (more.status ≡ false → probe_kinds.status ≡ false) → (more.src ≡ false → probe_kinds.src ≡ false) → (more.returns ≡ false → probe_kinds.returns ≡ false)
+touches_fewer_kinds : (probe_kinds more : ProbeKinds) → (more.ports ≡ false → probe_kinds.ports ≡ false) → (more.ram ≡ false → probe_kinds.ram ≡ false) → (more.status ≡ false → probe_kinds.status ≡ false) → (more.src ≡ false → probe_kinds.src ≡ false) → (more.return_addresses ≡ false → probe_kinds.return_addresses ≡ false)
     → (op : Op) → touches more op ≡ false → touches probe_kinds op ≡ false
-touches_fewer_kinds probe_kinds more ports ram status src returns Nop e = refl
-touches_fewer_kinds probe_kinds more ports ram status src returns (Jcn a b) e = refl
-touches_fewer_kinds probe_kinds more ports ram status src returns (Fim a b) e = refl
-touches_fewer_kinds probe_kinds more ports ram status src returns (Src a) e = src e
-touches_fewer_kinds probe_kinds more ports ram status src returns (Fin a) e = refl
-touches_fewer_kinds probe_kinds more ports ram status src returns (Jin a) e = refl
-touches_fewer_kinds probe_kinds more ports ram status src returns (Jun a b) e = refl
-touches_fewer_kinds probe_kinds more ports ram status src returns (Jms a b) e = returns e
-touches_fewer_kinds probe_kinds more ports ram status src returns (Inc a) e = refl
-touches_fewer_kinds probe_kinds more ports ram status src returns (Isz a b) e = refl
-touches_fewer_kinds probe_kinds more ports ram status src returns (Add a) e = refl
-touches_fewer_kinds probe_kinds more ports ram status src returns (Sub a) e = refl
-touches_fewer_kinds probe_kinds more ports ram status src returns (Ld a) e = refl
-touches_fewer_kinds probe_kinds more ports ram status src returns (Xch a) e = refl
-touches_fewer_kinds probe_kinds more ports ram status src returns (Bbl a) e = returns e
-touches_fewer_kinds probe_kinds more ports ram status src returns (Ldm a) e = refl
-touches_fewer_kinds probe_kinds more ports ram status src returns Wrm e = ram e
-touches_fewer_kinds probe_kinds more ports ram status src returns Wmp e = ports e
-touches_fewer_kinds probe_kinds more ports ram status src returns Wrr e = ports e
-touches_fewer_kinds probe_kinds more ports ram status src returns Wr0 e = status e
-touches_fewer_kinds probe_kinds more ports ram status src returns Wr1 e = status e
-touches_fewer_kinds probe_kinds more ports ram status src returns Wr2 e = status e
-touches_fewer_kinds probe_kinds more ports ram status src returns Wr3 e = status e
-touches_fewer_kinds probe_kinds more ports ram status src returns Sbm e = refl
-touches_fewer_kinds probe_kinds more ports ram status src returns Rdm e = refl
-touches_fewer_kinds probe_kinds more ports ram status src returns Rdr e = refl
-touches_fewer_kinds probe_kinds more ports ram status src returns Adm e = refl
-touches_fewer_kinds probe_kinds more ports ram status src returns Rd0 e = refl
-touches_fewer_kinds probe_kinds more ports ram status src returns Rd1 e = refl
-touches_fewer_kinds probe_kinds more ports ram status src returns Rd2 e = refl
-touches_fewer_kinds probe_kinds more ports ram status src returns Rd3 e = refl
-touches_fewer_kinds probe_kinds more ports ram status src returns Clb e = refl
-touches_fewer_kinds probe_kinds more ports ram status src returns Clc e = refl
-touches_fewer_kinds probe_kinds more ports ram status src returns Iac e = refl
-touches_fewer_kinds probe_kinds more ports ram status src returns Cmc e = refl
-touches_fewer_kinds probe_kinds more ports ram status src returns Cma e = refl
-touches_fewer_kinds probe_kinds more ports ram status src returns Ral e = refl
-touches_fewer_kinds probe_kinds more ports ram status src returns Rar e = refl
-touches_fewer_kinds probe_kinds more ports ram status src returns Tcc e = refl
-touches_fewer_kinds probe_kinds more ports ram status src returns Dac e = refl
-touches_fewer_kinds probe_kinds more ports ram status src returns Tcs e = refl
-touches_fewer_kinds probe_kinds more ports ram status src returns Stc e = refl
-touches_fewer_kinds probe_kinds more ports ram status src returns Daa e = refl
-touches_fewer_kinds probe_kinds more ports ram status src returns Kbp e = refl
-touches_fewer_kinds probe_kinds more ports ram status src returns Dcl e = refl
+touches_fewer_kinds probe_kinds more ports ram status src return_addresses Nop e = refl
+touches_fewer_kinds probe_kinds more ports ram status src return_addresses (Jcn a b) e = refl
+touches_fewer_kinds probe_kinds more ports ram status src return_addresses (Fim a b) e = refl
+touches_fewer_kinds probe_kinds more ports ram status src return_addresses (Src a) e = src e
+touches_fewer_kinds probe_kinds more ports ram status src return_addresses (Fin a) e = refl
+touches_fewer_kinds probe_kinds more ports ram status src return_addresses (Jin a) e = refl
+touches_fewer_kinds probe_kinds more ports ram status src return_addresses (Jun a b) e = refl
+touches_fewer_kinds probe_kinds more ports ram status src return_addresses (Jms a b) e = return_addresses e
+touches_fewer_kinds probe_kinds more ports ram status src return_addresses (Inc a) e = refl
+touches_fewer_kinds probe_kinds more ports ram status src return_addresses (Isz a b) e = refl
+touches_fewer_kinds probe_kinds more ports ram status src return_addresses (Add a) e = refl
+touches_fewer_kinds probe_kinds more ports ram status src return_addresses (Sub a) e = refl
+touches_fewer_kinds probe_kinds more ports ram status src return_addresses (Ld a) e = refl
+touches_fewer_kinds probe_kinds more ports ram status src return_addresses (Xch a) e = refl
+touches_fewer_kinds probe_kinds more ports ram status src return_addresses (Bbl a) e = return_addresses e
+touches_fewer_kinds probe_kinds more ports ram status src return_addresses (Ldm a) e = refl
+touches_fewer_kinds probe_kinds more ports ram status src return_addresses Wrm e = ram e
+touches_fewer_kinds probe_kinds more ports ram status src return_addresses Wmp e = ports e
+touches_fewer_kinds probe_kinds more ports ram status src return_addresses Wrr e = ports e
+touches_fewer_kinds probe_kinds more ports ram status src return_addresses Wr0 e = status e
+touches_fewer_kinds probe_kinds more ports ram status src return_addresses Wr1 e = status e
+touches_fewer_kinds probe_kinds more ports ram status src return_addresses Wr2 e = status e
+touches_fewer_kinds probe_kinds more ports ram status src return_addresses Wr3 e = status e
+touches_fewer_kinds probe_kinds more ports ram status src return_addresses Sbm e = refl
+touches_fewer_kinds probe_kinds more ports ram status src return_addresses Rdm e = refl
+touches_fewer_kinds probe_kinds more ports ram status src return_addresses Rdr e = refl
+touches_fewer_kinds probe_kinds more ports ram status src return_addresses Adm e = refl
+touches_fewer_kinds probe_kinds more ports ram status src return_addresses Rd0 e = refl
+touches_fewer_kinds probe_kinds more ports ram status src return_addresses Rd1 e = refl
+touches_fewer_kinds probe_kinds more ports ram status src return_addresses Rd2 e = refl
+touches_fewer_kinds probe_kinds more ports ram status src return_addresses Rd3 e = refl
+touches_fewer_kinds probe_kinds more ports ram status src return_addresses Clb e = refl
+touches_fewer_kinds probe_kinds more ports ram status src return_addresses Clc e = refl
+touches_fewer_kinds probe_kinds more ports ram status src return_addresses Iac e = refl
+touches_fewer_kinds probe_kinds more ports ram status src return_addresses Cmc e = refl
+touches_fewer_kinds probe_kinds more ports ram status src return_addresses Cma e = refl
+touches_fewer_kinds probe_kinds more ports ram status src return_addresses Ral e = refl
+touches_fewer_kinds probe_kinds more ports ram status src return_addresses Rar e = refl
+touches_fewer_kinds probe_kinds more ports ram status src return_addresses Tcc e = refl
+touches_fewer_kinds probe_kinds more ports ram status src return_addresses Dac e = refl
+touches_fewer_kinds probe_kinds more ports ram status src return_addresses Tcs e = refl
+touches_fewer_kinds probe_kinds more ports ram status src return_addresses Stc e = refl
+touches_fewer_kinds probe_kinds more ports ram status src return_addresses Daa e = refl
+touches_fewer_kinds probe_kinds more ports ram status src return_addresses Kbp e = refl
+touches_fewer_kinds probe_kinds more ports ram status src return_addresses Dcl e = refl
 
 -- An instruction that touches no kind in `probe_kinds` differs from any instruction that touches a
 -- kind in `probe_kinds`.
@@ -400,29 +400,29 @@ absurd_if_true_is_false e = absurd (cc)
 unchanged-flag-stays-false : (b : Bool) → b ≡ false → b ≡ false
 unchanged-flag-stays-false b e = e
 
-pub includes-rom-probe : (probe_kinds : ProbeKinds) (at : ℕ) → IncludesProbeKind probe_kinds probe_kinds (place.Rom at)
+pub includes-rom-probe : (probe_kinds : ProbeKinds) (at : ℕ) → IncludesProbeKind probe_kinds probe_kinds (probe.Rom at)
 includes-rom-probe probe_kinds at = record {
   registers = λ e. e;
-  others = λ op e. e;
-  place = λ _ op e. stays-same-for-any-registers op (place.Rom at) (λ before after. rom-probe-stays-same op before after at);
+  earlier_kinds = λ op e. e;
+  probe_kind = λ _ op e. stays-same-for-any-registers op (probe.Rom at) (λ before after. rom-probe-stays-same op before after at);
 }
 
-pub includes-ram-probe : (probe_kinds : ProbeKinds) (bank src : ℕ) → IncludesProbeKind probe_kinds (record probe_kinds { ram = true }) (place.Ram bank src)
+pub includes-ram-probe : (probe_kinds : ProbeKinds) (bank src : ℕ) → IncludesProbeKind probe_kinds (record probe_kinds { ram = true }) (probe.Ram bank src)
 includes-ram-probe probe_kinds bank src =
     let more : ProbeKinds = record probe_kinds { ram = true } in
     record {
       registers = λ e. e;
-      others = touches_fewer_kinds probe_kinds more (unchanged-flag-stays-false probe_kinds.ports) absurd_if_true_is_false (unchanged-flag-stays-false probe_kinds.status) (unchanged-flag-stays-false probe_kinds.src) (unchanged-flag-stays-false probe_kinds.returns);
-      place = λ _ op e. stays-same-for-any-registers op (place.Ram bank src) (λ before after. ram-probe-stays-same op before after bank src (differs-from-touching-instruction more op Wrm true e refl refl));
+      earlier_kinds = touches_fewer_kinds probe_kinds more (unchanged-flag-stays-false probe_kinds.ports) absurd_if_true_is_false (unchanged-flag-stays-false probe_kinds.status) (unchanged-flag-stays-false probe_kinds.src) (unchanged-flag-stays-false probe_kinds.return_addresses);
+      probe_kind = λ _ op e. stays-same-for-any-registers op (probe.Ram bank src) (λ before after. ram-probe-stays-same op before after bank src (differs-from-touching-instruction more op Wrm true e refl refl));
     }
 
-pub includes-status-probe : (probe_kinds : ProbeKinds) (bank high k : ℕ) → IncludesProbeKind probe_kinds (record probe_kinds { status = true }) (place.Status bank high k)
+pub includes-status-probe : (probe_kinds : ProbeKinds) (bank high k : ℕ) → IncludesProbeKind probe_kinds (record probe_kinds { status = true }) (probe.Status bank high k)
 includes-status-probe probe_kinds bank high k =
     let more : ProbeKinds = record probe_kinds { status = true } in
     record {
       registers = λ e. e;
-      others = touches_fewer_kinds probe_kinds more (unchanged-flag-stays-false probe_kinds.ports) (unchanged-flag-stays-false probe_kinds.ram) absurd_if_true_is_false (unchanged-flag-stays-false probe_kinds.src) (unchanged-flag-stays-false probe_kinds.returns);
-      place = λ _ op e. stays-same-for-any-registers op (place.Status bank high k) (λ before after. status-probe-stays-same op before after bank high k (writes-no-status more op e refl));
+      earlier_kinds = touches_fewer_kinds probe_kinds more (unchanged-flag-stays-false probe_kinds.ports) (unchanged-flag-stays-false probe_kinds.ram) absurd_if_true_is_false (unchanged-flag-stays-false probe_kinds.src) (unchanged-flag-stays-false probe_kinds.return_addresses);
+      probe_kind = λ _ op e. stays-same-for-any-registers op (probe.Status bank high k) (λ before after. status-probe-stays-same op before after bank high k (writes-no-status more op e refl));
     }
 
 -- A probe that only WMP and WRR can change is of the kind `ports`.
@@ -431,26 +431,26 @@ includes-port-probe probe_kinds p h =
     let more : ProbeKinds = record probe_kinds { ports = true } in
     record {
       registers = λ e. e;
-      others = touches_fewer_kinds probe_kinds more absurd_if_true_is_false (unchanged-flag-stays-false probe_kinds.ram) (unchanged-flag-stays-false probe_kinds.status) (unchanged-flag-stays-false probe_kinds.src) (unchanged-flag-stays-false probe_kinds.returns);
-      place = λ _ op e. stays-same-for-any-registers op p (λ before after. h op before after (writes-no-port more op e refl));
+      earlier_kinds = touches_fewer_kinds probe_kinds more absurd_if_true_is_false (unchanged-flag-stays-false probe_kinds.ram) (unchanged-flag-stays-false probe_kinds.status) (unchanged-flag-stays-false probe_kinds.src) (unchanged-flag-stays-false probe_kinds.return_addresses);
+      probe_kind = λ _ op e. stays-same-for-any-registers op p (λ before after. h op before after (writes-no-port more op e refl));
     }
 
-pub includes-src-probe : (probe_kinds : ProbeKinds) → IncludesProbeKind probe_kinds (record probe_kinds { src = true }) place.Src
+pub includes-src-probe : (probe_kinds : ProbeKinds) → IncludesProbeKind probe_kinds (record probe_kinds { src = true }) probe.Src
 includes-src-probe probe_kinds =
     let more : ProbeKinds = record probe_kinds { src = true } in
     record {
       registers = λ e. e;
-      others = touches_fewer_kinds probe_kinds more (unchanged-flag-stays-false probe_kinds.ports) (unchanged-flag-stays-false probe_kinds.ram) (unchanged-flag-stays-false probe_kinds.status) absurd_if_true_is_false (unchanged-flag-stays-false probe_kinds.returns);
-      place = λ _ op e. stays-same-for-any-registers op place.Src (λ before after. src-probe-stays-same op before after (λ k. differs-from-touching-instruction more op (Src k) true e refl refl));
+      earlier_kinds = touches_fewer_kinds probe_kinds more (unchanged-flag-stays-false probe_kinds.ports) (unchanged-flag-stays-false probe_kinds.ram) (unchanged-flag-stays-false probe_kinds.status) absurd_if_true_is_false (unchanged-flag-stays-false probe_kinds.return_addresses);
+      probe_kind = λ _ op e. stays-same-for-any-registers op probe.Src (λ before after. src-probe-stays-same op before after (λ k. differs-from-touching-instruction more op (Src k) true e refl refl));
     }
 
-pub includes-return-addresses-probe : (probe_kinds : ProbeKinds) → IncludesProbeKind probe_kinds (record probe_kinds { returns = true }) place.ReturnAddresses
+pub includes-return-addresses-probe : (probe_kinds : ProbeKinds) → IncludesProbeKind probe_kinds (record probe_kinds { return_addresses = true }) probe.ReturnAddresses
 includes-return-addresses-probe probe_kinds =
-    let more : ProbeKinds = record probe_kinds { returns = true } in
+    let more : ProbeKinds = record probe_kinds { return_addresses = true } in
     record {
       registers = λ e. e;
-      others = touches_fewer_kinds probe_kinds more (unchanged-flag-stays-false probe_kinds.ports) (unchanged-flag-stays-false probe_kinds.ram) (unchanged-flag-stays-false probe_kinds.status) (unchanged-flag-stays-false probe_kinds.src) absurd_if_true_is_false;
-      place = λ _ op e. return-addresses-always-stay-same op (λ high low. differs-from-touching-instruction more op (Jms high low) true e refl refl) (λ digit. differs-from-touching-instruction more op (Bbl digit) true e refl refl);
+      earlier_kinds = touches_fewer_kinds probe_kinds more (unchanged-flag-stays-false probe_kinds.ports) (unchanged-flag-stays-false probe_kinds.ram) (unchanged-flag-stays-false probe_kinds.status) (unchanged-flag-stays-false probe_kinds.src) absurd_if_true_is_false;
+      probe_kind = λ _ op e. return-addresses-always-stay-same op (λ high low. differs-from-touching-instruction more op (Jms high low) true e refl refl) (λ digit. differs-from-touching-instruction more op (Bbl digit) true e refl refl);
     }
 
 pub includes-register-probe : (probe_kinds : ProbeKinds) (p : Probe) → IncludesProbeKind probe_kinds (record probe_kinds { registers = true }) p
@@ -458,6 +458,6 @@ includes-register-probe probe_kinds p =
     let more : ProbeKinds = record probe_kinds { registers = true } in
     record {
       registers = absurd_if_true_is_false;
-      others = touches_fewer_kinds probe_kinds more (unchanged-flag-stays-false probe_kinds.ports) (unchanged-flag-stays-false probe_kinds.ram) (unchanged-flag-stays-false probe_kinds.status) (unchanged-flag-stays-false probe_kinds.src) (unchanged-flag-stays-false probe_kinds.returns);
-      place = λ e. absurd_if_true_is_false e;
+      earlier_kinds = touches_fewer_kinds probe_kinds more (unchanged-flag-stays-false probe_kinds.ports) (unchanged-flag-stays-false probe_kinds.ram) (unchanged-flag-stays-false probe_kinds.status) (unchanged-flag-stays-false probe_kinds.src) (unchanged-flag-stays-false probe_kinds.return_addresses);
+      probe_kind = λ e. absurd_if_true_is_false e;
     }

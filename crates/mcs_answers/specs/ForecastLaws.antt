@@ -9,12 +9,12 @@ use Rattle.mcs_model.specs.Command.{after, machine_of, reply, stops_of}
 use Rattle.mcs_model.specs.QueryText.{address_text}
 use Rattle.mcs_model.specs.Running.{run_length}
 use Rattle.mcs_probe.specs.declared.probe.Probe.{Probe}
-use Rattle.mcs_probe.specs.Forecast.{instructions_begun_in, later, runs_at}
+use Rattle.mcs_probe.specs.Forecast.{instructions_begun_in, with_earlier_start, runs_at}
 use Rattle.mcs_answers.specs.ForecastTexts.{forecast_head, trace_line, trace_lines}
 use Rattle.mcs_answers.specs.AnswerTexts.{reply_text}
 
 -- Holds if the first line of the answer to `count n` or `trace n` agrees with the answer to
--- `run n`. Both report the same number of cycles and the same reason to stop.
+-- `run n`. The two answers report the same number of cycles and the same reason to stop.
 abbrev pub HeadsReportTheRun : Type 0
 HeadsReportTheRun =
     (word : List ℕ) (b : BenchState) (n : ℕ) (lines : List (List ℕ)) →
@@ -25,7 +25,7 @@ HeadsReportTheRun =
 -- the start of the run
 abbrev pub trace_lines_from : List Probe → ℕ → BenchState → ℕ → List (List ℕ)
 trace_lines_from probes m b n =
-    flat_map (λ x. trace_line probes (later m x)) (instructions_begun_in (stops_of b) n (machine_of b))
+    flat_map (λ x. trace_line probes (with_earlier_start m x)) (instructions_begun_in (stops_of b) n (machine_of b))
 
 -- Holds if a trace of `m + n` cycles is a trace of `m` cycles, followed by a trace of `n` cycles
 -- that starts after `run m`. The second trace counts its cycles from `m`. The premise is that

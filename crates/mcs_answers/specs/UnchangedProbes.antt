@@ -57,15 +57,15 @@ touches probe_kinds Wr1 = probe_kinds.status
 touches probe_kinds Wr2 = probe_kinds.status
 touches probe_kinds Wr3 = probe_kinds.status
 touches probe_kinds (Src pair) = probe_kinds.src
-touches probe_kinds (Jms high low) = probe_kinds.returns
-touches probe_kinds (Bbl digit) = probe_kinds.returns
+touches probe_kinds (Jms high low) = probe_kinds.return_addresses
+touches probe_kinds (Bbl digit) = probe_kinds.return_addresses
 touches probe_kinds op = false
 
 -- holds if the kinds in `more` include the kind of a probe and all kinds in `probe_kinds`
 pub record IncludesProbeKind (probe_kinds more : ProbeKinds) (probe : Probe) : Type 0 where
   pub registers : more.registers ≡ false → probe_kinds.registers ≡ false
-  pub others : (op : Op) → touches more op ≡ false → touches probe_kinds op ≡ false
-  pub place : more.registers ≡ false → (op : Op) → touches more op ≡ false → AlwaysStaysSame op probe
+  pub earlier_kinds : (op : Op) → touches more op ≡ false → touches probe_kinds op ≡ false
+  pub probe_kind : more.registers ≡ false → (op : Op) → touches more op ≡ false → AlwaysStaysSame op probe
 
 -- Holds if an instruction that touches no kind in `probe_kinds` leaves the row unchanged. If the
 -- kinds include registers other than the return addresses, the condition always holds.

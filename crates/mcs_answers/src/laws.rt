@@ -15,8 +15,7 @@ pub fn lifted_state_gives_same_answers()
     ensures board { (s : BenchState1) → board_answer (lift s) ≡ board_answer_1 s }
 {}
 
-/// Proves that `count n` and `trace n` report the same number of cycles and the same reason to stop as `run
-/// n`.
+/// Proves that `count n` and `trace n` report the same number of cycles and the same reason to stop as `run n`.
 pub fn heads_report_the_run()
     ensures { HeadsReportTheRun }
 {}

@@ -49,7 +49,7 @@ pub(crate) fn put_lamp_marks(answer: &mut ArrayVec<u8, ANSWER_BYTES>, bench: &Be
 }
 
 /// Appends the answer to `lamps`, without its line feed.
-pub(crate) fn put_lamps_without_feed(answer: &mut ArrayVec<u8, ANSWER_BYTES>, bench: &Bench)
+pub(crate) fn put_lamps_without_line_feed(answer: &mut ArrayVec<u8, ANSWER_BYTES>, bench: &Bench)
     requires { array_vec_len answer.old + LAMP_BYTES ≤ ANSWER_BYTES }
     ensures text { answer.new.items ≡ answer.old.items ++ lamps_text bench.now.bus }
     ensures count { length answer.new.items ≤ length answer.old.items + LAMP_BYTES }
@@ -63,7 +63,7 @@ pub fn put_lamps(answer: &mut ArrayVec<u8, ANSWER_BYTES>, bench: &Bench)
     requires { answer.old.items ≡ [] }
     ensures { answer.new.items ≡ as_line (lamps_text bench.now.bus) }
 {
-    put_lamps_without_feed(answer, bench);
+    put_lamps_without_line_feed(answer, bench);
     put(answer, b"\n");
 }
 

@@ -3,7 +3,7 @@ ghost use Rattle.std.specs.Prelude.{◌≡◌, ℕ, ◌+◌, ◌*◌, ◌++◌, 
 ghost use Rattle.std.specs.List.{flat_map, join_with_byte};
 ghost use Rattle.arrayvec.specs.ArrayVec.{array_vec_len};
 ghost use Rattle.mcs_model.specs.Bus.{chips_of};
-ghost use Rattle.mcs_model.specs.QueryText.{chip_lines, hex_digit, ram_lines, register_line, stretch};
+ghost use Rattle.mcs_model.specs.QueryText.{chip_lines, hex_digit, ram_lines, register_line, sublist};
 ghost use Rattle.mcs_answers.specs.PortPieces.{port_line};
 ghost use Rattle.mcs_model.specs.TextLines.{as_line, line_feed};
 
@@ -36,7 +36,7 @@ fn put_ram_nibbles(
     requires r { r < 4 }
     requires room { array_vec_len answer.old + 16 ≤ ANSWER_BYTES }
     ensures text { answer.new.items ≡ answer.old.items
-        ++ map hex_digit (stretch bench.now.bus.ram (bank * 256 + chip * 64 + r * 16) 16) }
+        ++ map hex_digit (sublist bench.now.bus.ram (bank * 256 + chip * 64 + r * 16) 16) }
     ensures count { length answer.new.items ≡ length answer.old.items + 16 }
 {
     show_ram_sizes(bench);
@@ -53,7 +53,7 @@ fn put_status(answer: &mut ArrayVec<u8, ANSWER_BYTES>, bench: &Bench, bank: u8, 
     requires r { r < 4 }
     requires room { array_vec_len answer.old + 4 ≤ ANSWER_BYTES }
     ensures text { answer.new.items ≡ answer.old.items
-        ++ map hex_digit (stretch bench.now.bus.status (bank * 64 + chip * 16 + r * 4) 4) }
+        ++ map hex_digit (sublist bench.now.bus.status (bank * 64 + chip * 16 + r * 4) 4) }
     ensures count { length answer.new.items ≡ length answer.old.items + 4 }
 {
     show_ram_sizes(bench);
@@ -119,7 +119,7 @@ fn put_chip(answer: &mut ArrayVec<u8, ANSWER_BYTES>, bench: &Bench, bank: u8, ch
 pub(crate) fn chips_of(bench: &Bench, bank: u8) -> u8
     requires { bank < 8 }
     ensures chips { result ≡ chips_of bench.now.bus bank }
-    ensures few { result ≤ 4 }
+    ensures within { result ≤ 4 }
 {
     show_ram_sizes(bench);
     bench.board().bank_chips(bank)

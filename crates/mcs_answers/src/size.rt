@@ -7,7 +7,7 @@ use mcs_model::limits::{
 /// The length of the longest answer to `ram`: its first line, then four registers and a port for each chip.
 const RAM_BYTES: usize = 14 + (4 * 28 + 10) * BANK_CHIPS as usize;
 
-/// The length of the answer to `regs` without its return addresses.
+/// The length of the answer to `regs` without its return addresses and its line feed.
 pub(crate) const REGISTER_BYTES: usize = 56;
 
 /// The room for the longest list of banks in `state`: its name, five bytes for each bank, and one

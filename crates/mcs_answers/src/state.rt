@@ -4,7 +4,7 @@ ghost use Rattle.mcs_model.specs.QueryText.{state_text};
 ghost use Rattle.mcs_model.specs.TextLines.{as_line};
 
 use crate::digits::{put, put_byte};
-use crate::lists::put_lamps_without_feed;
+use crate::lists::put_lamps_without_line_feed;
 use crate::numbers::put_word_and_number;
 use crate::registers::put_registers;
 use crate::size::ANSWER_BYTES;
@@ -15,7 +15,7 @@ use crate::state_lists::{
 use arrayvec::ArrayVec;
 use mcs_bench::Bench;
 
-/// Writes the answer to `state` into an empty buffer. It is one line with all state except the board, the ROM
+/// Writes the answer to `state` into an empty buffer. The answer is one line with all state except the board, the ROM
 /// and the RAM.
 pub fn put_state(answer: &mut ArrayVec<u8, ANSWER_BYTES>, bench: &Bench)
     requires { answer.old.items ≡ [] }
@@ -32,7 +32,7 @@ pub fn put_state(answer: &mut ArrayVec<u8, ANSWER_BYTES>, bench: &Bench)
     put_chain_list(answer, bench);
     put_key_list(answer, bench);
     put(answer, b" ");
-    put_lamps_without_feed(answer, bench);
+    put_lamps_without_line_feed(answer, bench);
     put_address_list(answer, b" breaks ", bench.breaks());
     put_watch_list(answer, bench.watches());
     put(answer, b"\n");

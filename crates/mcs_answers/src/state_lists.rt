@@ -227,7 +227,7 @@ pub(crate) fn put_ram_list(answer: &mut ArrayVec<u8, ANSWER_BYTES>, bench: &Benc
 fn chain_bit_count(bench: &Bench, n: u8) -> u8
     requires { n < chain_count bench.now.bus.board }
     ensures bits { result ≡ chain_bits bench.now.bus.board n }
-    ensures few { result ≤ CHAIN_BITS }
+    ensures within { result ≤ CHAIN_BITS }
 {
     show_within_limits(bench);
     10 * bench.board().chain(usize::from(n)).chips
@@ -296,8 +296,7 @@ fn put_key_item(answer: &mut ArrayVec<u8, ANSWER_BYTES>, bench: &Bench, row: u8,
     }
 }
 
-/// Appends an item for each key in row `row` that is down: its row and its column, followed by a
-/// comma.
+/// Appends an item for each key that is down in row `row`: its row and its column, followed by a comma.
 fn put_row_items(answer: &mut ArrayVec<u8, ANSWER_BYTES>, bench: &Bench, columns: u8, row: u8)
     requires keys { (column : ℕ) → column < columns
         → has_key bench.now.bus.board row column ≡ true }
@@ -313,8 +312,8 @@ fn put_row_items(answer: &mut ArrayVec<u8, ANSWER_BYTES>, bench: &Bench, columns
     }
 }
 
-/// Appends an item for each key in the first `rows` rows that is down, row by row: its row and its
-/// column, followed by a comma.
+/// Appends an item for each key that is down in the first `rows` rows, row by row: its row and its column, followed by
+/// a comma.
 fn put_key_rows(answer: &mut ArrayVec<u8, ANSWER_BYTES>, bench: &Bench, rows: u8, columns: u8)
     requires keys { (row column : ℕ) → row < rows → column < columns
         → has_key bench.now.bus.board row column ≡ true }

@@ -142,7 +142,7 @@ fn writes_src(op: &Op) -> bool
 /// Returns true only if a probe is outside the processor and an instruction cannot change the
 /// probe's value.
 #[inline(always)]
-fn outside_probe_unchanged(probe: Probe, op: &Op) -> bool
+fn outside_probe_stays_same(probe: Probe, op: &Op) -> bool
     ensures { result ≡ true → (before after : Regs) → StaysSame op.now before after probe }
 {
     match probe {
@@ -172,7 +172,7 @@ struct ProbeKinds {
     /// The SRC byte latched in the ROMs, which SRC can change.
     src: bool,
     /// The return addresses, which JMS and BBL can change.
-    returns: bool,
+    return_addresses: bool,
     /// Any other register. Every instruction counts as changing it.
     registers: bool,
 }
@@ -188,7 +188,7 @@ fn touches(probe_kinds: &ProbeKinds, op: &Op) -> bool
         Op::Wrm => probe_kinds.ram,
         Op::Wr0 | Op::Wr1 | Op::Wr2 | Op::Wr3 => probe_kinds.status,
         Op::Src(_) => probe_kinds.src,
-        Op::Jms(_, _) | Op::Bbl(_) => probe_kinds.returns,
+        Op::Jms(_, _) | Op::Bbl(_) => probe_kinds.return_addresses,
         _ => false,
     }
 }
@@ -232,7 +232,7 @@ fn with_probe_kind(probe_kinds: ProbeKinds, probe: Probe) -> ProbeKinds
             ..probe_kinds
         },
         Probe::ReturnAddresses => ProbeKinds {
-            returns: true,
+            return_addresses: true,
             ..probe_kinds
         },
         _ => ProbeKinds {
@@ -251,7 +251,7 @@ fn kinds_of_probes(probes: &[Probe]) -> ProbeKinds
         ram: false,
         status: false,
         src: false,
-        returns: false,
+        return_addresses: false,
         registers: false,
     };
     for probe in probes {
@@ -263,7 +263,7 @@ fn kinds_of_probes(probes: &[Probe]) -> ProbeKinds
 /// Returns true only if the kinds of probes in the row show that an instruction cannot change the row, for
 /// any values of the registers. Returns false if no instruction was begun.
 #[inline(always)]
-fn kinds_stay_same(probes: &[Probe], probe_kinds: &ProbeKinds, op: Option<Op>) -> bool
+fn row_stays_same_by_kinds(probes: &[Probe], probe_kinds: &ProbeKinds, op: Option<Op>) -> bool
     requires { CoversProbes probe_kinds.now probes.now }
     ensures { result ≡ true → RowAlwaysStaysSame op probes.now }
 {
@@ -280,7 +280,7 @@ fn kinds_stay_same(probes: &[Probe], probe_kinds: &ProbeKinds, op: Option<Op>) -
 
 /// Returns true only if an instruction leaves the value of a probe unchanged. `before` and `after` are the
 /// registers before and after the instruction. The function builds no text.
-fn rests(probe: Probe, op: &Op, before: &Regs, after: &Regs) -> bool
+fn probe_stays_same(probe: Probe, op: &Op, before: &Regs, after: &Regs) -> bool
     ensures { result ≡ true → StaysSame op.now before.now after.now probe }
 {
     match probe {
@@ -290,20 +290,20 @@ fn rests(probe: Probe, op: &Op, before: &Regs, after: &Regs) -> bool
         Probe::Register(k) => before.register(k) == after.register(k),
         Probe::Dcl => before.dcl == after.dcl,
         Probe::ReturnAddresses => before.ret == after.ret,
-        _ => outside_probe_unchanged(probe, op),
+        _ => outside_probe_stays_same(probe, op),
     }
 }
 
 /// Returns true only if an instruction leaves the values of all probes unchanged. `before` and `after` are
 /// the registers before and after the instruction. Returns false if no instruction was begun.
-fn values_stay_same(probes: &[Probe], op: Option<Op>, before: &Regs, after: &Regs) -> bool
+fn row_stays_same_by_values(probes: &[Probe], op: Option<Op>, before: &Regs, after: &Regs) -> bool
     ensures { result ≡ true → RowStaysSame op before.now after.now probes.now }
 {
     match op {
         None => false,
         Some(op) => {
             for probe in probes {
-                if !rests(*probe, &op, before, after) {
+                if !probe_stays_same(*probe, &op, before, after) {
                     return false;
                 }
             }
@@ -326,9 +326,9 @@ fn row_stays_same<const REGISTERS: bool>(
     ensures { result ≡ true → RowStaysSame op before.now after.now probes.now ⊎ RowAlwaysStaysSame op probes.now }
 {
     if REGISTERS {
-        values_stay_same(probes, op, before, after)
+        row_stays_same_by_values(probes, op, before, after)
     } else {
-        kinds_stay_same(probes, probe_kinds, op)
+        row_stays_same_by_kinds(probes, probe_kinds, op)
     }
 }
 
@@ -441,7 +441,7 @@ fn add_cycle_line(
 }
 
 /// Appends the trace line of an instruction, if it has one, and returns the number of lines appended (0 or
-/// 1). `regs` are the registers before the instruction. `rests` must be false if the instruction changed the
+/// 1). `regs` are the registers before the instruction. `is_row_unchanged` must be false if the instruction changed the
 /// row. `rows.last` becomes the row after the instruction. Fails if allocation fails.
 #[inline(always)]
 fn add_instruction_line(
@@ -449,12 +449,12 @@ fn add_instruction_line(
     rows: &mut Rows,
     cycles: u32,
     regs: &Regs,
-    rests: bool,
+    is_row_unchanged: bool,
     probes: &[Probe],
     bench: &Bench,
 ) -> Result<u32, AllocError>
     requires room { length probes.now ≤ MAX_PROBES }
-    requires same { rests ≡ true → rows.old.last.items ≡ row probes.now (machine_of bench.now) }
+    requires same { is_row_unchanged ≡ true → rows.old.last.items ≡ row probes.now (machine_of bench.now) }
     ensures row { IfOk result (λ _. rows.new.last.items ≡ row probes.now (machine_of bench.now)) }
     ensures lines { IfOk result (λ lines. lines ≡ length (cycle_lines probes.now regs.now.owed cycles
         regs.now.pc rows.old.last.items (row probes.now (machine_of bench.now)))) }
@@ -462,7 +462,7 @@ fn add_instruction_line(
         (cycle_lines probes.now regs.now.owed cycles regs.now.pc rows.old.last.items
         (row probes.now (machine_of bench.now)))) }
 {
-    if rests && !probes.is_empty() {
+    if is_row_unchanged && !probes.is_empty() {
         return Ok(0);
     }
     add_cycle_line(text, rows, cycles, regs.owed, regs.pc, probes, bench)
@@ -486,23 +486,31 @@ fn add_lines<const REGISTERS: bool>(
     let mut rows = first_row(probes, bench);
     let mut lines = 0u32;
     let mut copy = bench.copy(alloc)?;
-    let mut done = 0;
-    while done < n {
+    let mut elapsed = 0;
+    while elapsed < n {
         let regs = copy.regs();
-        match copy.continue_run(n - done) {
-            None => return Ok(trace_result(&copy, done, None, lines)),
+        match copy.continue_run(n - elapsed) {
+            None => return Ok(trace_result(&copy, elapsed, None, lines)),
             Some(executed) => {
-                let rests = row_stays_same::<REGISTERS>(
+                let is_row_unchanged = row_stays_same::<REGISTERS>(
                     probes,
                     probe_kinds,
                     executed.op,
                     &regs,
                     &copy.regs(),
                 );
-                lines += add_instruction_line(text, &mut rows, done, &regs, rests, probes, &copy)?;
-                done += executed.cycles;
+                lines += add_instruction_line(
+                    text,
+                    &mut rows,
+                    elapsed,
+                    &regs,
+                    is_row_unchanged,
+                    probes,
+                    &copy,
+                )?;
+                elapsed += executed.cycles;
                 if let Some(why) = executed.mark {
-                    return Ok(trace_result(&copy, done, Some(why), lines));
+                    return Ok(trace_result(&copy, elapsed, Some(why), lines));
                 }
             }
         }

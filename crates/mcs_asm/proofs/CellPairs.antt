@@ -72,10 +72,10 @@ cells_hold_pairs_after_all_writes (b ∷ bytes) x cells pairs le kept free =
 -- If bytes at the `n` addresses that start at `x` overlap no pairs, no pair has any of these
 -- addresses.
 pub free_if_no_overlap : (pairs : List (ℕ × ℕ)) (x n : ℕ) → overlaps pairs x n ≡ false → (y : ℕ) → x ≤ y → y < x + n → IsAddressFree pairs y
-free_if_no_overlap pairs x n untaken y low high b contained =
+free_if_no_overlap pairs x n no_overlap y low high b contained =
     let P : ℕ × ℕ → Bool = λ p. leb x p.0 && ltb p.0 (x + n) in
     let overlapping : list_any P pairs ≡ true = list_any_at P pairs contained.0 (y, b) (contained.1) (rw contained.2 (rw (le-leb x y low, lt-ltb y (x + n) high) refl)) in
-    absurd (true≢false (sym overlapping ∙ untaken))
+    absurd (true≢false (sym overlapping ∙ no_overlap))
 
 -- ---- the pairs in ascending order of address
 
@@ -89,7 +89,7 @@ Contains-cons_cases p ps q contained = elim (Contains-append_cases (p ∷ []) ps
 Contains-head : (p : ℕ × ℕ) (ps : List (ℕ × ℕ)) → Contains (p ∷ ps) p
 Contains-head p ps = (0, omega arith, refl)
 
--- the pair that `find` returns has the address and is one of the pairs
+-- the pair that `find` returns has the address `a` and is one of the pairs
 found_pair_is_contained : (pairs : List (ℕ × ℕ)) (a : ℕ) (p : ℕ × ℕ) → find (λ (q : ℕ × ℕ). eqb q.0 a) pairs ≡ Some p → Contains pairs p × (p.0 ≡ a)
 found_pair_is_contained [] a p e = absurd (none-some p e)
 found_pair_is_contained (q ∷ pairs) a p e =
@@ -155,7 +155,7 @@ image_is_by_address cells pairs kept =
     pairs_in_address_order pairs cells 0 (λ k b. subst (λ (n : ℕ). (get_or cells k None ≡ Some b) ↔ Contains pairs (n, b)) (omega arith) (kept.1 k b))
     ∙ ap (λ (n : ℕ). filter_map (λ a. find (λ (q : ℕ × ℕ). eqb q.0 a) pairs) (range_with_len 0 n)) kept.0
 
--- If cells contain exactly these pairs, each address is below 4096, and no address has two
+-- If cells contain exactly the given pairs, each address is below 4096, and no address has two
 -- different bytes.
 pub has_one_byte_each : (cells : List (Option ℕ)) (pairs : List (ℕ × ℕ)) → HoldsPairs cells pairs → HaveOneByteEach pairs
 has_one_byte_each cells pairs kept = record {
@@ -177,21 +177,21 @@ empty_cells_hold_no_pairs = (length-replicate {A = Option ℕ} 4096 None, λ a b
 
 -- ---- The overlap test on the cells gives the same result as the overlap test on the pairs.
 
-first_taken_cell : (cells : List (Option ℕ)) (n : ℕ) → list_any is_some (take n cells) ≡ true → (k : ℕ) × (b : ℕ) × (k < n) × (get_or cells k None ≡ Some b)
-first_taken_cell [] zero e = absurd (false≢true e)
-first_taken_cell [] (suc n) e = absurd (false≢true e)
-first_taken_cell (c ∷ cells) zero e = absurd (false≢true e)
-first_taken_cell (Some v ∷ cells) (suc n) e = (0, v, omega arith, refl)
-first_taken_cell (None ∷ cells) (suc n) e =
-    let r = first_taken_cell cells n e in
+first_occupied_cell : (cells : List (Option ℕ)) (n : ℕ) → list_any is_some (take n cells) ≡ true → (k : ℕ) × (b : ℕ) × (k < n) × (get_or cells k None ≡ Some b)
+first_occupied_cell [] zero e = absurd (false≢true e)
+first_occupied_cell [] (suc n) e = absurd (false≢true e)
+first_occupied_cell (c ∷ cells) zero e = absurd (false≢true e)
+first_occupied_cell (Some v ∷ cells) (suc n) e = (0, v, omega arith, refl)
+first_occupied_cell (None ∷ cells) (suc n) e =
+    let r = first_occupied_cell cells n e in
     (suc r.0, r.1, omega (arith, r.2), r.3)
 
-any_cell_taken_if_one_is : (cells : List (Option ℕ)) (n k b : ℕ) → k < n → get_or cells k None ≡ Some b → list_any is_some (take n cells) ≡ true
-any_cell_taken_if_one_is [] n k b lt e = absurd (none-some b e)
-any_cell_taken_if_one_is (c ∷ cells) zero k b lt e = absurd (omega (arith, lt))
-any_cell_taken_if_one_is (Some v ∷ cells) (suc n) k b lt e = refl
-any_cell_taken_if_one_is (None ∷ cells) (suc n) zero b lt e = absurd (none-some b e)
-any_cell_taken_if_one_is (None ∷ cells) (suc n) (suc k) b lt e = any_cell_taken_if_one_is cells n k b (omega (arith, lt)) e
+any_cell_occupied_if_one_is : (cells : List (Option ℕ)) (n k b : ℕ) → k < n → get_or cells k None ≡ Some b → list_any is_some (take n cells) ≡ true
+any_cell_occupied_if_one_is [] n k b lt e = absurd (none-some b e)
+any_cell_occupied_if_one_is (c ∷ cells) zero k b lt e = absurd (omega (arith, lt))
+any_cell_occupied_if_one_is (Some v ∷ cells) (suc n) k b lt e = refl
+any_cell_occupied_if_one_is (None ∷ cells) (suc n) zero b lt e = absurd (none-some b e)
+any_cell_occupied_if_one_is (None ∷ cells) (suc n) (suc k) b lt e = any_cell_occupied_if_one_is cells n k b (omega (arith, lt)) e
 
 pair_that_satisfies : (p : ℕ × ℕ → Bool) (pairs : List (ℕ × ℕ)) → list_any p pairs ≡ true → (x : ℕ × ℕ) × Contains pairs x × (p x ≡ true)
 pair_that_satisfies p [] e = absurd (false≢true e)
@@ -207,10 +207,10 @@ equal_if_equivalent true t f g = sym (f refl)
 equal_if_equivalent false true f g = g refl
 equal_if_equivalent false false f g = refl
 
-pub taken_equals_overlaps : (cells : List (Option ℕ)) (pairs : List (ℕ × ℕ)) (at n : ℕ) → HoldsPairs cells pairs → list_any is_some (take n (drop at cells)) ≡ overlaps pairs at n
-taken_equals_overlaps cells pairs at n kept = equal_if_equivalent (list_any is_some (take n (drop at cells))) (overlaps pairs at n)
+pub occupied_equals_overlaps : (cells : List (Option ℕ)) (pairs : List (ℕ × ℕ)) (at n : ℕ) → HoldsPairs cells pairs → list_any is_some (take n (drop at cells)) ≡ overlaps pairs at n
+occupied_equals_overlaps cells pairs at n kept = equal_if_equivalent (list_any is_some (take n (drop at cells))) (overlaps pairs at n)
     (λ e.
-    let r = first_taken_cell (drop at cells) n e in
+    let r = first_occupied_cell (drop at cells) n e in
     let cell_has_byte : get_or cells (at + r.0) None ≡ Some r.1 = sym (get_or-drop at cells r.0 None) ∙ r.3 in
     let contained = (kept.1 (at + r.0) r.1).0 cell_has_byte in
     list_any_at (is_address_in_range at n) pairs contained.0 (at + r.0, r.1) contained.1 (rw contained.2 (rw (le-leb at (at + r.0) (omega arith), lt-ltb (at + r.0) (at + n) (omega (arith, r.2))) refl)))
@@ -222,6 +222,6 @@ taken_equals_overlaps cells pairs at n kept = equal_if_equivalent (list_any is_s
     let k : ℕ = r.0.0 - at in
     let cell_has_byte : get_or cells r.0.0 None ≡ Some r.0.1 = (kept.1 r.0.0 r.0.1).1 r.1 in
     let back : at + k ≡ r.0.0 = omega (arith, low) in
-    any_cell_taken_if_one_is (drop at cells) n k r.0.1 (omega (arith, low, high)) (get_or-drop at cells k None ∙ rw back cell_has_byte))
+    any_cell_occupied_if_one_is (drop at cells) n k r.0.1 (omega (arith, low, high)) (get_or-drop at cells k None ∙ rw back cell_has_byte))
 
-pub ruleset new_rules = (replicate_more, length-replicate)
+pub ruleset replicate_rules = (replicate_more, length-replicate)

@@ -1,4 +1,4 @@
--- Lemmas about the list of all errors of a text: the loops that collect it, and its first error.
+-- Lemmas about the list of reported errors: the loops that collect it, and its first error.
 use Rattle.std.proofs.Common.{◌≡◌, ◌⊎◌, ℕ, zero, suc, ◌+◌, ◌<◌, ◌≤◌, true, false, List, [], ◌∷◌, ◌++◌, length, take, get_or, find, filter_map, Bor, Option, Some, None, Result, Ok, Err, is_some, inl, inr, refl, sym, ap, subst, ◌∙◌, append-nil, arith, eqb}
 use Rattle.std.specs.Prelude.{option_map}
 use Rattle.std.specs.List.{range_with_len, cons_option}
@@ -9,8 +9,8 @@ use Rattle.mcs_model.specs.Options.{◌>>=◌}
 use Rattle.mcs_model.specs.TextLines.{lines_of}
 use Rattle.mcs_source.specs.declared.fault.SourceFault.{SourceFault}
 use Rattle.mcs_source.specs.Lines.{SourceLine, line_of}
-use Rattle.mcs_source.specs.Assembly.{assembly_of, assembly_of_text, read, ith_line, Names, address_of, names_before, all_names, pairs_before, line_pairs, line_bytes, bytes_or_none, next_at, unless_fault, first_fault, first_pass_line_fault, second_pass_line_fault, first_pass_fault, second_pass_fault, earliest_first_pass_fault, earliest_second_pass_fault}
-use Rattle.mcs_source.proofs.LineByLine.{NoFaultBefore, no_fault_before_next, no_first_fault, first_fault_at, no_fault_before_if_first_fault_is_none, pairs_before_next_line, address_of_next_line}
+use Rattle.mcs_source.specs.Assembly.{assembly_of, assembly_of_text, read, ith_line, Names, address_of, names_before, all_names, pairs_before, line_pairs, line_bytes, bytes_or_none, address_after_line, unless_fault, first_fault, first_pass_line_fault, second_pass_line_fault, first_pass_fault, second_pass_fault, earliest_first_pass_fault, earliest_second_pass_fault}
+use Rattle.mcs_source.proofs.LineByLine.{HasNoFaultBefore, no_fault_before_next, no_first_fault, first_fault_at, no_fault_before_if_first_fault_is_none, pairs_before_next_line, address_of_next_line}
 use Rattle.mcs_asm.specs.declared.all_errors.LineError.{LineError}
 use Rattle.mcs_asm.specs.Passes.{FirstPassState, first_pass_start, first_pass_before, first_pass_after_line, first_pass_with_line, HasValidNumberAndAddress, SecondPassState, second_pass_with_bytes, MatchesStateWithAddedBytes}
 use Rattle.mcs_asm.specs.declared.fault.FaultKind.{FaultKind}
@@ -91,7 +91,7 @@ first_reported_error_is_first_fault error n = first_listed_error_of_take 100 (er
 -- Holds if no line before line `n` has an error, or if one of these lines is the first line with an
 -- error.
 abbrev HasNoFaultOrFirstFault : (ℕ → Option SourceFault) → ℕ → Type 0
-HasNoFaultOrFirstFault fault n = NoFaultBefore fault n ⊎ ((i : ℕ) × (f : SourceFault) × (i < n) × NoFaultBefore fault i × (fault i ≡ Some f))
+HasNoFaultOrFirstFault fault n = HasNoFaultBefore fault n ⊎ ((i : ℕ) × (f : SourceFault) × (i < n) × HasNoFaultBefore fault i × (fault i ≡ Some f))
 
 no_fault_or_first_fault : (fault : ℕ → Option SourceFault) (n : ℕ) → HasNoFaultOrFirstFault fault n
 no_fault_or_first_fault fault zero = inl (λ j lt. absurd (omega (arith, lt)))
@@ -100,12 +100,12 @@ no_fault_or_first_fault fault (suc n) = elim (no_fault_or_first_fault fault n) [
   | inl none ↦
       let Q : Option SourceFault → Type 0 = λ o. fault n ≡ o → HasNoFaultOrFirstFault fault (suc n) in
       (elim (fault n) as Q [
-        | None ↦ λ here. inl (subst (NoFaultBefore fault) (add_one_is_suc n) (no_fault_before_next fault n none here))
+        | None ↦ λ here. inl (subst (HasNoFaultBefore fault) (add_one_is_suc n) (no_fault_before_next fault n none here))
         | Some f ↦ λ here. inr (n, f, omega arith, none, here)
       ]) refl
 ]
 
-first_faults_agree : (error fault : ℕ → Option SourceFault) (n : ℕ) → ((i : ℕ) → NoFaultBefore fault i → error i ≡ fault i) → first_fault error n ≡ first_fault fault n
+first_faults_agree : (error fault : ℕ → Option SourceFault) (n : ℕ) → ((i : ℕ) → HasNoFaultBefore fault i → error i ≡ fault i) → first_fault error n ≡ first_fault fault n
 first_faults_agree error fault n same = elim (no_fault_or_first_fault fault n) [
   | inl none ↦ no_first_fault error n (λ j lt. same j (λ k less. none k (omega (arith, lt, less))) ∙ none j lt) ∙ sym (no_first_fault fault n none)
   | inr x ↦ first_fault_at error n x.0 x.1 x.2 (λ j lt. same j (λ k less. x.3 k (omega (arith, lt, less))) ∙ x.3 j lt) (same x.0 x.3 ∙ x.4) ∙ sym (first_fault_at fault n x.0 x.1 x.2 x.3 x.4)
@@ -120,7 +120,7 @@ unfolding second_pass_fault
 no_second_pass_fault_at lines names i e = e
 
 -- If no line before line `i` has a first-pass error, none of these lines is skipped.
-pub no_line_skipped_before_first_fault : (lines : List (Option SourceLine)) (i : ℕ) → NoFaultBefore (first_pass_fault lines) i → first_pass_skipping_errors lines i ≡ first_pass_before lines i
+pub no_line_skipped_before_first_fault : (lines : List (Option SourceLine)) (i : ℕ) → HasNoFaultBefore (first_pass_fault lines) i → first_pass_skipping_errors lines i ≡ first_pass_before lines i
 unfolding first_pass_skipping_errors address_of names_before
 no_line_skipped_before_first_fault lines zero none = refl
 no_line_skipped_before_first_fault lines (suc i) none =
@@ -130,7 +130,7 @@ no_line_skipped_before_first_fault lines (suc i) none =
     ≡ unless_error (first_pass_line_fault (first_pass_before lines i).at (first_pass_before lines i).names (ith_line lines i)) (first_pass_before lines i) (first_pass_after_line (first_pass_before lines i) (ith_line lines i)) = ap (λ (b : FirstPassState). unless_error (first_pass_line_fault b.at b.names (ith_line lines i)) b (first_pass_after_line b (ith_line lines i))) same in
     step ∙ (ap (λ (o : Option SourceFault). unless_error o (first_pass_before lines i) (first_pass_after_line (first_pass_before lines i) (ith_line lines i))) here ∙ (first_pass_before_next_line lines i ∙ ap (first_pass_before lines) (add_one_is_suc i)))
 
-first_pass_error_agrees : (lines : List (Option SourceLine)) (i : ℕ) → NoFaultBefore (first_pass_fault lines) i → first_pass_error lines i ≡ first_pass_fault lines i
+first_pass_error_agrees : (lines : List (Option SourceLine)) (i : ℕ) → HasNoFaultBefore (first_pass_fault lines) i → first_pass_error lines i ≡ first_pass_fault lines i
 unfolding first_pass_error first_pass_fault
 first_pass_error_agrees lines i none = ap (λ (b : FirstPassState). first_pass_line_fault b.at b.names (ith_line lines i)) (no_line_skipped_before_first_fault lines i none)
 
@@ -138,7 +138,7 @@ pub first_reported_error_of_first_pass : (lines : List (Option SourceLine)) → 
 first_reported_error_of_first_pass lines = first_reported_error_is_first_fault (first_pass_error lines) (length lines) ∙ first_faults_agree (first_pass_error lines) (first_pass_fault lines) (length lines) (first_pass_error_agrees lines)
 
 -- If no line before line `i` has a second-pass error, each of these lines emits its bytes.
-no_pairs_skipped_before_first_fault : (lines : List (Option SourceLine)) (names : Names) (i : ℕ) → NoFaultBefore (second_pass_fault lines names) i → pairs_skipping_errors lines names i ≡ pairs_before lines names i
+no_pairs_skipped_before_first_fault : (lines : List (Option SourceLine)) (names : Names) (i : ℕ) → HasNoFaultBefore (second_pass_fault lines names) i → pairs_skipping_errors lines names i ≡ pairs_before lines names i
 unfolding pairs_skipping_errors pairs_before
 no_pairs_skipped_before_first_fault lines names zero none = refl
 no_pairs_skipped_before_first_fault lines names (suc i) none =
@@ -147,7 +147,7 @@ no_pairs_skipped_before_first_fault lines names (suc i) none =
     let step = ap (λ (ps : List (ℕ × ℕ)). unless_error (second_pass_line_fault (address_of lines i) ps (line_bytes (address_of lines i) names (ith_line lines i))) ps (ps ++ line_pairs lines names i)) same in
     step ∙ (ap (λ (o : Option SourceFault). unless_error o (pairs_before lines names i) (pairs_before lines names i ++ line_pairs lines names i)) here ∙ (sym (pairs_before_next_line lines names i) ∙ ap (pairs_before lines names) (add_one_is_suc i)))
 
-second_pass_error_agrees : (lines : List (Option SourceLine)) (names : Names) (i : ℕ) → NoFaultBefore (second_pass_fault lines names) i → second_pass_error lines names i ≡ second_pass_fault lines names i
+second_pass_error_agrees : (lines : List (Option SourceLine)) (names : Names) (i : ℕ) → HasNoFaultBefore (second_pass_fault lines names) i → second_pass_error lines names i ≡ second_pass_fault lines names i
 unfolding second_pass_error second_pass_fault
 second_pass_error_agrees lines names i none = ap (λ (ps : List (ℕ × ℕ)). second_pass_line_fault (address_of lines i) ps (line_bytes (address_of lines i) names (ith_line lines i))) (no_pairs_skipped_before_first_fault lines names i none)
 
@@ -265,12 +265,12 @@ second_pass_error_of_ith_line ls names i at d lt here =
 pub second_pass_report_at_next_line : (ls : List (Bor (List ℕ))) (names : Names) (i at now : ℕ) (cells new : List (Option ℕ)) (errors more : List LineError) (d : Bor (List ℕ)) (o : Option SourceFault) → i < length ls → IsSecondPassReported ls names i at cells errors
     → (o ≡ second_pass_line_fault at (pairs_skipping_errors (parsed_lines ls) names i) (line_bytes at names (line_of (tokens (get_or ls i d).now))))
     × HoldsPairs new (unless_error o (pairs_skipping_errors (parsed_lines ls) names i) (pairs_skipping_errors (parsed_lines ls) names i ++ from_address at (bytes_or_none (line_bytes at names (line_of (tokens (get_or ls i d).now))))))
-    → now ≡ next_at (line_of (tokens (get_or ls i d).now)) at → more ≡ reported_errors (errors ++ cons_option (option_map (error_at i) o) []) → IsSecondPassReported ls names (i + 1) now new more
+    → now ≡ address_after_line (line_of (tokens (get_or ls i d).now)) at → more ≡ reported_errors (errors ++ cons_option (option_map (error_at i) o) []) → IsSecondPassReported ls names (i + 1) now new more
 second_pass_report_at_next_line ls names i at now cells new errors more d o lt h reports step e =
     let lines : List (Option SourceLine) = parsed_lines ls in
     let is : o ≡ second_pass_error lines names i = reports.0 ∙ second_pass_error_of_ith_line ls names i at d lt h.start in
     let here : now ≡ address_of lines (i + 1) =
-    step ∙ (ap (λ (l : Option SourceLine). next_at l at) (sym (parsed_line_at ls i d lt)) ∙ (ap (next_at (ith_line lines i)) h.start ∙ sym (address_of_next_line lines i))) in
+    step ∙ (ap (λ (l : Option SourceLine). address_after_line l at) (sym (parsed_line_at ls i d lt)) ∙ (ap (address_after_line (ith_line lines i)) h.start ∙ sym (address_of_next_line lines i))) in
     let added : from_address at (bytes_or_none (line_bytes at names (line_of (tokens (get_or ls i d).now)))) ≡ line_pairs lines names i =
     ap (λ (r : Result (List ℕ) SourceFault). from_address at (bytes_or_none r)) (line_bytes_of_ith_line ls names i at d lt h.start)
     ∙ ap (λ (n : ℕ). from_address n (bytes_or_none (line_bytes (address_of lines i) names (ith_line lines i)))) h.start in
@@ -303,7 +303,6 @@ cells_unchanged_if_bytes_rejected at next now pairs bytes old cells f kind is ke
     let refused : second_pass_with_bytes s next (Ok bytes) ≡ Err f = subst (λ (k : FaultKind). MatchesStateWithAddedBytes (Err k) now cells (second_pass_with_bytes s next (Ok bytes))) is r in
     (sym (fault_if_bytes_rejected s next (Ok bytes) f refused), subst (λ (c : List (Option ℕ)). HoldsPairs c pairs) (sym same) kept)
 
--- A list of errors with length 0 is empty.
 pub empty_if_length_0 : (xs : List LineError) → eqb (length xs) 0 ≡ true → xs ≡ []
 empty_if_length_0 [] e = refl
 empty_if_length_0 (x ∷ xs) e =

@@ -4,7 +4,7 @@ use Rattle.std.specs.List.{prefix_len}
 use Rattle.std.proofs.lemmas.Bool.{ne_eqb}
 use Rattle.std.proofs.lemmas.List.{append-nil, length-take, take_all}
 use Rattle.mcs_source.specs.Lexical.{Token, Word, is_word_byte, symbol, tokens}
-use Rattle.mcs_source.proofs.Tokens.{byte_by_byte, blank_is_no_word_byte, tokens_after, word_token_before}
+use Rattle.mcs_source.proofs.Tokens.{tokens_byte_by_byte, blank_is_no_word_byte, tokens_after, word_token_before}
 use Rattle.mcs_model.specs.TextLines.{is_blank}
 
 -- the tokens of the bytes after a word; the first of these bytes is not part of a word
@@ -37,7 +37,7 @@ tokens_after_nothing_without_blanks (b ∷ bytes) =
     ]) refl
 
 pub tokens_without_leading_blanks : (bytes : List ℕ) → tokens bytes ≡ tokens (drop (prefix_len is_blank bytes) bytes)
-tokens_without_leading_blanks bytes = byte_by_byte bytes ∙ tokens_after_nothing_without_blanks bytes ∙ sym (byte_by_byte (drop (prefix_len is_blank bytes) bytes))
+tokens_without_leading_blanks bytes = tokens_byte_by_byte bytes ∙ tokens_after_nothing_without_blanks bytes ∙ sym (tokens_byte_by_byte (drop (prefix_len is_blank bytes) bytes))
 
 -- If the bytes do not begin with a word, `tokens_from_end_of_word` gives their tokens.
 tokens_without_word : (bytes : List ℕ) → prefix_len is_word_byte bytes ≡ 0 → tokens_after [] bytes ≡ tokens_from_end_of_word bytes
@@ -59,7 +59,7 @@ no_prefix_after_prefix p (x ∷ xs) =
       | false ↦ λ no. rw no refl
     ]) refl
 
--- The bytes after a word do not begin with another word.
+-- For the bytes after a word, `tokens_from_end_of_word` gives their tokens.
 end_of_word_starts_new_tokens : (bytes : List ℕ) → tokens_from_end_of_word (drop (prefix_len is_word_byte bytes) bytes) ≡ tokens_after [] (drop (prefix_len is_word_byte bytes) bytes)
 end_of_word_starts_new_tokens bytes = sym (tokens_without_word (drop (prefix_len is_word_byte bytes) bytes) (no_prefix_after_prefix is_word_byte bytes))
 
@@ -69,18 +69,18 @@ tokens_of_leading_word [] rest bytes n len some front back within = absurd (omeg
 tokens_of_leading_word (b ∷ word) rest bytes n len some front back within =
     let front' : take (prefix_len is_word_byte bytes) bytes ≡ b ∷ word = rw (← len) (sym front) in
     let read : tokens_after [] bytes ≡ Word (b ∷ word) ∷ tokens_after [] rest = tokens_after_word_and_its_other_bytes [] bytes ∙ rw (front', end_of_word_starts_new_tokens bytes, ← len, ← back) refl in
-    byte_by_byte bytes ∙ read ∙ ap (λ (ts : List Token). Word (b ∷ word) ∷ ts) (sym (byte_by_byte rest))
+    tokens_byte_by_byte bytes ∙ read ∙ ap (λ (ts : List Token). Word (b ∷ word) ∷ ts) (sym (tokens_byte_by_byte rest))
 
 pub no_tokens_of_empty_line : (bytes : List ℕ) → length bytes ≡ 0 → tokens bytes ≡ []
 unfolding tokens_after
-no_tokens_of_empty_line [] e = byte_by_byte []
+no_tokens_of_empty_line [] e = tokens_byte_by_byte []
 no_tokens_of_empty_line (b ∷ bytes) e = absurd (omega (arith, e))
 
 -- A comment has no tokens.
 pub no_tokens_of_comment : (bytes : List ℕ) → 1 ≤ length bytes → get_or bytes 0 0 ≡ 59 → tokens bytes ≡ []
 unfolding tokens_after
 no_tokens_of_comment [] some e = absurd (omega (arith, some))
-no_tokens_of_comment (b ∷ bytes) some e = byte_by_byte (b ∷ bytes) ∙ rw e refl
+no_tokens_of_comment (b ∷ bytes) some e = tokens_byte_by_byte (b ∷ bytes) ∙ rw e refl
 
 -- If the first byte is neither part of a word, nor a blank, nor the start of a comment, this byte
 -- is the first token.
@@ -89,7 +89,7 @@ tokens_of_leading_symbol [] some other no_w no_b = absurd (omega (arith, some))
 tokens_of_leading_symbol (b ∷ rest) some other no_w no_b =
     let all : take (length (b ∷ rest) - 1) rest ≡ rest = take_all (length (b ∷ rest) - 1) rest (omega arith) in
     let read : tokens_after [] (b ∷ rest) ≡ symbol b ∷ tokens_after [] rest = tokens_without_word (b ∷ rest) no_w ∙ rw (test_false_for_first_if_no_prefix is_blank b rest no_b, ne_eqb b 59 other) refl in
-    byte_by_byte (b ∷ rest) ∙ read ∙ ap (λ (ts : List Token). symbol b ∷ ts) (sym (byte_by_byte rest) ∙ ap tokens (sym all))
+    tokens_byte_by_byte (b ∷ rest) ∙ read ∙ ap (λ (ts : List Token). symbol b ∷ ts) (sym (tokens_byte_by_byte rest) ∙ ap tokens (sym all))
 
 pub tokens_of_trimmed_line : (line bytes : List ℕ) (n : ℕ) → n ≡ prefix_len is_blank line → bytes ≡ drop n line → tokens bytes ≡ tokens line
 tokens_of_trimmed_line line bytes n len back = rw (back, len) (sym (tokens_without_leading_blanks line))

@@ -4,7 +4,7 @@ use Rattle.std.specs.List.{position_or_len}
 use Rattle.std.proofs.lemmas.List.{append-nil, length-take, length-drop, take_all}
 use Rattle.std.specs.Str.Lines.{strip_carriage_return}
 use Rattle.mcs_model.specs.TextLines.{is_line_feed, last_line, lines, lines_of}
-use Rattle.mcs_model.proofs.LineLemmas.{byte_by_byte, lines_after, last_line-nonempty}
+use Rattle.mcs_model.proofs.LineLemmas.{lines-as_lines_after, lines_after, last_line-nonempty}
 
 -- the lines of a text, given its first line and the bytes that start at the first line feed
 abbrev pub lines_from_first : List ℕ → List ℕ → List (List ℕ)
@@ -19,12 +19,12 @@ lines_after_partial_line line (b ∷ bytes) =
     let one_plus : 1 + n ≡ suc n = omega arith in
     let Q : Bool → Type 0 = λ t. cond t (strip_carriage_return line ∷ lines_after true [] bytes) (lines_after true (line ++ b ∷ []) bytes) ≡ lines_from_first (line ++ take (cond (not t) (1 + n) 0) (b ∷ bytes)) (drop (cond (not t) (1 + n) 0) (b ∷ bytes)) in
     elim (eqb b 10) as Q [
-      | true ↦ ap (λ (l : List ℕ). strip_carriage_return l ∷ lines_after true [] bytes) (sym (append-nil line)) ∙ ap (λ (ls : List (List ℕ)). strip_carriage_return (line ++ []) ∷ ls) (sym (byte_by_byte bytes true))
+      | true ↦ ap (λ (l : List ℕ). strip_carriage_return l ∷ lines_after true [] bytes) (sym (append-nil line)) ∙ ap (λ (ls : List (List ℕ)). strip_carriage_return (line ++ []) ∷ ls) (sym (lines-as_lines_after bytes true))
       | false ↦ lines_after_partial_line (line ++ b ∷ []) bytes ∙ rw (one_plus, append_assoc line (b ∷ []) (take n bytes)) refl
     ]
 
 pub lines_of_text_from_first_line : (text : List ℕ) → lines_of text ≡ lines_from_first (take (position_or_len is_line_feed text) text) (drop (position_or_len is_line_feed text) text)
-lines_of_text_from_first_line text = byte_by_byte text true ∙ lines_after_partial_line [] text
+lines_of_text_from_first_line text = lines-as_lines_after text true ∙ lines_after_partial_line [] text
 
 -- If no line feed follows the first line, this line is the only one.
 pub lines_of_only_line : (text line rest cut : List ℕ) (n : ℕ) → n ≡ position_or_len is_line_feed text → n ≤ length text → 0 < length text → line ≡ take n text → rest ≡ drop n text → length rest ≡ 0 → cut ≡ strip_carriage_return line

@@ -13,11 +13,11 @@ use Rattle.mcs_source.specs.Lexical.{tokens}
 use Rattle.mcs_source.specs.Lines.{SourceLine, Code, Define, line_of}
 use Rattle.mcs_model.specs.Images.{from_address, overlaps}
 use Rattle.mcs_model.specs.TextLines.{lines_of}
-use Rattle.mcs_source.specs.Assembly.{assembly_of_text, assembly_of, read, ith_line, Names, definition, address_of, names_before, all_names, pairs_before, unless_fault, first_fault, first_pass_line_fault, second_pass_line_fault, first_pass_fault, second_pass_fault, earliest_first_pass_fault, earliest_second_pass_fault, next_at, line_bytes, bytes_or_none, defined_name, is_defined_name, has_bad_number, passes_end}
+use Rattle.mcs_source.specs.Assembly.{assembly_of_text, assembly_of, read, ith_line, Names, definition, address_of, names_before, all_names, pairs_before, unless_fault, first_fault, first_pass_line_fault, second_pass_line_fault, first_pass_fault, second_pass_fault, earliest_first_pass_fault, earliest_second_pass_fault, address_after_line, line_bytes, bytes_or_none, defined_name, is_defined_name, has_bad_number, passes_end}
 use Rattle.mcs_source.specs.Survey.{Survey, span, spans_before, survey_of, survey_of_text}
 use Rattle.mcs_source.specs.declared.survey.Span.{Span}
 use Rattle.mcs_source.proofs.Surveys.{length_of_from_address}
-use Rattle.mcs_source.proofs.LineByLine.{assembles_if_no_fault, spans_before_next_line, address_of_next_line, names_before_next_line, pairs_before_next_line, NoFaultBefore, no_fault_before_next, no_first_fault, first_fault_at, no_fault_before_if_first_fault_is_none}
+use Rattle.mcs_source.proofs.LineByLine.{assembles_if_no_fault, spans_before_next_line, address_of_next_line, names_before_next_line, pairs_before_next_line, HasNoFaultBefore, no_fault_before_next, no_first_fault, first_fault_at, no_fault_before_if_first_fault_is_none}
 use Rattle.mcs_asm.specs.ByteCells.{HoldsPairs}
 use Rattle.mcs_asm.specs.View.{IsErrorAtLine}
 use Rattle.mcs_asm.specs.Passes.{FirstPassState, first_pass_start, first_pass_before, first_pass_after_line, first_pass_with_line, names_with_line, SecondPassState, second_pass_before, second_pass_with_bytes, second_pass_with_line, MatchesNewValue, IsFirstError, IsLineNumber, MatchesStateWithAddedBytes, HasValidNumberAndAddress, span_at, IsSecondPassResult, IsResultOfBothPasses}
@@ -45,7 +45,7 @@ parsed_lines_length ls = length-map (texts ls) (λ (l : List ℕ). line_of (toke
 pub record IsFirstPassBefore (ls : List (Bor (List ℕ))) (i : ℕ) (b : FirstPassState) : Type 0 where
   pub within : i ≤ length ls
   pub start : b ≡ first_pass_before (parsed_lines ls) i
-  pub none : NoFaultBefore (first_pass_fault (parsed_lines ls)) i
+  pub none : HasNoFaultBefore (first_pass_fault (parsed_lines ls)) i
 
 pub first_pass_invariant_at_start : (ls : List (Bor (List ℕ))) → IsFirstPassBefore ls 0 first_pass_start
 unfolding address_of names_before
@@ -60,7 +60,7 @@ names_with_line_appends_definition (Some (Code (Some w) s)) at names = refl
 pub first_pass_before_next_line : (lines : List (Option SourceLine)) (i : ℕ) → first_pass_after_line (first_pass_before lines i) (ith_line lines i) ≡ first_pass_before lines (i + 1)
 first_pass_before_next_line lines i =
     let names : names_with_line (ith_line lines i) (address_of lines i) (names_before lines i) ≡ names_before lines (i + 1) = names_with_line_appends_definition (ith_line lines i) (address_of lines i) (names_before lines i) ∙ sym (names_before_next_line lines i) in
-    ap (λ (n : Names). record { at = next_at (ith_line lines i) (address_of lines i); names = n }) names ∙ ap (λ (a : ℕ). record { at = a; names = names_before lines (i + 1) }) (sym (address_of_next_line lines i))
+    ap (λ (n : Names). record { at = address_after_line (ith_line lines i) (address_of lines i); names = n }) names ∙ ap (λ (a : ℕ). record { at = a; names = names_before lines (i + 1) }) (sym (address_of_next_line lines i))
 
 pub no_fault_if_line_accepted : {A : Type 0} (fault : Option SourceFault) (next new : A) → unless_fault fault (Ok next) ≡ Ok new → (fault ≡ None) × (new ≡ next)
 no_fault_if_line_accepted {A} None next new e = (refl, cc)
@@ -70,8 +70,8 @@ pub fault_if_line_rejected : {A : Type 0} (fault : Option SourceFault) (next : A
 fault_if_line_rejected {A} None next f e = absurd (cc)
 fault_if_line_rejected {A} (Some g) next f e = cc
 
--- Restates the result of adding line `i` to the first pass in terms of `first_pass_before` and
--- `ith_line`.
+-- The result of adding line `i` to the first pass is `first_pass_with_line` of `first_pass_before`
+-- and `ith_line`.
 first_pass_step_of_ith_line : (b : FirstPassState) (ls : List (Bor (List ℕ))) (i : ℕ) (d : Bor (List ℕ)) (wanted : Result FirstPassState SourceFault) → i < length ls → b ≡ first_pass_before (parsed_lines ls) i → first_pass_with_line b (line_of (tokens (get_or ls i d).now)) ≡ wanted
     → first_pass_with_line (first_pass_before (parsed_lines ls) i) (ith_line (parsed_lines ls) i) ≡ wanted
 first_pass_step_of_ith_line b ls i d wanted lt here step =
@@ -83,7 +83,7 @@ first_pass_invariant_at_next_line b new ls i d lt step h =
     let p = no_fault_if_line_accepted (first_pass_fault (parsed_lines ls) i) (first_pass_after_line (first_pass_before (parsed_lines ls) i) (ith_line (parsed_lines ls) i)) new (first_pass_step_of_ith_line b ls i d (Ok new) lt h.start step) in
     record { within = omega (arith, lt); start = p.1 ∙ first_pass_before_next_line (parsed_lines ls) i; none = no_fault_before_next (first_pass_fault (parsed_lines ls)) i h.none p.0 }
 
-first_error_is_fault_of_line : (fault : ℕ → Option SourceFault) (ls : List (Bor (List ℕ))) (i line : ℕ) (f : SourceFault) → i < length ls → NoFaultBefore fault i → fault i ≡ Some f → line ≡ i + 1 → IsFirstError (Refused f) line (first_fault fault (length (parsed_lines ls)))
+first_error_is_fault_of_line : (fault : ℕ → Option SourceFault) (ls : List (Bor (List ℕ))) (i line : ℕ) (f : SourceFault) → i < length ls → HasNoFaultBefore fault i → fault i ≡ Some f → line ≡ i + 1 → IsFirstError (Refused f) line (first_fault fault (length (parsed_lines ls)))
 first_error_is_fault_of_line fault ls i line f lt none here is =
     first_fault_at fault (length (parsed_lines ls)) i f (omega (arith, parsed_lines_length ls, lt)) none here ∙ ap (λ (n : ℕ). Some (n, f)) (sym is)
 
@@ -108,7 +108,7 @@ pub record IsSecondPassBefore (ls : List (Bor (List ℕ))) (names : Names) (i at
   pub start : at ≡ address_of (parsed_lines ls) i
   pub holds_pairs : HoldsPairs cells (pairs_before (parsed_lines ls) names i)
   pub spans_so_far : spans ≡ spans_before (parsed_lines ls) names i
-  pub none : NoFaultBefore (second_pass_fault (parsed_lines ls) names) i
+  pub none : HasNoFaultBefore (second_pass_fault (parsed_lines ls) names) i
 
 pub second_pass_invariant_at_start : (ls : List (Bor (List ℕ))) (names : Names) → IsSecondPassBefore ls names 0 0 (replicate 4096 None) []
 unfolding address_of pairs_before spans_before
@@ -154,7 +154,7 @@ fault_if_bytes_rejected s next (Ok bytes) f e =
     ]) e
 
 second_pass_before_next_line : (lines : List (Option SourceLine)) (names : Names) (i : ℕ)
-    → record { at = next_at (ith_line lines i) (address_of lines i); pairs = pairs_before lines names i ++ from_address (address_of lines i) (bytes_or_none (line_bytes (address_of lines i) names (ith_line lines i))) } ≡ second_pass_before lines names (i + 1)
+    → record { at = address_after_line (ith_line lines i) (address_of lines i); pairs = pairs_before lines names i ++ from_address (address_of lines i) (bytes_or_none (line_bytes (address_of lines i) names (ith_line lines i))) } ≡ second_pass_before lines names (i + 1)
 second_pass_before_next_line lines names i =
     ap (λ (n : ℕ). record { at = n; pairs = pairs_before lines names i ++ from_address (address_of lines i) (bytes_or_none (line_bytes (address_of lines i) names (ith_line lines i))) }) (sym (address_of_next_line lines i))
     ∙ ap (λ (ps : List (ℕ × ℕ)). record { at = address_of lines (i + 1); pairs = ps }) (sym (pairs_before_next_line lines names i))
@@ -186,7 +186,7 @@ pub second_pass_invariant_at_next_line : (ls : List (Bor (List ℕ))) (names : N
 unfolding second_pass_fault
 second_pass_invariant_at_next_line ls names i at now cells new spans more d lt h t step is kept added =
     let lines : List (Option SourceLine) = parsed_lines ls in
-    let p = no_fault_if_bytes_accepted (second_pass_before lines names i) (next_at (ith_line lines i) (address_of lines i)) (line_bytes (address_of lines i) names (ith_line lines i)) t (second_pass_step_of_ith_line ls names i at d (Ok t) lt h.start step) in
+    let p = no_fault_if_bytes_accepted (second_pass_before lines names i) (address_after_line (ith_line lines i) (address_of lines i)) (line_bytes (address_of lines i) names (ith_line lines i)) t (second_pass_step_of_ith_line ls names i at d (Ok t) lt h.start step) in
     let t_is : t ≡ second_pass_before lines names (i + 1) = p.1 ∙ second_pass_before_next_line lines names i in
     record {
       within = omega (arith, lt);
@@ -205,7 +205,7 @@ earliest_error_if_line_rejected NoMemory line ls names i at now cells new spans 
 earliest_error_if_line_rejected (Refused f) line ls names i at now cells new spans d lt h refused is =
     let lines : List (Option SourceLine) = parsed_lines ls in
     first_error_is_fault_of_line (second_pass_fault lines names) ls i line f lt h.none
-    (fault_if_bytes_rejected (second_pass_before lines names i) (next_at (ith_line lines i) (address_of lines i)) (line_bytes (address_of lines i) names (ith_line lines i)) f (second_pass_step_of_ith_line ls names i at d (Err f) lt h.start refused)) is
+    (fault_if_bytes_rejected (second_pass_before lines names i) (address_after_line (ith_line lines i) (address_of lines i)) (line_bytes (address_of lines i) names (ith_line lines i)) f (second_pass_step_of_ith_line ls names i at d (Err f) lt h.start refused)) is
 
 -- After the last line, the second pass has the survey and the bytes of all lines.
 pub all_lines_emitted : (ls : List (Bor (List ℕ))) (names : Names) (i at : ℕ) (cells : List (Option ℕ)) (spans : List Span) (found : Survey) → length ls ≤ i → IsSecondPassBefore ls names i at cells spans → found ≡ record { spans = spans; names = names }

@@ -15,29 +15,29 @@ use Rattle.std.specs.Prelude.{is_some}
 use Rattle.std.specs.List.{list_any}
 use Rattle.mcs_source.specs.declared.fault.SourceFault.TheVariants.{Overlap}
 use Rattle.mcs_model.specs.Images.{from_address, overlaps}
-use Rattle.mcs_source.specs.Assembly.{next_at}
+use Rattle.mcs_source.specs.Assembly.{address_after_line}
 use Rattle.mcs_asm.specs.Passes.{SecondPassState, second_pass_with_bytes, second_pass_with_line}
 use Rattle.mcs_asm.specs.ByteCells.{cells_after_write, HoldsPairs}
-use Rattle.mcs_asm.proofs.CellPairs.{taken_equals_overlaps, cells_hold_pairs_after_all_writes, free_if_no_overlap}
+use Rattle.mcs_asm.proofs.CellPairs.{occupied_equals_overlaps, cells_hold_pairs_after_all_writes, free_if_no_overlap}
 use Rattle.mcs_model.specs.Options.{◌>>=◌}
 
 pub overlap_is_rejected : (cells : List (Option ℕ)) (pairs : List (ℕ × ℕ)) (at next : ℕ) (bytes : List ℕ) → list_any is_some (take (length bytes) (drop at cells)) ≡ true → HoldsPairs cells pairs
     → second_pass_with_bytes (record { at = at; pairs = pairs }) next (Ok bytes) ≡ Err Overlap
-overlap_is_rejected cells pairs at next bytes taken kept =
-    let overlap : overlaps pairs at (length bytes) ≡ true = sym (taken_equals_overlaps cells pairs at (length bytes) kept) ∙ taken in
+overlap_is_rejected cells pairs at next bytes occupied kept =
+    let overlap : overlaps pairs at (length bytes) ≡ true = sym (occupied_equals_overlaps cells pairs at (length bytes) kept) ∙ occupied in
     rw overlap refl
 
 pub bytes_without_overlap_are_added : (cells : List (Option ℕ)) (pairs : List (ℕ × ℕ)) (at next : ℕ) (bytes : List ℕ) → at + length bytes ≤ 4096 → list_any is_some (take (length bytes) (drop at cells)) ≡ false → HoldsPairs cells pairs
     → (s : SecondPassState) × (second_pass_with_bytes (record { at = at; pairs = pairs }) next (Ok bytes) ≡ Ok s) × (s.at ≡ next) × HoldsPairs (cells_after_write at bytes cells) s.pairs
 bytes_without_overlap_are_added cells pairs at next bytes within free kept =
-    let overlap : overlaps pairs at (length bytes) ≡ false = sym (taken_equals_overlaps cells pairs at (length bytes) kept) ∙ free in
+    let overlap : overlaps pairs at (length bytes) ≡ false = sym (occupied_equals_overlaps cells pairs at (length bytes) kept) ∙ free in
     (record { at = next; pairs = pairs ++ from_address at bytes }, rw overlap refl, refl, cells_hold_pairs_after_all_writes bytes at cells pairs within kept (free_if_no_overlap pairs at (length bytes) overlap))
 
 -- Adding the bytes of a parsed line to the second pass gives the same result as adding the line.
-pub bytes_of_line_are_added : (names : Names) (s : SecondPassState) (l : Option asm.SourceLine) (line : asm.SourceLine) (bytes : List ℕ) (next : ℕ) → Some line ≡ l → line_bytes s.at names (Some line) ≡ Ok bytes → next ≡ next_at (Some line) s.at
+pub bytes_of_line_are_added : (names : Names) (s : SecondPassState) (l : Option asm.SourceLine) (line : asm.SourceLine) (bytes : List ℕ) (next : ℕ) → Some line ≡ l → line_bytes s.at names (Some line) ≡ Ok bytes → next ≡ address_after_line (Some line) s.at
     → second_pass_with_bytes s next (Ok bytes) ≡ second_pass_with_line names s l
 bytes_of_line_are_added names s l line bytes next form is at =
-    ap (λ (n : ℕ). second_pass_with_bytes s n (Ok bytes)) at ∙ (ap (λ (r : Result (List ℕ) SourceFault). second_pass_with_bytes s (next_at (Some line) s.at) r) (sym is) ∙ ap (λ (o : Option asm.SourceLine). second_pass_with_line names s o) form)
+    ap (λ (n : ℕ). second_pass_with_bytes s n (Ok bytes)) at ∙ (ap (λ (r : Result (List ℕ) SourceFault). second_pass_with_bytes s (address_after_line (Some line) s.at) r) (sym is) ∙ ap (λ (o : Option asm.SourceLine). second_pass_with_line names s o) form)
 
 -- ---- If a line has no first-pass error, its bytes fit into the ROM.
 

@@ -1,6 +1,6 @@
--- All errors of a source text, at most one for each line. When later lines are checked, a line with
--- a first-pass error counts as empty, and a line with a second-pass error emits no bytes. (Defined
--- by Fethsaim, not by Intel.)
+-- The errors that are reported for a source text, at most one for each line. When later lines are
+-- checked, a line with a first-pass error counts as empty, and a line with a second-pass error
+-- emits no bytes. (Defined by Fethsaim, not by Intel.)
 use Rattle.std.specs.Prelude.{◌≡◌, ℕ, zero, suc, ◌+◌, List, [], ◌∷◌, ◌++◌, length, take, map, codes, Option, Some, None, option_map, Result, Ok, Err}
 use Rattle.std.specs.List.{filter_map, range_with_len}
 use Rattle.std.specs.Fmt.{decimal}

@@ -4,7 +4,7 @@ use Rattle.std.specs.Prelude.{◌≡◌, ℕ, ◌+◌, List, [], ◌∷◌, ◌+
 use Rattle.mcs_source.specs.declared.fault.SourceFault.{SourceFault}
 use Rattle.mcs_source.specs.declared.fault.SourceFault.TheVariants.{Overlap}
 use Rattle.mcs_source.specs.Lines.{SourceLine, Code, Define}
-use Rattle.mcs_source.specs.Assembly.{Names, assembly_of_text, bytes_or_none, address_of, names_before, next_at, first_pass_line_fault, earliest_first_pass_fault, earliest_second_pass_fault, has_bad_number, passes_end, unless_fault, line_bytes, pairs_before}
+use Rattle.mcs_source.specs.Assembly.{Names, assembly_of_text, bytes_or_none, address_of, names_before, address_after_line, first_pass_line_fault, earliest_first_pass_fault, earliest_second_pass_fault, has_bad_number, passes_end, unless_fault, line_bytes, pairs_before}
 use Rattle.mcs_model.specs.Images.{from_address, overlaps}
 use Rattle.mcs_asm.specs.declared.fault.FaultKind.{FaultKind}
 use Rattle.mcs_asm.specs.declared.fault.FaultKind.TheVariants.{NoMemory, Refused}
@@ -39,7 +39,7 @@ names_with_line None at names = names
 
 -- the state of the first pass after one more line
 abbrev pub first_pass_after_line : FirstPassState → Option SourceLine → FirstPassState
-first_pass_after_line b line = record { at = next_at line b.at; names = names_with_line line b.at b.names }
+first_pass_after_line b line = record { at = address_after_line line b.at; names = names_with_line line b.at b.names }
 
 -- the state of the first pass after one more line, or the first-pass error of that line
 abbrev pub first_pass_with_line : FirstPassState → Option SourceLine → Result FirstPassState SourceFault
@@ -67,7 +67,7 @@ second_pass_with_bytes s next (Ok bytes) =
     else Ok (record { at = next; pairs = s.pairs ++ from_address s.at bytes })
 
 abbrev pub second_pass_with_line : Names → SecondPassState → Option SourceLine → Result SecondPassState SourceFault
-second_pass_with_line names s line = second_pass_with_bytes s (next_at line s.at) (line_bytes s.at names line)
+second_pass_with_line names s line = second_pass_with_bytes s (address_after_line line s.at) (line_bytes s.at names line)
 
 -- Holds for a line that parses and, at address `at`, does not pass the end of the ROM. The number
 -- in an `ORG` or `NAME = NUMBER` must also be below 4096.
@@ -84,8 +84,8 @@ abbrev pub IsFirstError : FaultKind → ℕ → Option (ℕ × SourceFault) → 
 IsFirstError NoMemory line first = line ≡ 0
 IsFirstError (Refused f) line first = first ≡ Some (line, f)
 
--- Holds if the result and the new value `new` agree with `wanted`: both succeed and the value in
--- `wanted` is `new`, or both are the same error. Also holds if allocation failed.
+-- Holds if the result and `wanted` both succeed and the value in `wanted` is `new`, or if the
+-- result and `wanted` are the same error. Also holds if allocation failed.
 abbrev pub MatchesNewValue : {A B : Type 0} → Result B FaultKind → A → Result A SourceFault → Type 0
 MatchesNewValue (Ok u) new wanted = wanted ≡ Ok new
 MatchesNewValue (Err NoMemory) new wanted = Unit {0}
@@ -98,8 +98,8 @@ IsFirstPassResult (Ok b) lines = (earliest_first_pass_fault lines ≡ None) × (
 IsFirstPassResult (Err f) lines = IsFirstError f.kind f.line (earliest_first_pass_fault lines)
 
 -- Holds if the result agrees with `wanted`. On success, `at` must be the next address in `wanted`,
--- and the cells must contain its pairs. An error must be the error in `wanted`. Also holds if
--- allocation failed.
+-- and the cells must contain the pairs in `wanted`. An error must be the error in `wanted`. Also
+-- holds if allocation failed.
 abbrev pub MatchesStateWithAddedBytes : Result (Unit {0}) FaultKind → ℕ → List (Option ℕ)
     → Result SecondPassState SourceFault → Type 0
 MatchesStateWithAddedBytes (Ok u) at cells wanted =
@@ -107,12 +107,13 @@ MatchesStateWithAddedBytes (Ok u) at cells wanted =
 MatchesStateWithAddedBytes (Err NoMemory) at cells wanted = Unit {0}
 MatchesStateWithAddedBytes (Err (Refused f)) at cells wanted = wanted ≡ Err f
 
--- the address of a line and the number of bytes that the line emits, 0 if it has an error
+-- the span of a line at address `at`; its size is the number of bytes that the line emits, or 0 if
+-- the line has an error
 abbrev pub span_at : ℕ → Result (List ℕ) SourceFault → Span
 span_at at r = record { at = at; size = length (bytes_or_none r) }
 
--- Holds if the result is the survey of all lines and cells with their bytes, or the earliest
--- second-pass error.
+-- Holds if the result is the survey of all lines, together with cells that contain their bytes, or
+-- the earliest second-pass error.
 abbrev pub IsSecondPassResult : Result (Survey × List (Option ℕ)) AsmFault → List (Option SourceLine)
     → Names → Type 0
 IsSecondPassResult (Ok found) lines names =
@@ -123,8 +124,8 @@ IsSecondPassResult (Err f) lines names = IsFirstError f.kind f.line (earliest_se
 
 -- ---- both passes
 
--- Holds if the result is the survey of the text and cells with the bytes of the text, or the error
--- of the text.
+-- Holds if the result is the survey of the text, together with cells that contain the bytes of the
+-- text, or the error of the text.
 abbrev pub IsResultOfBothPasses : Result (Survey × List (Option ℕ)) AsmFault → List ℕ → Type 0
 IsResultOfBothPasses (Ok found) text =
     (survey_of_text text ≡ Ok found.0)

@@ -44,9 +44,9 @@ pub record HaveOneByteEach (pairs : List (ℕ × ℕ)) : Type 0 where
   pub within : (at byte : ℕ) → Contains pairs (at, byte) → at < 4096
   pub once : (at one other : ℕ) → Contains pairs (at, one) → Contains pairs (at, other) → one ≡ other
 
--- Holds if the result agrees with `wanted`: either the result is the image with the pairs of
--- `wanted`, in ascending order of address, or both are the same error. Each address in the pairs is
--- below 4096, and no address has two different bytes.
+-- Holds if the result is the image with the pairs of `wanted`, in ascending order of address, or if
+-- the result and `wanted` are the same error. Each address in the pairs is below 4096, and no
+-- address has two different bytes.
 abbrev pub Assembles : Result (List (ℕ × ℕ)) AsmFault → Result (List (ℕ × ℕ)) (ℕ × SourceFault)
     → Type 0
 Assembles (Ok image) wanted =
@@ -91,12 +91,12 @@ line_view (line.Define w n) = lines.Define w.now n
 
 -- holds if `line_of` parses the tokens as a line without a label
 abbrev pub HasNoLabel : List spec.Token → Type 0
-HasNoLabel ts = lines.line_of ts ≡ lines.unlabelled ts
+HasNoLabel ts = lines.line_of ts ≡ lines.unlabelled_line ts
 
--- holds if `unlabelled` parses the tokens as an optional statement, not as a definition
+-- holds if `unlabelled_line` parses the tokens as an optional statement, not as a definition
 -- `NAME = NUMBER`
 abbrev pub HasNoDefinition : List spec.Token → Type 0
-HasNoDefinition ts = lines.unlabelled ts ≡ lines.code_line None ts
+HasNoDefinition ts = lines.unlabelled_line ts ≡ lines.code_line None ts
 
 abbrev pub words_view : Words → List ℕ
 words_view w = w.first ∷ option_to_list w.second

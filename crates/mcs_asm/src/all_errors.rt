@@ -1,10 +1,10 @@
-//! Finds all errors of a source text, at most one in each line.
+//! Finds the errors of a source text, at most one in each line, and writes the report on them.
 ghost use Rattle.std.specs.Prelude.{◌≡◌, ◌==◌, ◌≤◌, ◌<◌, ◌^◌, ◌++◌, ◌∷◌, [], ℕ, List, IfOk, OnOk, map, length, string_bytes, option_map, None, Some, Ok, ◌+◌};
 ghost use Rattle.std.specs.List.{cons_option};
 ghost use Rattle.mcs_model.specs.TextLines.{as_line, text_of};
 ghost use Rattle.mcs_source.specs.Lexical.{tokens};
 ghost use Rattle.mcs_source.specs.Lines.{line_of};
-ghost use Rattle.mcs_source.specs.Assembly.{read, earliest_first_pass_fault, all_names, first_pass_line_fault, line_bytes, next_at, assembly_of_text};
+ghost use Rattle.mcs_source.specs.Assembly.{read, earliest_first_pass_fault, all_names, first_pass_line_fault, line_bytes, address_after_line, assembly_of_text};
 ghost use Rattle.mcs_asm.specs.ByteCells.{HoldsPairs};
 ghost use Rattle.mcs_asm.specs.Errors.{ReportsError, first_pass_skipping_errors, unless_error, error_at, first_pass_errors, second_pass_errors, reported_errors, errors_of, errors_of_text, first_listed_error, assembly_error, error_row, errors_header, errors_text};
 ghost use Rattle.mcs_asm.specs.Passes.{HasValidNumberAndAddress, first_pass_after_line};
@@ -13,7 +13,7 @@ ghost use Rattle.mcs_asm.specs.View.{line_view};
 use crate::byte_cells::ByteCells;
 use crate::bytes::line_bytes;
 use crate::fault::{FaultKind, SourceFault};
-use crate::names::{Names, next_at};
+use crate::names::{Names, address_after_line};
 use crate::passes::{SecondPassState, add_line};
 use crate::statements::{SourceLine, read_line};
 use crate::text::lines;
@@ -143,9 +143,9 @@ impl SecondPassState {
         ensures error { (pairs : List (ℕ × ℕ)) → HoldsPairs self.old.cells pairs
             → ReportsError result self.old.at pairs
             (line_bytes self.old.at names.now.names (Some (line_view line.now))) self.new.cells }
-        ensures next { OnOk result (self.new.at ≡ next_at (Some (line_view line.now)) self.old.at) }
+        ensures next { OnOk result (self.new.at ≡ address_after_line (Some (line_view line.now)) self.old.at) }
     {
-        let next = next_at(line, self.at);
+        let next = address_after_line(line, self.at);
         match line_bytes(alloc, self.at, names, line) {
             Ok(bytes) => self.emit_bytes_or_error(&bytes, next),
             Err(FaultKind::NoMemory) => Err(AllocError),
@@ -170,7 +170,7 @@ impl SecondPassState {
         ensures error { (pairs : List (ℕ × ℕ)) → HoldsPairs self.old.cells pairs
             → ReportsError result self.old.at pairs
             (line_bytes self.old.at names.now.names (line_of (tokens line.now))) self.new.cells }
-        ensures next { OnOk result (self.new.at ≡ next_at (line_of (tokens line.now)) self.old.at) }
+        ensures next { OnOk result (self.new.at ≡ address_after_line (line_of (tokens line.now)) self.old.at) }
     {
         match read_line(alloc, line) {
             Ok(Some(line)) => self.emit_parsed_line_or_error(alloc, names, &line),
@@ -262,7 +262,7 @@ fn push_errors(out: &mut String, errors: &[LineError]) -> Result<(), AllocError>
 }
 
 /// Appends the header row, which has the number of errors.
-fn push_count(out: &mut String, count: usize) -> Result<(), AllocError>
+fn push_header(out: &mut String, count: usize) -> Result<(), AllocError>
     ensures { OnOk result (string_bytes out.new ≡ string_bytes out.old ++ as_line (errors_header count)) }
 {
     write!(out, "errors {count}\n")
@@ -276,7 +276,7 @@ pub fn errors_text(alloc: Global, errors: &[LineError]) -> Result<Vec<u8>, Alloc
     ensures { IfOk result (λ text. text.items ≡ errors_text errors.now) }
 {
     let mut out = String::new(alloc);
-    push_count(&mut out, errors.len())?;
+    push_header(&mut out, errors.len())?;
     push_errors(&mut out, errors)?;
     Ok(out.into_bytes())
 }

@@ -27,7 +27,7 @@ impl Model for ByteCells {
 
 impl ByteCells {
     /// Returns 4096 empty cells. Fails if allocation fails.
-    #[tactic(auto, using(crate::proofs::CellPairs::new_rules))]
+    #[tactic(auto, using(crate::proofs::CellPairs::replicate_rules))]
     pub fn new(alloc: Global) -> Result<ByteCells, AllocError>
         ensures { IfOk result (λ c. c ≡ replicate 4096 None) }
     {
@@ -39,11 +39,11 @@ impl ByteCells {
     }
 
     /// Returns true if at least one of the `count` addresses that start at `at` has a byte.
-    pub fn is_taken(&self, at: usize, count: usize) -> bool
+    pub fn is_occupied(&self, at: usize, count: usize) -> bool
         requires { at + count ≤ 4096 }
         ensures { result ≡ list_any is_some (take count (drop at self.now)) }
     {
-        any_taken(&self.bytes[at..at + count])
+        any_occupied(&self.bytes[at..at + count])
     }
 
     /// Stores bytes at consecutive addresses, starting at `at`.
@@ -71,7 +71,7 @@ impl ByteCells {
     }
 }
 
-fn any_taken(cells: &[Option<u8>]) -> bool
+fn any_occupied(cells: &[Option<u8>]) -> bool
     ensures { result ≡ list_any is_some cells.now }
 {
     cells.iter().any(|c| c.is_some())

@@ -24,14 +24,14 @@ fn values<'a>(
     ensures { IfOk result (λ o. option_map (λ v. v.items) o
         ≡ values_in names.now.names (map operand_view operands.now)) }
 {
-    let mut found = Vec::new(alloc);
+    let mut value_list = Vec::new(alloc);
     for operand in operands {
         let Some(value) = names.value(operand) else {
             return Ok(None);
         };
-        found.push(value)?;
+        value_list.push(value)?;
     }
-    Ok(Some(found))
+    Ok(Some(value_list))
 }
 
 /// Returns true if each value is below 256.

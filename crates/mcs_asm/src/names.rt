@@ -7,7 +7,7 @@ ghost use Rattle.std.specs.Ordering.{nat_cmp};
 ghost use Rattle.std.specs.Cmp.Lexicographic.{slice_cmp};
 ghost use Rattle.std.specs.BTreeMap.{get_by};
 ghost use Rattle.mcs_asm.specs.View.{statement_view, line_view, operand_view};
-ghost use Rattle.mcs_source.specs.Assembly.{size, statement_size, is_defined, is_defined_name, defined_name, is_bad_origin, has_bad_number, next_statement, next_at, passes_end, first_pass_line_fault, value_in};
+ghost use Rattle.mcs_source.specs.Assembly.{size, statement_size, is_defined, is_defined_name, defined_name, is_bad_origin, has_bad_number, address_after_statement, address_after_line, passes_end, first_pass_line_fault, value_in};
 ghost use Rattle.mcs_asm.specs.Passes.{first_pass_start, first_pass_after_line};
 
 use crate::fault::SourceFault;
@@ -146,7 +146,7 @@ impl<'a> Names<'a> {
             SourceLine::Code(None, _) => {}
             SourceLine::Define(name, n) => self.define(name, *n as u16)?,
         }
-        self.at = next_at(line, self.at);
+        self.at = address_after_line(line, self.at);
         Ok(())
     }
 
@@ -218,8 +218,8 @@ fn has_bad_number(line: &SourceLine<'_>) -> bool
     }
 }
 
-/// Returns true if a line at address `at` passes the end of the ROM: it has a label at 4096, or
-/// emits a byte at 4096 or above.
+/// Returns true if a line at address `at` passes the end of the ROM: it has a label at address 4096, or emits a byte at
+/// address 4096 or above.
 fn passes_end(line: &SourceLine<'_>, at: u16) -> bool
     requires { at ≤ 4096 }
     ensures { result ≡ passes_end (line_view line.now) at }
@@ -232,10 +232,10 @@ fn passes_end(line: &SourceLine<'_>, at: u16) -> bool
     }
 }
 
-fn next_statement(statement: &Option<Statement<'_>>, at: u16) -> u16
+fn address_after_statement(statement: &Option<Statement<'_>>, at: u16) -> u16
     requires number { is_bad_origin (option_map statement_view statement.now) ≡ false }
     requires room { at + statement_size (option_map statement_view statement.now) ≤ 4096 }
-    ensures at { result ≡ next_statement (option_map statement_view statement.now) at }
+    ensures at { result ≡ address_after_statement (option_map statement_view statement.now) at }
     ensures within { result ≤ 4096 }
 {
     match statement {
@@ -246,15 +246,15 @@ fn next_statement(statement: &Option<Statement<'_>>, at: u16) -> u16
 
 /// Returns the address after a line at address `at`. The number in an `ORG` or `NAME = NUMBER` must
 /// be below 4096, and the line must not pass the end of the ROM.
-pub fn next_at(line: &SourceLine<'_>, at: u16) -> u16
+pub fn address_after_line(line: &SourceLine<'_>, at: u16) -> u16
     requires start { at ≤ 4096 }
     requires number { has_bad_number (line_view line.now) ≡ false }
     requires room { passes_end (line_view line.now) at ≡ false }
-    ensures at { result ≡ next_at (Some (line_view line.now)) at }
+    ensures at { result ≡ address_after_line (Some (line_view line.now)) at }
     ensures within { result ≤ 4096 }
 {
     match line {
         SourceLine::Define(_, _) => at,
-        SourceLine::Code(_, statement) => next_statement(statement, at),
+        SourceLine::Code(_, statement) => address_after_statement(statement, at),
     }
 }

@@ -12,7 +12,7 @@ ghost use Rattle.mcs_asm.specs.ByteCells.{HoldsPairs};
 use crate::byte_cells::ByteCells;
 use crate::bytes::line_bytes;
 use crate::fault::{AsmFault, FaultKind, SourceFault};
-use crate::names::{Names, next_at};
+use crate::names::{Names, address_after_line};
 use crate::statements::read_line;
 use crate::surveys::Survey;
 use crate::text::lines;
@@ -67,8 +67,8 @@ fn add_line_number(index: usize, line_result: Result<(), FaultKind>) -> Result<(
 
 /// Runs the first pass. Returns the names that the lines define and the address after the last
 /// line, or the first error that this pass finds. The possible errors are 30 (bad statement), 31
-/// (name already defined), 33 (number out of range), 36 (address past the end of the ROM) and 37
-/// (too many names).
+/// (name already defined), 33 (number out of range), 36 (address past the end of the ROM) and 37 (too many names). Also
+/// fails if allocation fails.
 fn first_pass<'a>(alloc: Global, lines: &[&'a [u8]]) -> Result<Names<'a>, AsmFault>
     ensures { IsFirstPassResult result (read (map (λ l. l.now) lines.now)) }
 {
@@ -116,7 +116,7 @@ impl SecondPassState {
         ensures next { OnOk result (self.new.at ≡ next) }
     {
         let at = usize::from(self.at);
-        if self.cells.is_taken(at, bytes.len()) {
+        if self.cells.is_occupied(at, bytes.len()) {
             return Err(FaultKind::Refused(SourceFault::Overlap));
         }
         push_span(&mut self.spans, self.at, bytes)?;
@@ -146,14 +146,15 @@ impl SecondPassState {
             return Err(FaultKind::Refused(SourceFault::BadStatement));
         };
         let bytes = line_bytes(alloc, self.at, names, &line)?;
-        let next = next_at(&line, self.at);
+        let next = address_after_line(&line, self.at);
         self.add(&bytes, next)
     }
 }
 
 /// Runs the second pass over lines without first-pass errors. Returns the survey and the bytes of
 /// all lines, or the first error that this pass finds. The possible errors are: an undefined name
-/// (32), a value out of range (33), an address on the wrong page (34), or an overlap (35).
+/// (32), a value out of range (33), an address on the wrong page (34), or an overlap (35). Also fails if allocation
+/// fails.
 fn second_pass<'a>(
     alloc: Global,
     names: Names<'a>,
@@ -174,8 +175,8 @@ fn second_pass<'a>(
     Ok((Survey::new(pass_state.spans, names), pass_state.cells))
 }
 
-/// Runs both passes over a source text. Returns the survey and the bytes of the text, or the first
-/// error in the text.
+/// Runs both passes over a source text. Returns the survey and the bytes of the text, or the first error in the text.
+/// Also fails if allocation fails.
 fn both_passes<'a>(alloc: Global, source: &'a str) -> Result<(Survey<'a>, ByteCells), AsmFault>
     ensures { IsResultOfBothPasses result source.now }
 {

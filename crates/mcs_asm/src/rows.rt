@@ -1,4 +1,4 @@
-//! Writes a survey as text. The text is the answer of the shell to `map`.
+//! Writes a survey as text. The shell answers `map` with this text.
 ghost use Rattle.std.specs.Prelude.{◌≡◌, ◌<◌, ◌++◌, string_bytes, map, OnOk, IfOk};
 ghost use Rattle.mcs_model.specs.QueryText.{address_text, hex_digit};
 ghost use Rattle.mcs_model.specs.TextLines.{as_line, text_of};

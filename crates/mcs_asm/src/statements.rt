@@ -2,7 +2,7 @@
 ghost use Rattle.std.specs.Prelude.{◌≡◌, map, option_map, IfOk, MatchOption, ◌∷◌, Some, None};
 ghost use Rattle.std.specs.Option.{option_copied};
 ghost use Rattle.mcs_source.specs.Lexical.{Word, Colon, Equals, tokens, Token};
-ghost use Rattle.mcs_source.specs.Lines.{Whole, statement_after_mnemonic, bare_statement, first_operand, first_pair, first_register, line_of, one_number, one_operand, one_pair, one_register, operand_of, operands_of, code_line, statement_of, unlabelled, word_before_comma, single_word};
+ghost use Rattle.mcs_source.specs.Lines.{Whole, statement_after_mnemonic, bare_statement, first_operand, first_pair, first_register, line_of, one_number, one_operand, one_pair, one_register, operand_of, operands_of, code_line, statement_of, unlabelled_line, word_before_comma, single_word};
 ghost use Rattle.mcs_asm.specs.ListItems.{tokens_if_comma, list_item};
 ghost use Rattle.mcs_source.specs.declared.mnemonic.Mnemonic.TheVariants.{Org, Jcn, Fim, Isz};
 ghost use Rattle.mcs_asm.specs.View.{operand_view, statement_view, line_view, HasNoLabel, HasNoDefinition, IsNotDb};
@@ -165,14 +165,14 @@ fn operands<'a>(
     ensures { IfOk result (λ o. option_map (λ vs. map operand_view vs.items) o
         ≡ operands_of tokens.old) }
 {
-    let mut found = Vec::new(alloc);
+    let mut operand_list = Vec::new(alloc);
     loop {
         let Some((value, more)) = list_item(tokens) else {
             return Ok(None);
         };
-        found.push(value)?;
+        operand_list.push(value)?;
         if !more {
-            return Ok(Some(found));
+            return Ok(Some(operand_list));
         }
     }
 }
@@ -334,7 +334,7 @@ fn read_line_without_label<'a>(
     alloc: Global,
     line: &'a [u8],
 ) -> Result<Option<SourceLine<'a>>, AllocError>
-    ensures { IfOk result (λ o. option_map line_view o ≡ unlabelled (tokens line.now)) }
+    ensures { IfOk result (λ o. option_map line_view o ≡ unlabelled_line (tokens line.now)) }
 {
     match split_definition(line) {
         None => read_after_label(alloc, None, &mut Tokens::new(line)),

@@ -36,11 +36,11 @@ fn first_line(bytes: &[u8]) -> Option<(&[u8], &[u8])>
 pub fn lines(alloc: Global, bytes: &[u8]) -> Result<Vec<&[u8]>, AllocError>
     ensures { IfOk result (λ v. map (λ l. l.now) v.items ≡ lines_of bytes.now) }
 {
-    let mut found = Vec::new(alloc);
+    let mut line_list = Vec::new(alloc);
     let mut rest = bytes;
     while let Some((line, after)) = first_line(rest) {
-        found.push(line)?;
+        line_list.push(line)?;
         rest = after;
     }
-    Ok(found)
+    Ok(line_list)
 }

@@ -40,8 +40,8 @@ macro_rules! return_if_equal {
 /// Expands to a comparison of the word with the name in a row, if the row is in the group
 /// `$wanted`. Otherwise expands to nothing.
 ///
-/// The opcode table is split into six groups for the proofs: one proof about 45 names takes far
-/// longer than six proofs, each about eight names.
+/// The opcode table is split into six groups for the proofs: one proof about 45 names takes far longer than six proofs,
+/// each with 7 to 9 names.
 macro_rules! test_row_in_group {
     (group1 group1 $word:ident $name:ident $kind:ident $text:literal) => {
         return_if_equal!($word $name $kind $text)
@@ -189,8 +189,8 @@ pub fn pair_named(word: &[u8]) -> Option<PairNo>
     }
 }
 
-/// Returns true if a word is reserved, in upper or lower case: a mnemonic, `ORG`, `DB`, `WPM`, or
-/// the name of a register or a pair.
+/// Returns true if a word is reserved, regardless of case: a mnemonic, `ORG`, `DB`, `WPM`, or the name of a register or
+/// a pair.
 #[tactic(auto, unfolding(mcs_source::specs::Lines::is_reserved))]
 fn is_reserved(word: &[u8]) -> bool
     ensures { result ≡ is_reserved word.now }

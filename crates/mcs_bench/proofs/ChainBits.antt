@@ -1,4 +1,4 @@
--- Lemmas about the lists of the bits of each chain.
+-- Lemmas about `bits_of_chains`, the list of each chain's bits.
 use Rattle.std.proofs.Common.{◌≡◌, ℕ, zero, suc, ◌<◌, List, [], ◌∷◌, length, get_or, refl, sym, ap, arith}
 use Rattle.arrayvec.specs.ArrayVec.{ArrayVec}
 use Rattle.mcs_bench.specs.States.{bits_of_chains}

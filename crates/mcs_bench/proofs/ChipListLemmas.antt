@@ -1,4 +1,4 @@
--- Lemmas about the lists of the values in the chips, index by index.
+-- Lemmas about the lists of chip values (`ChipList`), index by index.
 use Rattle.std.proofs.Common.{◌≡◌, ℕ, ◌+◌, ◌*◌, ◌/◌, ◌%◌, ◌<◌, ◌≤◌, true, false, inl, inr, cond, List, length, get_or, slice_index, slice_set, Option, Some, None, is_some, is_none, nat_lt, nat_le, refl, sym, ap, subst, ◌∙◌, arith}
 use Rattle.std.specs.Prelude.{MatchOption}
 use Rattle.std.proofs.lemmas.Bool.{cases_lt, le-leb, leb-true}
@@ -116,46 +116,46 @@ zero-where-absent-if-valid s v RamPorts i l e =
     rw place at (v.ram_ports (i / 4) (i % 4) (omega arith) (leb-true _ _ e))
 zero-where-absent-if-valid s v BankSrcBytes i below e = v.ram_src i (let l = leb-true _ _ e in omega arith)
 
-index-past-end : (xs : List ℕ) (i : ℕ) → length xs ≤ i → slice_index xs i ≡ 0
-index-past-end xs i l = get_or_past xs i 0 l
+zero-past-end : (xs : List ℕ) (i : ℕ) → length xs ≤ i → slice_index xs i ≡ 0
+zero-past-end xs i l = get_or_past xs i 0 l
 
 pub absent-parts-zero-if-lists-zero : (s : BusState) → IsInRange s → ((h : ChipList) → IsZeroWhereAbsent s h) → ((chip : ℕ) → MatchOption (rom_masks s.board chip) (slice_index s.rom_ports chip ≡ 0) (λ mask. latch_value mask (slice_index s.rom_ports chip) ≡ slice_index s.rom_ports chip)) → AbsentPartsAreZero s
 absent-parts-zero-if-lists-zero s v zero ports = record {
   rom = λ at none.
       elim (cases_lt at 4096) [
         | inl l ↦ zero RomBytes at l (ap is_none none)
-        | inr g ↦ index-past-end s.rom at (let e = v.rom.has_count in omega arith)
+        | inr g ↦ zero-past-end s.rom at (let e = v.rom.has_count in omega arith)
       ];
-  ram = λ bank src l gone.
+  ram = λ bank src l chip_absent.
       elim (cases_lt (bank * 256 + src) 2048) [
-        | inl h ↦ zero RamNibbles (bank * 256 + src) h (let b : (bank * 256 + src) / 256 ≡ bank = omega arith in let c : (bank * 256 + src) % 256 ≡ src = omega arith in rw (b, c) (le-leb (slice_index s.board.banks bank) (src / 64) gone))
-        | inr g ↦ index-past-end s.ram (bank * 256 + src) (let e = v.ram.has_count in omega arith)
+        | inl h ↦ zero RamNibbles (bank * 256 + src) h (let b : (bank * 256 + src) / 256 ≡ bank = omega arith in let c : (bank * 256 + src) % 256 ≡ src = omega arith in rw (b, c) (le-leb (slice_index s.board.banks bank) (src / 64) chip_absent))
+        | inr g ↦ zero-past-end s.ram (bank * 256 + src) (let e = v.ram.has_count in omega arith)
       ];
-  status = λ bank high k h16 k4 gone.
+  status = λ bank high k h16 k4 chip_absent.
       elim (cases_lt (bank * 64 + (high * 4 + k)) 512) [
-        | inl h ↦ zero StatusCharacters (bank * 64 + (high * 4 + k)) h (let b : (bank * 64 + (high * 4 + k)) / 64 ≡ bank = omega arith in let c : (bank * 64 + (high * 4 + k)) % 64 / 16 ≡ high / 4 = omega arith in rw (b, c) (le-leb (slice_index s.board.banks bank) (high / 4) gone))
-        | inr g ↦ index-past-end s.status (bank * 64 + (high * 4 + k)) (let e = v.status.has_count in omega arith)
+        | inl h ↦ zero StatusCharacters (bank * 64 + (high * 4 + k)) h (let b : (bank * 64 + (high * 4 + k)) / 64 ≡ bank = omega arith in let c : (bank * 64 + (high * 4 + k)) % 64 / 16 ≡ high / 4 = omega arith in rw (b, c) (le-leb (slice_index s.board.banks bank) (high / 4) chip_absent))
+        | inr g ↦ zero-past-end s.status (bank * 64 + (high * 4 + k)) (let e = v.status.has_count in omega arith)
       ];
-  ram_ports = λ bank chip l gone.
+  ram_ports = λ bank chip l chip_absent.
       elim (cases_lt (bank * 4 + chip) 32) [
-        | inl h ↦ zero RamPorts (bank * 4 + chip) h (let b : (bank * 4 + chip) / 4 ≡ bank = omega arith in let c : (bank * 4 + chip) % 4 ≡ chip = omega arith in rw (b, c) (le-leb (slice_index s.board.banks bank) chip gone))
-        | inr g ↦ index-past-end s.ram_ports (bank * 4 + chip) (let e = v.ram_ports.has_count in omega arith)
+        | inl h ↦ zero RamPorts (bank * 4 + chip) h (let b : (bank * 4 + chip) / 4 ≡ bank = omega arith in let c : (bank * 4 + chip) % 4 ≡ chip = omega arith in rw (b, c) (le-leb (slice_index s.board.banks bank) chip chip_absent))
+        | inr g ↦ zero-past-end s.ram_ports (bank * 4 + chip) (let e = v.ram_ports.has_count in omega arith)
       ];
   rom_ports = ports;
   ram_src = λ bank none.
       elim (cases_lt bank 8) [
         | inl h ↦ zero BankSrcBytes bank h (le-leb (slice_index s.board.banks bank) 0 (omega arith))
-        | inr g ↦ index-past-end s.ram_src bank (let e = v.ram_src.has_count in omega arith)
+        | inr g ↦ zero-past-end s.ram_src bank (let e = v.ram_src.has_count in omega arith)
       ];
 }
 
--- a list of any kind has 0 for absent chips, if each of the five lists has 0 for absent chips
-pub each-list-is-zero : (s : BusState) → IsZeroWhereAbsent s RomBytes → IsZeroWhereAbsent s RamNibbles → IsZeroWhereAbsent s StatusCharacters → IsZeroWhereAbsent s RamPorts → IsZeroWhereAbsent s BankSrcBytes → (h : ChipList) → IsZeroWhereAbsent s h
-each-list-is-zero s a b c d e RomBytes = a
-each-list-is-zero s a b c d e RamNibbles = b
-each-list-is-zero s a b c d e StatusCharacters = c
-each-list-is-zero s a b c d e RamPorts = d
-each-list-is-zero s a b c d e BankSrcBytes = e
+-- if the elements of absent chips are 0 in each of the five lists, they are 0 in a list of any kind
+pub zero-where-absent-in-each-list : (s : BusState) → IsZeroWhereAbsent s RomBytes → IsZeroWhereAbsent s RamNibbles → IsZeroWhereAbsent s StatusCharacters → IsZeroWhereAbsent s RamPorts → IsZeroWhereAbsent s BankSrcBytes → (h : ChipList) → IsZeroWhereAbsent s h
+zero-where-absent-in-each-list s a b c d e RomBytes = a
+zero-where-absent-in-each-list s a b c d e RamNibbles = b
+zero-where-absent-in-each-list s a b c d e StatusCharacters = c
+zero-where-absent-in-each-list s a b c d e RamPorts = d
+zero-where-absent-in-each-list s a b c d e BankSrcBytes = e
 
 -- ---- filling a list
 
@@ -181,10 +181,10 @@ chip-list-filled-if-element-kept : (start s t : BusState) (h : ChipList) (goal :
 chip-list-filled-if-element-kept start s t h goal i same f to = subst (λ (u : BusState). Fills start u h goal (i + 1)) (sym to) (record { others = f.others; filled = filled-if-element-kept (chip_list_in start h) goal (chip_list_in s h) i same f.filled })
 
 pub chip-list-filled-with-next : (start s t : BusState) (h : ChipList) (goal : List ℕ) (i n : ℕ) → i < length goal → n ≡ get_or goal i 0 → (is_chip_absent start.board h i ≡ true → get_or (chip_list_in start h) i 0 ≡ get_or goal i 0) → Fills start s h goal i → t ≡ with_chip_value s h i n → Fills start t h goal (i + 1)
-chip-list-filled-with-next start s t h goal i n l is gone f to =
+chip-list-filled-with-next start s t h goal i n l is zero_if_absent f to =
     let board : s.board ≡ start.board = ap (λ (u : BusState). u.board) f.others ∙ board-of-with_chip_list start h (chip_list_in s h) in
     elim (is_chip_absent s.board h i) as (λ v. is_chip_absent s.board h i ≡ v → t ≡ cond v s (with_chip_list s h (slice_set (chip_list_in s h) i n)) → Fills start t h goal (i + 1)) [
-      | true ↦ λ e to. chip-list-filled-if-element-kept start s t h goal i (gone (subst (λ (b : BoardParts). is_chip_absent b h i ≡ true) board e)) f to
+      | true ↦ λ e to. chip-list-filled-if-element-kept start s t h goal i (zero_if_absent (subst (λ (b : BoardParts). is_chip_absent b h i ≡ true) board e)) f to
       | false ↦ λ e to. chip-list-filled-after-set start s t h goal i n l is f to
     ] refl to
 

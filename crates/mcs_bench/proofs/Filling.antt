@@ -26,7 +26,8 @@ filled-after-set old goal now i place n l at is f = rw (at, is) (record {
   rest = λ k h. let ne : k ≢ i = omega arith in get_or-set_other now i k (get_or goal i 0) 0 ne ∙ f.rest k (omega arith);
 })
 
--- if element `i` already equals element `i` of `goal`, the filled part is longer by one element
+-- if element `i` of `old` already equals element `i` of `goal`, the filled part also includes
+-- element `i`
 pub filled-if-element-kept : (old goal now : List ℕ) (i : ℕ) → get_or old i 0 ≡ get_or goal i 0 → IsFilled old goal i now → IsFilled old goal (i + 1) now
 filled-if-element-kept old goal now i same f = record {
   len = f.len;

@@ -91,9 +91,9 @@ ram-unchanged-unless-wrm None s h = refl
 ram-unchanged-unless-wrm (Some op) s h = ram-unchanged-by-other-op op _ s.1 (λ e. h (ap Some e))
 
 -- a cycle changes no RAM nibble if the instruction at the program counter is not WRM
-pub cycle-keeps : (s : Machine) → instruction_at s.0 s.1 ≢ Some Wrm → (after_cycles 1 s).1.ram ≡ s.1.ram
+pub ram-unchanged-by-cycle-without-wrm : (s : Machine) → instruction_at s.0 s.1 ≢ Some Wrm → (after_cycles 1 s).1.ram ≡ s.1.ram
 unfolding cycle_of
-cycle-keeps s h =
+ram-unchanged-by-cycle-without-wrm s h =
     elim (eqb s.0.owed 1) as (λ v. (unwrap_or (cond v (Some (record s.0 { owed = 0 }, s.1)) (elim (instruction_at s.0 s.1) [ Some op ↦ Some (effect op s.0 s.1) | None ↦ None ])) s).1.ram ≡ s.1.ram) [
       | true ↦ refl
       | false ↦ ram-unchanged-unless-wrm (instruction_at s.0 s.1) s h

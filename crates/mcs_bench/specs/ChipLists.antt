@@ -1,5 +1,5 @@
--- Lists of the values in a board's chips, and a test whether the board lacks the chip that holds an
--- element. (Defined by Fethsaim, not by Intel.)
+-- Lists of the values in a board's chips, and a test for elements whose chip is absent. (Defined by
+-- Fethsaim, not by Intel.)
 use Rattle.std.specs.Prelude.{◌≡◌, ℕ, ◌<◌, ◌/◌, ◌%◌, Bool, true, List, is_none, nat_le, slice_index, slice_set, if◌then◌else◌}
 use Rattle.mcs_model.specs.declared.board.BoardParts.{BoardParts}
 use Rattle.mcs_model.specs.Boards.{rom_masks, has_key, key_index}

@@ -65,8 +65,8 @@ PredictsWatchChange watches t b =
     ⊎ ((instruction_at t.0 t.1 ≡ Some Wrm) ×
     (b ≡ (is_listed watches (selected_index t) && wrm_changes_selected_nibble t)))
 
--- Holds if none of the `d` cycles from `t`, except the last, changes a watched RAM nibble.
--- `changed_watch` is true exactly when the last cycle changes one.
+-- Holds if no cycle before the last of the `d` cycles from `t` changes a watched RAM nibble.
+-- `changed_watch` is true exactly when the last cycle changes a watched RAM nibble.
 pub record WatchChanges (watches : List ℕ) (t : Machine) (d : ℕ) (changed_watch : Bool) : Type 0 where
   pub before : (j : ℕ) → 0 < j → j < d → has_changed watches (after_cycles (j - 1) t) (after_cycles j t) ≡ false
   pub last : 0 < d → has_changed watches (after_cycles (d - 1) t) (after_cycles d t) ≡ changed_watch
@@ -101,8 +101,8 @@ pub record IsStepResult (s t : Machine) (k : ℕ) (why : Stop) : Type 0 where
   pub machine : t ≡ after_step s
   pub stop : why ≡ step_stop_reason s
 
--- if no breakpoint is set and no RAM nibble is watched, two runs reach the same state as one run of
--- their total cycles
+-- A run of at most `a` cycles and then a run of at most `b` cycles reach the same state as one run
+-- of at most `a + b` cycles. No breakpoint may be set, and no RAM nibble may be watched.
 abbrev pub RunsAddUp : Type 0
 RunsAddUp =
     (s : BenchState) (a b : ℕ) → s.breakpoints ≡ [] → s.watches ≡ [] →

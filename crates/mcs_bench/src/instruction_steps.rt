@@ -15,7 +15,7 @@ impl Bench {
     #[inline(always)]
     pub fn continue_run(&mut self, left: u32) -> Option<InstructionResult>
         requires { 0 < left }
-        ensures went { MatchOption result
+        ensures executed { MatchOption result
             ((is_outside_table (machine_of self.old) ≡ true) × (self.new ≡ self.old))
             (IsInstructionResult (stops_of self.old) left (machine_of self.old) (machine_of self.new)) }
         ensures rest { self.new ≡ with_machine self.old (machine_of self.new) }

@@ -7,9 +7,9 @@ use crate::bench::Bench;
 use mcs_model::regs::Regs;
 use mcs_nibble::{Addr, Nibble};
 
-/// Proves that two runs reach the same state as one run of their total cycles, if no breakpoint is set and no RAM
-/// nibble is watched. The law is about the effect of the runs (`after_change`), which does not count them as
-/// commands.
+/// Proves that two consecutive runs, of at most `a` and `b` cycles, reach the same state as one run of at most `a + b`
+/// cycles. The law requires that no breakpoint is set and that no RAM nibble is watched. The law is about the effect of
+/// the runs (`after_change`), which does not count them as commands.
 pub fn runs_add_up()
     ensures { RunsAddUp }
 {
@@ -40,7 +40,7 @@ fn show_registers_are_valid(regs: Regs)
     requires owed { regs.owed < 2 }
     ensures { IsValidRegs regs }
 {
-    let _flags = (regs.acc.get(), regs.cy.get(), regs.pc.get());
+    let _numbers = (regs.acc.get(), regs.cy.get(), regs.pc.get());
     show_nibbles_are_in_range(&regs.r);
     show_addresses_are_in_range(&regs.ret);
 }

@@ -169,12 +169,12 @@ pub(crate) fn continue_run(
     match mcs_board::instruction(cpu, rig, at) {
         None => None,
         Some(op) => {
-            let changes = op_changes_any_watch(cpu, rig, watches, &op, at);
+            let changes_watch = op_changes_any_watch(cpu, rig, watches, &op, at);
             let (next, cycles) = mcs_board::run_instruction(cpu, rig, op, at, left);
             cpu.set_pc(next);
             Some(InstructionResult {
                 cycles,
-                mark: debug_stop_at(cpu, next, breaks, changes),
+                mark: debug_stop_at(cpu, next, breaks, changes_watch),
                 op: Some(op),
             })
         }
@@ -236,7 +236,7 @@ fn run_fast(
     ensures { RunReaches (record { breaks = breaks.now; watches = watches.now }) n (cpu.old, rig.old)
         (cpu.new, rig.new) result.0 result.1 }
 {
-    // No reference to this copy exists outside the loop, so its registers need not go through memory at each cycle.
+    // No reference to this copy exists outside the loop, so the compiler can keep its fields in machine registers.
     let mut copy = *cpu;
     let (done, at, mark) = if watches.is_empty() {
         fast_loop::<false>(&mut copy, rig, breaks, watches, n)

@@ -1,5 +1,5 @@
--- Properties of a valid board: its lines exist, and the clock and data lines of its chains are
--- output lines.
+-- Lemmas about a valid board: its output lines and lamp lines exist. The clock and data lines of
+-- its chains are output lines. Its key rows fit in their chain.
 use Rattle.std.proofs.Common.{◌≡◌, ℕ, ◌+◌, ◌<◌, ◌≤◌, inl, inr, Option, Some, None, Bool, true, false, length, sym, ap, ◌∙◌, arith, nat_lt, nat_le, not, ◌||◌, slice_get}
 use Rattle.std.proofs.lemmas.Option.{get_or_from_slice_get, slice_get_past}
 use Rattle.std.proofs.lemmas.Bool.{cases_lt, or_parts, and_parts, not-false}
@@ -43,11 +43,11 @@ chain_lines-are_outputs b i v l =
     let chains = (or_parts (any_chain_line p b) (any_column (λ line. not (is_input_line b line)) b) first).0 in
     test_false-if_list_any_false (λ (c : ChainPart). not (is_output_line b c.clock) || not (is_output_line b c.data_in)) b.chains.items i no_chain chains l
 
-pub clock-output : (b : BoardParts) (i : ℕ) → board_fault_of b ≡ None → i < chain_count b → is_output_line b (chain_part b i).clock ≡ true
-clock-output b i v l = not-false _ (or_parts (not (is_output_line b (chain_part b i).clock)) (not (is_output_line b (chain_part b i).data_in)) (chain_lines-are_outputs b i v l)).0
+pub clock_line-is_output : (b : BoardParts) (i : ℕ) → board_fault_of b ≡ None → i < chain_count b → is_output_line b (chain_part b i).clock ≡ true
+clock_line-is_output b i v l = not-false _ (or_parts (not (is_output_line b (chain_part b i).clock)) (not (is_output_line b (chain_part b i).data_in)) (chain_lines-are_outputs b i v l)).0
 
-pub data-output : (b : BoardParts) (i : ℕ) → board_fault_of b ≡ None → i < chain_count b → is_output_line b (chain_part b i).data_in ≡ true
-data-output b i v l = not-false _ (or_parts (not (is_output_line b (chain_part b i).clock)) (not (is_output_line b (chain_part b i).data_in)) (chain_lines-are_outputs b i v l)).1
+pub data_line-is_output : (b : BoardParts) (i : ℕ) → board_fault_of b ≡ None → i < chain_count b → is_output_line b (chain_part b i).data_in ≡ true
+data_line-is_output b i v l = not-false _ (or_parts (not (is_output_line b (chain_part b i).clock)) (not (is_output_line b (chain_part b i).data_in)) (chain_lines-are_outputs b i v l)).1
 
 pub output_line-exists : (b : BoardParts) (line : Line) → is_output_line b line ≡ true → is_on_board b line ≡ true
 output_line-exists b (Rom chip k) h = (and_parts (is_on_board b (Rom chip k)) (not (is_rom_input_line b chip k)) h).0

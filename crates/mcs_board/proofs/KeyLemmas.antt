@@ -17,9 +17,10 @@ use Rattle.mcs_board.proofs.ClockLemmas.{wired_chains-at_index}
 pub matrix_of_board-with_keys : (b : BoardParts) (m : KeyMatrix) → b.keys ≡ Some m → matrix_of_board b ≡ m
 matrix_of_board-with_keys b m e = ap (λ (o : Option KeyMatrix). elim o [ Some k ↦ k | None ↦ empty_matrix ]) e
 
--- The chain that drives the key rows has a bit for each row.
-pub rows-fit : (b : BoardParts) (chains : List (List ℕ)) (m : KeyMatrix) → board_fault_of b ≡ None → b.keys ≡ Some m → ((i : ℕ) → i < chain_count b → length (get_or chains i []) ≡ chain_bits b i) → m.first + m.rows ≤ length (get_or chains m.chain [])
-rows-fit b chains m v is bits =
+-- If a rig's chains have the lengths that the board requires, the chain that drives the key rows has
+-- a bit for each row.
+pub key_rows-fit_in_chain_bits : (b : BoardParts) (chains : List (List ℕ)) (m : KeyMatrix) → board_fault_of b ≡ None → b.keys ≡ Some m → ((i : ℕ) → i < chain_count b → length (get_or chains i []) ≡ chain_bits b i) → m.first + m.rows ≤ length (get_or chains m.chain [])
+key_rows-fit_in_chain_bits b chains m v is bits =
     let fit = key_rows-fit_in_chain b m v is in
     let len = bits m.chain (key_chain-exists b m v is) in
     omega arith
@@ -28,9 +29,9 @@ is_pulled-with_keys : (s : BusState) (m : KeyMatrix) (chip k : ℕ) → s.board.
 unfolding is_pulled
 is_pulled-with_keys s m chip k is = rw (is, is_pulled) refl
 
-pub is_pulled-no_keys : (s : BusState) (chip k : ℕ) → s.board.keys ≡ None → false ≡ is_pulled s chip k
+pub is_pulled-without_keys : (s : BusState) (chip k : ℕ) → s.board.keys ≡ None → false ≡ is_pulled s chip k
 unfolding is_pulled
-is_pulled-no_keys s chip k is = rw (is, is_pulled) refl
+is_pulled-without_keys s chip k is = rw (is, is_pulled) refl
 
 -- A rig's keys pull a line to 1 exactly when the line is pulled in the rig's flat state.
 pub is_pulled-in_rig : (p : RigParts) (m : KeyMatrix) (chip k : ℕ) → board_fault_of p.board ≡ None → p.board.keys ≡ Some m → is_pulled_by (get_or p.chains m.chain []) p.keys m chip k ≡ is_pulled (state_of_rig p) chip k
@@ -61,7 +62,8 @@ line_value-equal Input a b e = e
 line_value-equal Zero a b e = refl
 line_value-equal One a b e = refl
 
--- A port reads the same value if the levels of its input lines are first packed into a nibble.
+-- If the levels of a port's lines are first packed into a nibble, the value read from the port is
+-- the same.
 pub read_lines-of_packed_levels : (f : ℕ → ℕ) (mask : List LineMask) → ((j : ℕ) → f j < 2) → read_lines (bit_of (nibble_of f)) mask ≡ read_lines f mask
 unfolding read_lines
 read_lines-of_packed_levels f mask h =

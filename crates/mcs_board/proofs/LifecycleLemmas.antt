@@ -4,7 +4,7 @@ use Rattle.std.proofs.lemmas.Bool.{cases_lt}
 use Rattle.std.proofs.lemmas.List.{get_or-replicate, get_or_past, length-replicate, length-map, get_or-map}
 use Rattle.mcs_nibble.specs.declared.lines.LineMask.{LineMask}
 use Rattle.mcs_nibble.specs.Tables.{table_of, column, flat_rows}
-use Rattle.mcs_nibble.proofs.TabledLemmas.{length-table_of, get_or-table_of, table_of-unique}
+use Rattle.mcs_nibble.proofs.TableLemmas.{length-table_of, get_or-table_of, table_of-unique}
 use Rattle.mcs_nibble.proofs.FlatRowsLemmas.{zero-flat_rows, zero-column}
 use Rattle.mcs_ram4002.specs.RamBank.{BankState, blank_bank}
 use Rattle.mcs_rom4001.specs.Roms.{PortState}
@@ -208,8 +208,8 @@ new_parts rom_sockets bank_sockets chain_sockets = record {
 }
 
 -- The sockets of a new rig match the empty board.
-pub matches_board-new_rig : (rom_sockets bank_sockets chain_sockets : ℕ) → MatchesBoard (new_parts rom_sockets bank_sockets chain_sockets) rom_sockets bank_sockets chain_sockets
-matches_board-new_rig rom_sockets bank_sockets chain_sockets = record {
+pub matches_board-of_new_rig : (rom_sockets bank_sockets chain_sockets : ℕ) → MatchesBoard (new_parts rom_sockets bank_sockets chain_sockets) rom_sockets bank_sockets chain_sockets
+matches_board-of_new_rig rom_sockets bank_sockets chain_sockets = record {
   roms_len = length-replicate rom_sockets None;
   banks_len = length-replicate bank_sockets (blank_bank 0);
   chains_len = length-replicate chain_sockets [];
@@ -224,9 +224,9 @@ matches_board-new_rig rom_sockets bank_sockets chain_sockets = record {
 }
 
 -- The flat state of a new rig is all 0, except for TEST, which is 1.
-pub new-state : (rom_sockets bank_sockets chain_sockets : ℕ) → state_of_rig (new_parts rom_sockets bank_sockets chain_sockets) ≡ record zero_bus { test = 1 }
+pub state-of_new_rig : (rom_sockets bank_sockets chain_sockets : ℕ) → state_of_rig (new_parts rom_sockets bank_sockets chain_sockets) ≡ record zero_bus { test = 1 }
 unfolding zero_bus table_of
-new-state rom_sockets bank_sockets chain_sockets =
+state-of_new_rig rom_sockets bank_sockets chain_sockets =
     let blank : AllBlank (replicate bank_sockets (blank_bank 0)) (λ _. 0) = record { at = λ k h. let l = length-replicate bank_sockets (blank_bank 0) in get_or-replicate bank_sockets k (blank_bank 0) absent_bank (omega arith) } in
     let z = blank_banks-read_as_zeros (replicate bank_sockets (blank_bank 0)) (λ _. 0) blank in
     let ports = rom_latches-zero (replicate rom_sockets None) (λ k. ap latch_of_rom (get_or-replicate_default rom_sockets k None)) in

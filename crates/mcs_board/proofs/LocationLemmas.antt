@@ -2,7 +2,7 @@
 use Rattle.std.proofs.Common.{◌≡◌, ℕ, ◌*◌, ◌/◌, ◌^◌, ◌<◌, ◌≤◌, List, [], None, is_some, true, false, true≢false, length, get_or, slice_set, slice_index, refl, sym, ap, ◌∙◌, arith}
 use Rattle.std.proofs.lemmas.List.{set-get_or, set_past, get_or_past, get_or-set_other}
 use Rattle.std.proofs.Math.Nat.{mul-le-mul_right}
-use Rattle.mcs_nibble.proofs.TabledLemmas.{length-table_of}
+use Rattle.mcs_nibble.proofs.TableLemmas.{length-table_of}
 use Rattle.mcs_model.specs.declared.board.BoardParts.{BoardParts}
 use Rattle.mcs_model.specs.Boards.{rom_masks, chain_count}
 use Rattle.mcs_model.specs.Bus.{BusState}

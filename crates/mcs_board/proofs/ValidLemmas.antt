@@ -6,7 +6,7 @@ use Rattle.std.proofs.lemmas.List.{get_or_past}
 use Rattle.mcs_nibble.specs.declared.lines.LineMask.{LineMask}
 use Rattle.mcs_nibble.specs.Ports.{latch_value}
 use Rattle.mcs_nibble.specs.Tables.{column, flat_rows}
-use Rattle.mcs_nibble.proofs.TabledLemmas.{length-table_of}
+use Rattle.mcs_nibble.proofs.TableLemmas.{length-table_of}
 use Rattle.mcs_nibble.proofs.FlatRowsLemmas.{length-flat_rows, length-column}
 use Rattle.mcs_nibble.proofs.PortLemmas.{latch_value-zero}
 use Rattle.mcs_ram4002.specs.RamBank.{BankState, IsValidBank}
@@ -16,7 +16,7 @@ use Rattle.mcs_model.specs.Boards.{rom_masks, chain_count}
 use Rattle.mcs_model.specs.Validity.{IsValidBoard, IsValidBus}
 use Rattle.mcs_board.specs.RigState.{RigParts, absent_bank, latch_of_rom, masks_of_rom, wired_chains, state_of_rig, MatchesBoard}
 use Rattle.mcs_board.proofs.ClockLemmas.{wired_chains-at_index}
-use Rattle.mcs_board.proofs.RigLemmas.{src-of, main_nibble-in_flat_list, status-of, ram_latch-in_flat_list, rom_latch-in_flat_list}
+use Rattle.mcs_board.proofs.RigLemmas.{src-in_flat_list, main_nibble-in_flat_list, status-in_flat_list, ram_latch-in_flat_list, rom_latch-in_flat_list}
 
 -- holds if each chip on a rig is valid: the ROM bytes are below 256, and each ROM port and each
 -- bank is valid
@@ -54,8 +54,8 @@ zero_latch-is_masked None n is = is
 
 module _ (banks : List BankState) (valid : (k : ℕ) → k < length banks → IsValidBank (get_or banks k absent_bank)) where
   -- A property of the absent bank and of every valid bank holds for each bank of the list.
-  at_bank : (P : BankState → Type 0) → P absent_bank → ((b : BankState) → IsValidBank b → P b) → (k : ℕ) → P (get_or banks k absent_bank)
-  at_bank P none each k =
+  property-at_each_bank : (P : BankState → Type 0) → P absent_bank → ((b : BankState) → IsValidBank b → P b) → (k : ℕ) → P (get_or banks k absent_bank)
+  property-at_each_bank P none each k =
       elim (cases_lt k (length banks)) [
         | inl l ↦ each (get_or banks k absent_bank) (valid k l)
         | inr beyond ↦ subst P (sym (get_or_past banks k absent_bank beyond)) none
@@ -66,7 +66,7 @@ module _ (banks : List BankState) (valid : (k : ℕ) → k < length banks → Is
 pub state_of_rig-valid : (p : RigParts) (rom_sockets bank_sockets chain_sockets : ℕ) → IsValidBoard p.board → MatchesBoard p rom_sockets bank_sockets chain_sockets → AreValidChips p → ((i : ℕ) → i < chain_count p.board → All (λ bit. bit < 2) (get_or (wired_chains p.board p.chains) i [])) → All (λ key. key < 2) p.keys → p.test < 2 → IsValidBus (state_of_rig p)
 state_of_rig-valid p rom_sockets bank_sockets chain_sockets board v chips bits keys test =
     let roms = each_rom-valid p.roms chips.roms in
-    let bank = at_bank p.banks chips.banks in
+    let bank = property-at_each_bank p.banks chips.banks in
     record {
       board = board;
       in_range = record {
@@ -84,17 +84,17 @@ state_of_rig-valid p rom_sockets bank_sockets chain_sockets board v chips bits k
       };
       absent = record {
         rom = v.absent;
-        ram = λ n src l gone.
+        ram = λ n src l chip_absent.
             elim (cases_lt n 8) [
               | inl h ↦ main_nibble-in_flat_list p.banks n src (get_or p.banks n absent_bank) h l refl ∙ bank (λ b. b.chip_count ≤ src / 64 → slice_index b.main src ≡ 0) (λ _. refl) (λ b w. w.absent_main src l) n (let e = v.chip_count n in omega arith)
               | inr h ↦ let len = length-flat_rows 8 256 (λ (x : BankState). x.main) absent_bank p.banks in get_or_past (flat_rows 8 256 (λ (x : BankState). x.main) absent_bank p.banks) (n * 256 + src) 0 (omega arith)
             ];
-        status = λ n high k h4 k4 gone.
+        status = λ n high k h4 k4 chip_absent.
             elim (cases_lt n 8) [
-              | inl h ↦ status-of p.banks n (high * 4 + k) (get_or p.banks n absent_bank) h (omega arith) refl ∙ bank (λ b. b.chip_count ≤ high / 4 → slice_index b.status (high * 4 + k) ≡ 0) (λ _. refl) (λ b w. w.absent_status high k h4 k4) n (let e = v.chip_count n in omega arith)
+              | inl h ↦ status-in_flat_list p.banks n (high * 4 + k) (get_or p.banks n absent_bank) h (omega arith) refl ∙ bank (λ b. b.chip_count ≤ high / 4 → slice_index b.status (high * 4 + k) ≡ 0) (λ _. refl) (λ b w. w.absent_status high k h4 k4) n (let e = v.chip_count n in omega arith)
               | inr h ↦ let len = length-flat_rows 8 64 (λ (x : BankState). x.status) absent_bank p.banks in get_or_past (flat_rows 8 64 (λ (x : BankState). x.status) absent_bank p.banks) (n * 64 + (high * 4 + k)) 0 (omega arith)
             ];
-        ram_ports = λ n chip l gone.
+        ram_ports = λ n chip l chip_absent.
             elim (cases_lt n 8) [
               | inl h ↦ ram_latch-in_flat_list p.banks n chip (get_or p.banks n absent_bank) h l refl ∙ bank (λ b. b.chip_count ≤ chip → slice_index b.ports chip ≡ 0) (λ _. refl) (λ b w. w.absent_port chip l) n (let e = v.chip_count n in omega arith)
               | inr h ↦ let len = length-flat_rows 8 4 (λ (x : BankState). x.ports) absent_bank p.banks in get_or_past (flat_rows 8 4 (λ (x : BankState). x.ports) absent_bank p.banks) (n * 4 + chip) 0 (omega arith)
@@ -106,7 +106,7 @@ state_of_rig-valid p rom_sockets bank_sockets chain_sockets board v chips bits k
             ];
         ram_src = λ n none.
             elim (cases_lt n 8) [
-              | inl h ↦ src-of p.banks n (get_or p.banks n absent_bank) h refl ∙ bank (λ b. b.chip_count ≡ 0 → b.src ≡ 0) (λ _. refl) (λ b w. w.absent_src) n (v.chip_count n ∙ none)
+              | inl h ↦ src-in_flat_list p.banks n (get_or p.banks n absent_bank) h refl ∙ bank (λ b. b.chip_count ≡ 0 → b.src ≡ 0) (λ _. refl) (λ b w. w.absent_src) n (v.chip_count n ∙ none)
               | inr h ↦ let l = length-column 8 (λ (x : BankState). x.src) absent_bank p.banks in get_or_past (column 8 (λ (x : BankState). x.src) absent_bank p.banks) n 0 (omega arith)
             ];
       };

@@ -6,12 +6,12 @@ use Rattle.mcs_board.specs.RigState.{RigParts}
 
 abbrev pub rig_parts : {ROMS BANKS CHAINS MAX : ℕ} → Inside ROMS BANKS CHAINS MAX → RigParts
 rig_parts i = record {
-  board = i.keys.board;
+  board = i.key_pad.board;
   roms = i.roms.items;
   program = i.program.items;
   banks = i.banks.items;
   chains = i.chains.items;
-  keys = i.keys.down;
+  keys = i.key_pad.down;
   rom_src = i.rom_src;
   test = i.test;
 }

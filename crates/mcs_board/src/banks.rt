@@ -99,7 +99,7 @@ impl<const ROMS: usize, const BANKS: usize, const CHAINS: usize, const MAX: usiz
     CHAINS,
     MAX,
 > {
-    /// Performs `write` in bank `bank` (0 to 7). Has no effect if the chip is absent.
+    /// Performs `write` in bank `bank` (0 to 7). Has no effect if the target chip is absent.
     #[inline(always)]
     fn store(&mut self, bank: u8, write: BankWrite)
         requires bank { bank < 8 }

@@ -21,7 +21,7 @@ pub fn every_board_fits_the_bench(board: &Board)
     let _parts = board.parts();
 }
 
-/// Executes one instruction cycle of a processor on a rig, as `cycle_of` defines it. If `cycle_of` gives none, returns
+/// Executes one instruction cycle of a processor on a rig, as `cycle_of` defines it. If `cycle_of` is `None`, returns
 /// `Cycle::Outside` and changes neither the processor nor the rig. Returns `Cycle::Idle` if and only if a second cycle
 /// was pending before the call.
 #[inline(always)]

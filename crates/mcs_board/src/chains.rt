@@ -151,7 +151,7 @@ impl<const ROMS: usize, const BANKS: usize, const CHAINS: usize, const MAX: usiz
         ensures { (i : ℕ) → i < chain_count self.now.board →
             All (λ bit. bit < 2) (slice_index_or self.now.chains i []) }
     {
-        let _keys = &self.keys;
+        let _key_pad = &self.key_pad;
         let chains = self.chains.as_slice();
         for i in 0..chains.len() {
             chains[i].show_state_is_valid();

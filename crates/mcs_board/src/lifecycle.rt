@@ -50,7 +50,7 @@ impl<const ROMS: usize, const BANKS: usize, const CHAINS: usize, const MAX: usiz
             program: zeroed_program(alloc, ROM_SIZE)?,
             banks: empty_banks(alloc, BANKS)?,
             chains: empty_chains(alloc, CHAINS)?,
-            keys: KeyPad::of(Board::empty()),
+            key_pad: KeyPad::of(Board::empty()),
             rom_src: 0,
             test: Bit::ONE,
         })
@@ -73,7 +73,7 @@ impl<const ROMS: usize, const BANKS: usize, const CHAINS: usize, const MAX: usiz
             program: self.program.to_vec(alloc)?,
             banks: copy_banks(alloc, &self.banks)?,
             chains: copy_chains(alloc, &self.chains)?,
-            keys: self.keys.copy(),
+            key_pad: self.key_pad.copy(),
             rom_src: self.rom_src,
             test: self.test,
         })
@@ -89,7 +89,7 @@ impl<const ROMS: usize, const BANKS: usize, const CHAINS: usize, const MAX: usiz
         rewire_roms(&mut self.roms, board);
         clear_absent_roms(&mut self.program, board);
         rewire_banks(&mut self.banks, board);
-        self.keys = KeyPad::of(board.copy());
+        self.key_pad = KeyPad::of(board.copy());
         self.rom_src = 0;
         // A rig without chain sockets has no chain to wire.
         if self.chains.as_slice().is_empty() {
@@ -136,7 +136,7 @@ impl<const ROMS: usize, const BANKS: usize, const CHAINS: usize, const MAX: usiz
         show_bytes_are_valid(&self.program);
         show_banks_are_valid(&self.banks);
         self.show_chains_are_valid();
-        self.keys.show_state_is_valid();
+        self.key_pad.show_state_is_valid();
         let _level = self.test.get();
     }
 }

@@ -20,7 +20,7 @@ pub struct Rig<const ROMS: usize, const BANKS: usize, const CHAINS: usize, const
     pub(crate) banks: Vec<Bank<4>>,
     pub(crate) chains: Vec<Chain<MAX>>,
     // The board and the state of its keys.
-    pub(crate) keys: KeyPad,
+    pub(crate) key_pad: KeyPad,
     pub(crate) rom_src: u8,
     pub(crate) test: Bit,
 }
@@ -52,14 +52,14 @@ impl<const ROMS: usize, const BANKS: usize, const CHAINS: usize, const MAX: usiz
         ensures sized { HasDeclaredLengths self.now.board }
     {
         let _chains = &self.chains;
-        self.keys.board().parts()
+        self.key_pad.board().parts()
     }
 
     /// Returns the board that the rig is wired to.
     pub fn board(&self) -> &Board
         ensures { result.now ≡ self.now.board }
     {
-        self.keys.board()
+        self.key_pad.board()
     }
 
     /// Returns the level of the TEST pin.

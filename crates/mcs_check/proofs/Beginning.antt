@@ -1,16 +1,19 @@
 -- The machine at which a check begins.
-use Rattle.std.proofs.Common.{◌≡◌, ℕ, List, true, refl, sym, ap, subst}
+use Rattle.std.proofs.Common.{◌≡◌, ℕ, List, Result, Ok, Err, IfOk, true, refl, sym, ap, subst}
 use Rattle.mcs_model.specs.Validity.{IsValidBus, IsValidRegs}
-use Rattle.mcs_drive.specs.DrivenRuns.{InputLimits}
-use Rattle.mcs_drive.specs.TrackedMachine.{TrackedMachine, without_levels, Holds}
-use Rattle.mcs_search.specs.Rules.{Closure}
+use Rattle.std.specs.List.{All}
+use Rattle.mcs_model.specs.declared.board.BoardParts.{BoardParts}
+use Rattle.mcs_drive.specs.DrivenRuns.{AreAllowed, InputLimits}
+use Rattle.mcs_drive.specs.TrackedMachine.{TrackedMachine, without_levels}
+use Rattle.mcs_check.specs.declared.checking.Outcome.{Outcome}
+use Rattle.mcs_check.specs.declared.checking.Outcome.TheVariants as outcome
+use Rattle.mcs_check.specs.OutcomeMeaning.{IsProved, IsProvedAt}
 use Rattle.mcs_check.specs.declared.cells.KeyByte.{KeyByte}
 use Rattle.mcs_check.specs.Cells.{key_of}
 use Rattle.mcs_check.specs.Conditions.{PropertyConditions, meets_none, observer_of_property}
 use Rattle.mcs_check.specs.HighestLevels.{with_highest_keys}
 use Rattle.mcs_check.specs.Keys.{IsKeyOf, setting_of}
-use Rattle.mcs_check.specs.SearchRules.{rules_of}
-use Rattle.mcs_check.proofs.Always.{property_holds-if_only_levels_differ, property_holds-if_search_is_closed}
+use Rattle.mcs_check.proofs.Always.{property_holds-if_only_levels_differ}
 use Rattle.mcs_check.proofs.Ignoring.{conditions-ignore}
 use Rattle.mcs_check.proofs.Steps.{on-own-board}
 
@@ -24,9 +27,18 @@ is_key-of_machine_with_highest_keys limits layout property key s m e registers b
   cells = cells;
 }
 
--- Suppose that a search from the machine with each key at its highest level finds a closure. The
--- property then holds for the machine before its keys were set.
-pub property_holds-before_keys_set : (limits : InputLimits) (layout : List KeyByte) (property : PropertyConditions) (key : List ℕ) (n : ℕ) (s m : TrackedMachine) → m ≡ with_highest_keys limits s → IsKeyOf (setting_of m limits layout property) key m → Closure (rules_of (setting_of m limits layout property)) key n → Holds limits (observer_of_property property) (meets_none property.never_lists) s
-property_holds-before_keys_set limits layout property key n s m e is closure =
-    property_holds-if_only_levels_differ limits (observer_of_property property) (meets_none property.never_lists) m s (conditions-ignore property.never_lists) (ap without_levels e)
-    (property_holds-if_search_is_closed (setting_of m limits layout property) key n m (conditions-ignore property.never_lists) closure is)
+-- what an outcome promises for the machine with each key at its highest level, it promises for the
+-- machine before its keys were set
+pub is_proved-before_keys_set : (limits : InputLimits) (property : PropertyConditions) (s m : TrackedMachine) (o : Outcome) → m ≡ with_highest_keys limits s → IsProved limits (observer_of_property property) (meets_none property.never_lists) m o → IsProved limits (observer_of_property property) (meets_none property.never_lists) s o
+is_proved-before_keys_set limits property s m (outcome.Holds n) e holds = property_holds-if_only_levels_differ limits (observer_of_property property) (meets_none property.never_lists) m s (conditions-ignore property.never_lists) (ap without_levels e) holds
+is_proved-before_keys_set limits property s m (outcome.MayFail values) e is = is
+is_proved-before_keys_set limits property s m (outcome.MayFailWith levels) e is = subst (λ (b : BoardParts). All (AreAllowed limits b) levels.items) (ap (λ (x : TrackedMachine). x.1.board) e) is
+is_proved-before_keys_set limits property s m outcome.TooMany e is = is
+is_proved-before_keys_set limits property s m (outcome.NoMemory n) e is = is
+is_proved-before_keys_set limits property s m outcome.GaveUp e is = is
+
+-- the same for the result of a search from the key of the machine with each key at its highest level
+pub outcome-before_keys_set : {E : Type 0} (limits : InputLimits) (layout : List KeyByte) (property : PropertyConditions) (key : List ℕ) (s m : TrackedMachine) (r : Result Outcome E) → m ≡ with_highest_keys limits s → IsKeyOf (setting_of m limits layout property) key m → IfOk r (IsProvedAt (setting_of m limits layout property) key) →
+    IfOk r (IsProved limits (observer_of_property property) (meets_none property.never_lists) s)
+outcome-before_keys_set limits layout property key s m (Ok o) e is proved = is_proved-before_keys_set limits property s m o e (proved m is)
+outcome-before_keys_set limits layout property key s m (Err f) e is proved = tt

@@ -20,3 +20,7 @@ pub mod Limiting
 pub mod Opening
 pub mod Ranging
 pub mod Matrices
+pub mod Spaced
+pub mod LevelSets
+pub mod SpacedSteps
+pub mod SpacedOutcome

@@ -14,8 +14,8 @@ is_matrix_size-on_valid_board b m v e =
     (subst (λ (o : Option KeyMatrix). elim o as (λ _. Bool) [ Some m ↦ not (is_matrix_size m) | None ↦ false ] ≡ false) e (sound b v).values.matrix)
 
 -- the chain bits that drive the rows of a key matrix have indexes below 256
-pub rows-fit : (m : KeyMatrix) → is_matrix_size m ≡ true → m.first + m.rows < 256
-rows-fit m is =
+pub key_rows-fit_in_chain_bits : (m : KeyMatrix) → is_matrix_size m ≡ true → m.first + m.rows < 256
+key_rows-fit_in_chain_bits m is =
     let p4 = and_parts (nat_lt m.chain 4 && nat_lt m.first 80 && nat_lt 0 m.rows && nat_le m.rows 10) (nat_lt 0 (length m.columns.items)) is in
     let p3 = and_parts (nat_lt m.chain 4 && nat_lt m.first 80 && nat_lt 0 m.rows) (nat_le m.rows 10) p4.0 in
     let p2 = and_parts (nat_lt m.chain 4 && nat_lt m.first 80) (nat_lt 0 m.rows) p3.0 in

@@ -11,7 +11,7 @@ use Rattle.mcs_check.specs.Conditions.{observer_of_property}
 use Rattle.mcs_check.specs.Keys.{Setting, IsOnBoard, IsKeyOf, KeepsBoardAndInputs, property_of}
 use Rattle.mcs_check.specs.ReadPoints.{CannotRead, HasRead, Reaches}
 use Rattle.mcs_check.specs.MachineRules.{LeadsToIn}
-use Rattle.mcs_check.specs.SearchStep.{LeadsIn}
+use Rattle.mcs_check.specs.SearchStep.{LeadsIn, ReadsAt}
 use Rattle.mcs_check.specs.SearchRules.{Covers}
 use Rattle.std.specs.List.{Contains}
 use Rattle.mcs_check.proofs.Packed.{equal_machines-if_equal_keys}
@@ -60,3 +60,7 @@ property_holds-at_reached_machine w p n s t r = ap p r.at ∙ r.property_holds n
 -- the keys are still at given levels after a change that keeps them
 pub levels-kept : (s t : BusState) (levels : List ℕ) → KeepsBoardAndInputs s t → s.keys ≡ levels → t.keys ≡ levels
 levels-kept s t levels k at = k.keys ∙ at
+
+-- what a machine on this board with the key `key` reads is what each machine of the key reads
+pub reads-at_key : (g : Setting) (key : List ℕ) (m : TrackedMachine) (l : Levels) (value : ℕ) → IsComplete g.board g.layout → IsOnBoard g.board g.rom g.limits.keys m → key ≡ key_of g.layout m → value ≡ answer l m → ReadsAt g key l value
+reads-at_key g key m l value complete on is reads = λ a h. ap (answer l) (sym (key-machine-unique g key m a complete on is h)) ∙ sym reads

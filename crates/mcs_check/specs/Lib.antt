@@ -11,3 +11,5 @@ pub mod SearchRules
 pub mod OutcomeMeaning
 pub mod HighestLevels
 pub mod Scopes
+pub mod SpacedInputs
+pub mod LevelSets

@@ -12,6 +12,10 @@ use Rattle.mcs_check.specs.MachineRules.{LeadsToIn}
 abbrev pub IsState : Setting → List ℕ → Type 0
 IsState g key = (a : TrackedMachine) × IsKeyOf g key a
 
+-- holds if each machine that `key` identifies reads `value` in its next cycle at the levels `l`
+abbrev pub ReadsAt : Setting → List ℕ → Levels → ℕ → Type 0
+ReadsAt g key l value = (a : TrackedMachine) → IsKeyOf g key a → answer l a ≡ value
+
 -- Holds if each machine that `key` identifies runs to a machine that `next` identifies, at all
 -- input levels at which the first machine reads `value`. The run takes exactly `cycles` cycles,
 -- with the cycle that reads. The property holds at every step.

@@ -2,14 +2,17 @@
 ghost use Rattle.std.specs.Prelude.{◌≤◌, IfOk};
 ghost use Rattle.mcs_search.specs.declared.searching.TheConstants.{MAX_STATES};
 ghost use Rattle.mcs_check.specs.Conditions.{meets_none, observer_of_property};
-ghost use Rattle.mcs_check.specs.OutcomeMeaning.{IsProved};
+ghost use Rattle.mcs_check.specs.OutcomeMeaning.{IsProved, IsProvedAt};
+ghost use Rattle.mcs_check.specs.SearchStep.{IsState};
 
 use crate::cells::layout_of;
 use crate::last_key::LastKey;
+use crate::level_sets::Levels;
 use crate::limits::InputLimits;
 use crate::machine_search::MachineSearch;
 use crate::property::Property;
 use crate::replica::SearchMachine;
+use crate::spaced_checking::search_by_levels;
 use mcs_search::{MAX_STATES, Verdict, search_all};
 use std::alloc::{AllocError, Global};
 
@@ -22,6 +25,9 @@ pub enum Outcome {
     /// cycle of the step reads, and has no meaning if that cycle reads no input. If there are no values, the property
     /// fails before the first cycle. Nothing is proved about the values.
     MayFail(Vec<u8>),
+    /// The property may fail after search steps at these levels of the inputs, one for each step. The limits allow each
+    /// of the levels. Nothing else is proved about them.
+    MayFailWith(Vec<Levels>),
     /// The search found more states than the caller's limit allows.
     TooMany,
     /// Memory ran out. The field is the number of states that fitted into memory. The machine may have more states.
@@ -34,12 +40,36 @@ pub enum Outcome {
 const STATE_BYTES: usize = 24;
 
 /// Returns the number of states with keys of `key_len` bytes that fit into `memory` bytes.
-fn states_that_fit(memory: usize, key_len: usize) -> usize {
+pub(crate) fn states_that_fit(memory: usize, key_len: usize) -> usize {
     memory / key_len.saturating_add(STATE_BYTES)
 }
 
+/// Searches all runs of the machine that `key` identifies. The search ignores the limit `wait`: it lets the levels
+/// change before each cycle. See `check_all` for `most` and `memory`. Fails if memory for the first state runs out.
+fn search_by_values(
+    alloc: Global,
+    mut machines: MachineSearch,
+    key: &[u8],
+    most: usize,
+    memory: usize,
+) -> Result<Outcome, AllocError>
+    requires most { most ≤ MAX_STATES }
+    requires state { IsState machines key.now }
+    ensures { IfOk result (IsProvedAt machines key.now) }
+{
+    let limit = most.min(states_that_fit(memory, key.len()));
+    match search_all(alloc, &mut machines, key, limit)? {
+        Verdict::Holds(states) => Ok(Outcome::Holds(states)),
+        Verdict::Broken(values) => Ok(Outcome::MayFail(values)),
+        Verdict::TooMany if limit < most => Ok(Outcome::NoMemory(limit)),
+        Verdict::TooMany => Ok(Outcome::TooMany),
+        Verdict::NoMemory(states) => Ok(Outcome::NoMemory(states)),
+        Verdict::GaveUp => Ok(Outcome::GaveUp),
+    }
+}
+
 /// Searches all runs of a machine, for all levels of its keys and its TEST pin within the limits, and checks the
-/// property after each cycle. The search ignores the limit `wait`: it lets the levels change before each cycle. It
+/// property after each cycle. It gives up if the limit `wait` is above 1 and the limits allow more than 255 levels. It
 /// stores at most `most` states and uses about `memory` bytes. It splits each run of cycles without reads into steps of
 /// `pause` cycles. Fails if memory for the layout or for the first state cannot be allocated.
 pub fn check_all(
@@ -66,7 +96,7 @@ pub fn check_all(
     if !property.keeps(&replica) {
         return Ok(Outcome::MayFail(Vec::new(alloc)));
     }
-    let mut machine_search = MachineSearch {
+    let machines = MachineSearch {
         replica,
         limits,
         layout,
@@ -74,13 +104,9 @@ pub fn check_all(
         property,
         most: pause,
     };
-    let limit = most.min(states_that_fit(memory, key.len()));
-    match search_all(alloc, &mut machine_search, &key, limit)? {
-        Verdict::Holds(states) => Ok(Outcome::Holds(states)),
-        Verdict::Broken(values) => Ok(Outcome::MayFail(values)),
-        Verdict::TooMany if limit < most => Ok(Outcome::NoMemory(limit)),
-        Verdict::TooMany => Ok(Outcome::TooMany),
-        Verdict::NoMemory(states) => Ok(Outcome::NoMemory(states)),
-        Verdict::GaveUp => Ok(Outcome::GaveUp),
+    if machines.wait() > 1 {
+        search_by_levels(alloc, machines, &key, most, memory)
+    } else {
+        search_by_values(alloc, machines, &key, most, memory)
     }
 }

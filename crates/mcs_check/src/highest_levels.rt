@@ -21,7 +21,7 @@ fn columns_of(board: &Board) -> usize
 }
 
 /// Sets each key of a rig to its level in `levels`, row by row.
-fn set_keys(rig: &mut BenchRig, levels: &[Bit])
+pub(crate) fn set_keys(rig: &mut BenchRig, levels: &[Bit])
     requires { length levels.now ≡ key_count rig.old.board }
     ensures { rig.new ≡ record rig.old { keys = levels.now } }
 {

@@ -61,6 +61,13 @@ impl InputLimits {
         level <= self.test.get()
     }
 
+    /// Returns the smallest number of cycles between two changes of the levels.
+    pub(crate) fn wait(&self) -> u32
+        ensures { result ≡ self.now.wait }
+    {
+        self.wait
+    }
+
     /// Returns the largest number of keys that are down together.
     pub(crate) fn together(&self) -> u32
         ensures { result ≡ self.now.together }

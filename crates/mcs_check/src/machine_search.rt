@@ -1,18 +1,24 @@
 //! The transition system that a search explores. Each key identifies a machine with the same board and ROM bytes.
-ghost use Rattle.std.specs.Prelude.{◌≡◌};
+ghost use Rattle.std.specs.Prelude.{◌≡◌, ◌≤◌, length, IfOk, IfSome};
+ghost use Rattle.mcs_model.specs.declared.board.BoardParts.{BoardParts};
+ghost use Rattle.mcs_model.specs.Boards.{key_count};
+ghost use Rattle.mcs_check.specs.LevelSets.{AreAllAllowedLevels};
+ghost use Rattle.mcs_check.specs.SearchStep.{IfReached, IsState, LeadsIn, ReadsAt};
 
 use crate::cells::KeyByte;
 use crate::last_key::LastKey;
+use crate::level_sets::{Levels, all_allowed_levels};
 use crate::limits::InputLimits;
 use crate::property::Property;
 use crate::replica::SearchMachine;
-use crate::search_step::{list_readable_values, run_to_next_key};
+use crate::search_step::{StepEnd, list_readable_values, run_to_next_key, value_at_key};
 use mcs_search::System;
-use std::alloc::AllocError;
+use std::alloc::{AllocError, Global};
 use std::marker::Model;
 
 /// The machines with one board and one program, the limits of their inputs, and the property to check in their runs.
-/// `replica` holds one of these machines at a time. `most` is the number of cycles after which a search step ends if the program reads no input.
+/// `replica` holds one of these machines at a time. `most` is the number of cycles after which a search
+/// step ends if the program reads no input.
 #[derive(Drop)]
 pub struct MachineSearch {
     pub(crate) replica: SearchMachine,
@@ -39,6 +45,66 @@ impl Model for MachineSearch {
         × IsLastKeyOf w.layout.items w.last w.replica };
 }
 
+impl MachineSearch {
+    /// Returns the number of bytes of a key.
+    pub(crate) fn key_len(&self) -> usize
+        ensures { result ≡ length self.now.layout }
+    {
+        self.layout.len()
+    }
+
+    /// Returns the smallest number of cycles between two changes of the inputs.
+    pub(crate) fn wait(&self) -> u32
+        ensures { result ≡ self.now.limits.wait }
+    {
+        self.limits.wait()
+    }
+
+    /// Returns all levels of the inputs that the limits allow (see `all_allowed_levels`).
+    pub(crate) fn all_levels(&self, alloc: Global) -> Result<Option<Vec<Levels>>, AllocError>
+        ensures few { IfOk result (λ found. IfSome found (λ all. length all.items ≤ 255)) }
+        ensures all { IfOk result (λ found. IfSome found (λ all.
+            (b : BoardParts) → key_count b ≡ length self.now.limits.keys → AreAllAllowedLevels self.now.limits b all.items)) }
+    {
+        all_allowed_levels(alloc, &self.limits)
+    }
+
+    /// Returns the value that the machine of a key reads in its next cycle at these input levels. Returns `None` if the
+    /// key cannot be loaded.
+    pub(crate) fn value_at_key(&mut self, key: &[u8], levels: &Levels) -> Option<u8>
+        ensures setting { self.new ≡ self.old }
+        ensures value { IfSome result (λ value. ReadsAt self.old key.now levels.now value) }
+    {
+        value_at_key(
+            &mut self.replica,
+            &self.limits,
+            &self.layout,
+            &mut self.last,
+            key,
+            levels,
+        )
+    }
+
+    /// Runs the machine of a key to its next read (see `run_to_next_key`). The first cycle reads `value`.
+    pub(crate) fn run(&mut self, key: &[u8], value: u8, into: &mut [u8]) -> Option<StepEnd>
+        requires into { length into.old ≡ length key.now }
+        ensures setting { self.new ≡ self.old }
+        ensures leads { IfSome result (λ end. IfReached end (λ cycles. LeadsIn self.old cycles key.now value into.new)) }
+        ensures state { IfSome result (λ end. IfReached end (λ _. IsState self.old into.new)) }
+    {
+        run_to_next_key(
+            &mut self.replica,
+            &self.layout,
+            &mut self.last,
+            &self.property,
+            self.most,
+            key,
+            value,
+            into,
+        )
+    }
+}
+
 impl System for MachineSearch {
     ghost use Rattle.mcs_check.specs.Keys.{Setting};
     ghost use Rattle.mcs_check.specs.SearchRules.{rules_of};
@@ -62,16 +128,7 @@ impl System for MachineSearch {
     }
 
     fn apply_choice(&mut self, key: &[u8], choice: u8, into: &mut [u8]) -> Option<bool> {
-        let end = run_to_next_key(
-            &mut self.replica,
-            &self.layout,
-            &mut self.last,
-            &self.property,
-            self.most,
-            key,
-            choice,
-            into,
-        )?;
+        let end = self.run(key, choice, into)?;
         Some(end.is_reached())
     }
 }

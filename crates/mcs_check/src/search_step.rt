@@ -10,10 +10,11 @@ ghost use Rattle.mcs_check.specs.Keys.{KeepsBoardAndInputs, setting_of};
 ghost use Rattle.mcs_check.specs.Memory.{IsLastKeyOf};
 ghost use Rattle.mcs_check.specs.SearchRules.{Covers};
 ghost use Rattle.mcs_check.specs.ReadPoints.{CannotRead};
-ghost use Rattle.mcs_check.specs.SearchStep.{IfReached, IsState, LeadsIn, is_reached};
+ghost use Rattle.mcs_check.specs.SearchStep.{IfReached, IsState, LeadsIn, ReadsAt, is_reached};
 
 use crate::cells::KeyByte;
 use crate::last_key::{LastKey, both};
+use crate::level_sets::Levels;
 use crate::limits::InputLimits;
 use crate::property::Property;
 use crate::replica::SearchMachine;
@@ -103,6 +104,36 @@ pub(crate) fn list_readable_values(
     replica.show_state_is_valid();
     push_readable_values(replica, limits, into)?;
     Ok(())
+}
+
+/// Loads the machine that `key` identifies, and returns the value that this machine reads in its next cycle at these
+/// input levels. Returns `None` if `key` cannot be loaded or the levels are those of another number of keys. `last` is
+/// the key that `replica` last loaded or saved; `key` replaces it.
+pub(crate) fn value_at_key(
+    replica: &mut SearchMachine,
+    limits: &InputLimits,
+    layout: &[KeyByte],
+    last: &mut LastKey,
+    key: &[u8],
+    levels: &Levels,
+) -> Option<u8>
+    requires known { IsLastKeyOf layout.now last.old replica.old }
+    requires keys { replica.old.1.keys ≡ limits.now.keys }
+    requires test { replica.old.1.test ≡ 0 }
+    requires complete { IsComplete replica.old.1.board layout.now }
+    ensures keeps { KeepsBoardAndInputs replica.old.1 replica.new.1 }
+    ensures known { IsLastKeyOf layout.now last.new replica.new }
+    ensures value { (property : PropertyConditions) → IfSome result (λ value.
+        ReadsAt (setting_of replica.old limits.now layout.now property) key.now levels.now value) }
+{
+    if key.len() != layout.len() || levels.keys().len() != replica.board().key_count() {
+        return None;
+    }
+    if !replica.reload(layout, last, key) {
+        return None;
+    }
+    replica.show_state_is_valid();
+    Some(replica.answer_at(levels, limits))
 }
 
 /// Loads the machine that `key` identifies and runs it until its next read (see `run_to_read_point`). The first cycle

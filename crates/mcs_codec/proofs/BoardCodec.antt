@@ -16,7 +16,7 @@ use Rattle.mcs_nibble.specs.Ports.{mask_character, mask_of}
 use Rattle.mcs_codec.specs.BoardBytes.{rom_bytes, board_line_bytes, chain_bytes, counted_bytes, keys_bytes, board_bytes}
 use Rattle.mcs_codec.specs.BoardReading.{rom_of, rom_at, masks_of, board_line_of, board_line_at, chain_at, keys_at, matrix_at, parts_at, board_at}
 use Rattle.mcs_codec.proofs.BoardLengths.{HasFourLines, HasAtMostEightColumns, HasLengths, valid_board_has_lengths, valid_board_of_lengths}
-use Rattle.mcs_codec.proofs.Codecs.{IsCodec, IsBytes, IsBytes-rest, Steps, values_of_both_readings, any_byte_codec, bytes_codec, repeated_codec, any_counted_codec, last_step, next_step, steps_of_empty_block, block_codec, giving_codec, tested_codec, codec_of_equivalent_range, row_of_tag_table}
+use Rattle.mcs_codec.proofs.Codecs.{IsCodec, IsBytes, IsBytes-rest, IsBlock, values_of_both_readings, any_byte_codec, bytes_codec, repeated_codec, any_counted_codec, last_step, next_step, steps_of_empty_block, block_codec, giving_codec, tested_codec, codec_of_equivalent_range, row_of_tag_table}
 use Rattle.mcs_nibble.proofs.PortLemmas.{mask_of-mask_character}
 
 -- four bytes, as a tuple
@@ -32,7 +32,7 @@ AreFourBytes x = Unit {0} × (Unit {0} × (Unit {0} × Unit {0}))
 are_four_bytes : Unit {0} × (Unit {0} × (Unit {0} × Unit {0}))
 are_four_bytes = (tt, (tt, (tt, tt)))
 
-steps_of_four_bytes : {B : Type 0} (end : FourBytes → Reading B) → Steps four_bytes AreFourBytes end (do a ← byte_at; b ← byte_at; c ← byte_at; d ← byte_at; end (a, (b, (c, d))))
+steps_of_four_bytes : {B : Type 0} (end : FourBytes → Reading B) → IsBlock four_bytes AreFourBytes end (do a ← byte_at; b ← byte_at; c ← byte_at; d ← byte_at; end (a, (b, (c, d))))
 steps_of_four_bytes end = next_step end any_byte_codec (λ a _. next_step _ any_byte_codec (λ b _. next_step _ any_byte_codec (λ c _. last_step _ any_byte_codec)))
 
 -- ---- lines
@@ -50,7 +50,7 @@ four_bytes_of_line (Chain n i) h = ((2, (n, (i, 0))), refl, are_four_bytes, λ r
 
 pub line_codec : IsCodec board_line_bytes (λ _. Unit {0}) board_line_at
 unfolding board_line_at
-line_codec = block_codec (steps_of_four_bytes line_of_four_bytes) (record { made = bytes_of_read_line; made_from_steps = four_bytes_of_line })
+line_codec = block_codec (steps_of_four_bytes line_of_four_bytes) (record { value_of_steps = bytes_of_read_line; steps_of_value = four_bytes_of_line })
 
 -- ---- ROMs
 
@@ -105,7 +105,7 @@ four_bytes_of_rom (Some (a ∷ b ∷ c ∷ d ∷ e ∷ l)) h = absurd cc
 
 pub rom_codec : IsCodec rom_bytes HasFourLines rom_at
 unfolding rom_at
-rom_codec = block_codec (steps_of_four_bytes rom_of_four_bytes) (record { made = bytes_of_read_rom; made_from_steps = four_bytes_of_rom })
+rom_codec = block_codec (steps_of_four_bytes rom_of_four_bytes) (record { value_of_steps = bytes_of_read_rom; steps_of_value = four_bytes_of_rom })
 
 -- ---- chains, keys, and the board
 

@@ -1,5 +1,5 @@
--- Codecs. A codec is an encoding and a reading that are the inverses of each other. Larger codecs
--- are built from smaller ones.
+-- Codecs. A codec is an encoding and a reading that are inverses of each other. Larger codecs are
+-- built from smaller ones.
 use Rattle.std.proofs.Common.{◌≡◌, ℕ, zero, suc, ◌^◌, ◌<◌, ◌≤◌, Bool, true, false, cond, ltb, eqb, leb, List, [], ◌∷◌, ◌++◌, length, get_or, take, drop, Some, None, refl, sym, ap, subst, ◌∙◌, append_assoc, arith, inl, inr}
 use Rattle.std.specs.List.{flat_map, AllByRecursion}
 use Rattle.std.specs.Int.{Width, w16, w32, byte_len, from_be_bytes, to_be_bytes}
@@ -43,8 +43,8 @@ test_is_false_if_some false x y e = (refl, cc)
 
 -- ---- codecs
 
--- Holds if `read` is the inverse of `spell`. A value that is read fits its range, and the bytes
--- that were consumed are its encoding. A value that fits its range is read from its encoding,
+-- Holds if `read` is the inverse of `spell`. A value that is read satisfies `fits`, and the bytes
+-- that were consumed are its encoding. A value that satisfies `fits` is read from its encoding,
 -- whatever bytes follow.
 pub record IsCodec {A : Type 0} (spell : A → List ℕ) (fits : A → Type 0) (read : Reading A) : Type 0 where
   pub reads_encoding : (bytes : List ℕ) (x : A × List ℕ) → IsBytes bytes → read bytes ≡ Some x → (bytes ≡ spell x.0 ++ x.1) × fits x.0
@@ -69,16 +69,16 @@ pub record IsWide (w : Width) (limit : ℕ) : Type 0 where
   pub reads_back : (n : ℕ) → n < limit → from_be_bytes w (to_be_bytes w n) ≡ n
   pub below : (bytes : List ℕ) → IsBytes bytes → from_be_bytes w bytes < limit
 
-wide16 : IsWide w16 (2 ^ 16)
-wide16 = record {
+w16_is_wide : IsWide w16 (2 ^ 16)
+w16_is_wide = record {
   len = λ n. refl;
   back = λ bytes len fits. be_bytes_2 bytes _ len fits refl;
   reads_back = λ n lt. from_be_bytes-to_be_bytes_2 n lt;
   below = λ bytes fits. omega (arith, fits 0, fits 1);
 }
 
-wide32 : IsWide w32 (2 ^ 32)
-wide32 = record {
+w32_is_wide : IsWide w32 (2 ^ 32)
+w32_is_wide = record {
   len = λ n. refl;
   back = λ bytes len fits. be_bytes_4 bytes _ len fits refl;
   reads_back = λ n lt. from_be_bytes-to_be_bytes_4 n lt;
@@ -87,8 +87,8 @@ wide32 = record {
 
 number_reads_encoding : (w : Width) (limit : ℕ) (wide : IsWide w limit) (bytes : List ℕ) (x : ℕ × List ℕ) → IsBytes bytes → wide_number_at w bytes ≡ Some x → (bytes ≡ to_be_bytes w x.0 ++ x.1) × (x.0 < limit)
 number_reads_encoding w limit wide bytes x fits e =
-    let made : ℕ × List ℕ = (from_be_bytes w (take (byte_len w) bytes), drop (byte_len w) bytes) in
-    let g = test_is_false_if_some (ltb (length bytes) (byte_len w)) made x e in
+    let number_and_rest : ℕ × List ℕ = (from_be_bytes w (take (byte_len w) bytes), drop (byte_len w) bytes) in
+    let g = test_is_false_if_some (ltb (length bytes) (byte_len w)) number_and_rest x e in
     let long : byte_len w ≤ length bytes = ltb-false _ _ g.0 in
     let small : IsBytes (take (byte_len w) bytes) = IsBytes-take (byte_len w) bytes fits in
     let front : to_be_bytes w (from_be_bytes w (take (byte_len w) bytes)) ≡ take (byte_len w) bytes = wide.back (take (byte_len w) bytes) (omega (arith, length-take (byte_len w) bytes)) small in
@@ -101,10 +101,10 @@ number_reads_back w limit wide n rest lt =
     rw (long, take_at (to_be_bytes w n) rest (byte_len w) len, drop_at (to_be_bytes w n) rest (byte_len w) len, wide.reads_back n lt) refl
 
 pub word_codec : IsCodec (to_be_bytes w16) (λ n. n < 2 ^ 16) (wide_number_at w16)
-word_codec = record { reads_encoding = number_reads_encoding w16 (2 ^ 16) wide16; reads_back = number_reads_back w16 (2 ^ 16) wide16 }
+word_codec = record { reads_encoding = number_reads_encoding w16 (2 ^ 16) w16_is_wide; reads_back = number_reads_back w16 (2 ^ 16) w16_is_wide }
 
 pub long_codec : IsCodec (to_be_bytes w32) (λ n. n < 2 ^ 32) (wide_number_at w32)
-long_codec = record { reads_encoding = number_reads_encoding w32 (2 ^ 32) wide32; reads_back = number_reads_back w32 (2 ^ 32) wide32 }
+long_codec = record { reads_encoding = number_reads_encoding w32 (2 ^ 32) w32_is_wide; reads_back = number_reads_back w32 (2 ^ 32) w32_is_wide }
 
 -- a codec for `count` bytes, with no condition on their values
 pub bytes_codec : (count : ℕ) → IsCodec (λ (l : List ℕ). l) (λ l. length l ≡ count) (bytes_at count)
@@ -149,12 +149,12 @@ tested_codec {A} {s} {f} {r} test codec = record {
 
 -- Holds if `read` is a block of steps and an end. The steps read the values `c` in order, and then
 -- the block continues with `end`.
-pub record Steps {C B : Type 0} (s : C → List ℕ) (f : C → Type 0) (end : C → Reading B) (read : Reading B) : Type 0 where
+pub record IsBlock {C B : Type 0} (s : C → List ℕ) (f : C → Type 0) (end : C → Reading B) (read : Reading B) : Type 0 where
   pub reads_encoding : (bytes : List ℕ) (x : B × List ℕ) → IsBytes bytes → read bytes ≡ Some x → (c : C × List ℕ) × (bytes ≡ s c.0 ++ c.1) × f c.0 × (end c.0 c.1 ≡ Some x)
   pub reads_back : (c : C) (rest : List ℕ) → f c → read (s c ++ rest) ≡ end c rest
 
 -- a block of one step, followed by `end`
-pub last_step : {A B : Type 0} {s : A → List ℕ} {f : A → Type 0} {r : Reading A} (end : A → Reading B) → IsCodec s f r → Steps s f end (r >>= end)
+pub last_step : {A B : Type 0} {s : A → List ℕ} {f : A → Type 0} {r : Reading A} (end : A → Reading B) → IsCodec s f r → IsBlock s f end (r >>= end)
 last_step {A} {B} {s} {f} {r} end codec = record {
   reads_encoding = λ bytes x all e.
       let a = values_of_both_readings (r bytes) end x e in
@@ -164,14 +164,14 @@ last_step {A} {B} {s} {f} {r} end codec = record {
 }
 
 -- a block of one step, which gives the value of that step
-pub steps_of_last_value : {A : Type 0} {s : A → List ℕ} {f : A → Type 0} {r : Reading A} → IsCodec s f r → Steps s f give r
+pub steps_of_last_value : {A : Type 0} {s : A → List ℕ} {f : A → Type 0} {r : Reading A} → IsCodec s f r → IsBlock s f give r
 steps_of_last_value codec = record {
   reads_encoding = λ bytes x all e. let t = codec.reads_encoding bytes x all e in (x, t.0, t.1, refl);
   reads_back = λ c rest h. codec.reads_back c rest h;
 }
 
 -- a block without steps
-pub steps_of_empty_block : {B : Type 0} (end : Unit {0} → Reading B) → Steps (λ (_ : Unit {0}). []) (λ _. Unit {0}) end (end tt)
+pub steps_of_empty_block : {B : Type 0} (end : Unit {0} → Reading B) → IsBlock (λ (_ : Unit {0}). []) (λ _. Unit {0}) end (end tt)
 steps_of_empty_block end = record {
   reads_encoding = λ bytes x all e. ((tt, bytes), refl, tt, e);
   reads_back = λ c rest h. refl;
@@ -179,7 +179,7 @@ steps_of_empty_block end = record {
 
 -- a block of one step and further steps, which can depend on the value of the first
 pub next_step : {A C B : Type 0} {s : A → List ℕ} {f : A → Type 0} {r : Reading A} {t : A → C → List ℕ} {g : A → C → Type 0} {q : A → Reading B} (end : A × C → Reading B)
-    → IsCodec s f r → ((a : A) → f a → Steps (t a) (g a) (λ c. end (a, c)) (q a)) → Steps (λ (p : A × C). s p.0 ++ t p.0 p.1) (λ p. f p.0 × g p.0 p.1) end (r >>= q)
+    → IsCodec s f r → ((a : A) → f a → IsBlock (t a) (g a) (λ c. end (a, c)) (q a)) → IsBlock (λ (p : A × C). s p.0 ++ t p.0 p.1) (λ p. f p.0 × g p.0 p.1) end (r >>= q)
 next_step {A} {C} {B} {s} {f} {r} {t} {g} {q} end first second = record {
   reads_encoding = λ bytes x all e.
       let a = values_of_both_readings (r bytes) q x e in
@@ -194,33 +194,33 @@ next_step {A} {C} {B} {s} {f} {r} {t} {g} {q} end first second = record {
 -- ---- blocks
 
 -- Holds if the end of a block makes a value `b` from the values `c` of the steps, and `b` and `c`
--- have the same encoding. Each `b` that fits its range can be made from some `c`.
-pub record Ends {C B : Type 0} (s : C → List ℕ) (f : C → Type 0) (spell : B → List ℕ) (fits : B → Type 0) (end : C → Reading B) : Type 0 where
-  pub made : (c : C) (rest : List ℕ) (x : B × List ℕ) → f c → end c rest ≡ Some x → (spell x.0 ≡ s c) × (rest ≡ x.1) × fits x.0
-  pub made_from_steps : (b : B) → fits b → (c : C) × (spell b ≡ s c) × f c × ((rest : List ℕ) → end c rest ≡ Some (b, rest))
+-- have the same encoding. Each `b` that satisfies `fits` can be made from some `c`.
+pub record IsBlockEnd {C B : Type 0} (s : C → List ℕ) (f : C → Type 0) (spell : B → List ℕ) (fits : B → Type 0) (end : C → Reading B) : Type 0 where
+  pub value_of_steps : (c : C) (rest : List ℕ) (x : B × List ℕ) → f c → end c rest ≡ Some x → (spell x.0 ≡ s c) × (rest ≡ x.1) × fits x.0
+  pub steps_of_value : (b : B) → fits b → (c : C) × (spell b ≡ s c) × f c × ((rest : List ℕ) → end c rest ≡ Some (b, rest))
 
-pub block_codec : {B C : Type 0} {s : C → List ℕ} {f : C → Type 0} {spell : B → List ℕ} {fits : B → Type 0} {end : C → Reading B} {q : Reading B} → Steps s f end q → Ends s f spell fits end → IsCodec spell fits q
+pub block_codec : {B C : Type 0} {s : C → List ℕ} {f : C → Type 0} {spell : B → List ℕ} {fits : B → Type 0} {end : C → Reading B} {q : Reading B} → IsBlock s f end q → IsBlockEnd s f spell fits end → IsCodec spell fits q
 block_codec {B} {C} {s} {f} {spell} {fits} {end} {q} steps ends = record {
   reads_encoding = λ bytes x all e.
       let c = steps.reads_encoding bytes x all e in
-      let m = ends.made c.0.0 c.0.1 x c.2 c.3 in
+      let m = ends.value_of_steps c.0.0 c.0.1 x c.2 c.3 in
       (c.1 ∙ ap (λ (l : List ℕ). s c.0.0 ++ l) m.1 ∙ ap (λ (l : List ℕ). l ++ x.1) (sym m.0), m.2);
   reads_back = λ b rest h.
-      let u = ends.made_from_steps b h in
+      let u = ends.steps_of_value b h in
       ap (λ (l : List ℕ). q (l ++ rest)) u.1 ∙ steps.reads_back u.0 rest u.2 ∙ u.3 rest;
 }
 
 -- a codec for a block whose end makes the value from the values of the steps
-pub giving_codec : {C B : Type 0} {s : C → List ℕ} {f : C → Type 0} {q : Reading B} (make : C → B) (spell : B → List ℕ) (fits : B → Type 0) → Steps s f (λ c. give (make c)) q
+pub giving_codec : {C B : Type 0} {s : C → List ℕ} {f : C → Type 0} {q : Reading B} (make : C → B) (spell : B → List ℕ) (fits : B → Type 0) → IsBlock s f (λ c. give (make c)) q
     → ((c : C) → f c → (spell (make c) ≡ s c) × fits (make c)) → ((b : B) → fits b → (c : C) × (make c ≡ b) × f c) → IsCodec spell fits q
-giving_codec {C} {B} {s} {f} {q} make spell fits steps made made_from_steps = block_codec steps (record {
-  made = λ c rest x h e.
+giving_codec {C} {B} {s} {f} {q} make spell fits steps value_of_steps steps_of_value = block_codec steps (record {
+  value_of_steps = λ c rest x h e.
       let same : (make c, rest) ≡ x = cc in
-      let m = made c h in
+      let m = value_of_steps c h in
       subst (λ (y : B × List ℕ). (spell y.0 ≡ s c) × (rest ≡ y.1) × fits y.0) same (m.0, refl, m.1);
-  made_from_steps = λ b h.
-      let u = made_from_steps b h in
-      (u.0, sym (ap spell u.1) ∙ (made u.0 u.2).0, u.2, λ rest. ap (λ (v : B). Some (v, rest)) u.1);
+  steps_of_value = λ b h.
+      let u = steps_of_value b h in
+      (u.0, sym (ap spell u.1) ∙ (value_of_steps u.0 u.2).0, u.2, λ rest. ap (λ (v : B). Some (v, rest)) u.1);
 })
 
 -- A list of 0 values is empty. A list of `n + 1` values has a first value and `n` other values
@@ -261,7 +261,7 @@ counted_codec {A} {s} {f} {r} limit lt codec = giving_codec (λ (p : ℕ × List
     (λ p h. let le : p.0 ≤ limit = leb-true _ _ h.0.1 in (ap (λ n. n ∷ flat_map s p.1) h.1.0, (omega (arith, h.1.0), h.1.1)))
     (λ l h. ((length l, l), refl, ((omega (arith, h.0), le-leb _ _ h.0), (refl, h.1))))
 
--- each element of any list meets the condition that is always true
+-- each element of any list satisfies the condition that is always true
 pub all_satisfy_unit : {A : Type 0} (l : List A) → AllByRecursion (λ _. Unit {0}) l
 all_satisfy_unit [] = tt
 all_satisfy_unit (a ∷ l) = (tt, all_satisfy_unit l)
@@ -272,27 +272,27 @@ any_counted_codec limit lt codec = codec_of_equivalent_range (λ l. length l ≤
 -- ---- tables of tags
 
 -- holds if `tag` and then `bytes` are the encoding of the value `x.0` followed by the rest `x.1`,
--- and the value fits its range
+-- and the value satisfies its condition
 abbrev pub IsSpellingOf : {P : Type 0} → (P → List ℕ) → (P → Type 0) → ℕ → List ℕ → P × List ℕ → Type 0
 IsSpellingOf spell fits tag bytes x = (tag ∷ bytes ≡ spell x.0 ++ x.1) × fits x.0
 
 -- one row of a table of tags: if the tag is `k`, `read` reads the value; otherwise `other` reads it
 pub row_of_tag_table : {C P : Type 0} {s : C → List ℕ} {f : C → Type 0} {read : Reading P} {tag : ℕ} {bytes : List ℕ} {x : P × List ℕ} (spell : P → List ℕ) (fits : P → Type 0) (k : ℕ) (make : C → P) (other : Reading P)
-    → IsBytes bytes → Steps s f (λ c. give (make c)) read → ((c : C) → f c → (spell (make c) ≡ k ∷ s c) × fits (make c))
+    → IsBytes bytes → IsBlock s f (λ c. give (make c)) read → ((c : C) → f c → (spell (make c) ≡ k ∷ s c) × fits (make c))
     → (other bytes ≡ Some x → IsSpellingOf spell fits tag bytes x) → cond (eqb tag k) read other bytes ≡ Some x → IsSpellingOf spell fits tag bytes x
-row_of_tag_table {C} {P} {s} {f} {read} {tag} {bytes} {x} spell fits k make other all steps made otherwise e =
+row_of_tag_table {C} {P} {s} {f} {read} {tag} {bytes} {x} spell fits k make other all steps value_of_steps otherwise e =
     let Q : Bool → Type 0 = λ b. (eqb tag k ≡ b) → cond b read other bytes ≡ Some x → IsSpellingOf spell fits tag bytes x in
     (elim (eqb tag k) as Q [
       | true ↦ λ yes h.
           let c = steps.reads_encoding bytes x all h in
           let same : (make c.0.0, c.0.1) ≡ x = let i = c.3 in cc in
-          let m = made c.0.0 c.2 in
+          let m = value_of_steps c.0.0 c.2 in
           let parts : tag ∷ bytes ≡ spell (make c.0.0) ++ c.0.1 = rw (m.0, eqb-true _ _ yes) (ap (λ (l : List ℕ). k ∷ l) c.1) in
           subst (λ (y : P × List ℕ). IsSpellingOf spell fits tag bytes y) same (parts, m.1)
       | false ↦ λ no h. otherwise h
     ]) refl e
 
--- ---- values that all of the bytes encode
+-- ---- values that are encoded by the whole list of bytes
 
 all_bytes_read_by_whole_value : {A : Type 0} (r : Read A) (a : A) → whole_value r ≡ Some a → r ≡ Some (a, [])
 all_bytes_read_by_whole_value (Some (x, [])) a e = let same : x ≡ a = cc in ap (λ v. Some (v, [])) same

@@ -10,7 +10,7 @@ use Rattle.mcs_codec.specs.Reading.{◌>>=◌, Reading, give, number_below_at, r
 use Rattle.mcs_codec.specs.CommandBytes.{place_bytes, command_bytes, IsPlaceInRange, IsCommandInRange}
 use Rattle.mcs_codec.specs.CommandReading.{place_at, command_at, command_after_tag}
 use Rattle.mcs_codec.specs.Codec.{Encodes}
-use Rattle.mcs_codec.proofs.Codecs.{IsCodec, IsBytes, IsBytes-rest, Steps, byte_codec, long_codec, address_codec, number_below_codec, last_step, next_step, steps_of_empty_block, row_of_tag_table, whole_value_reads_encoding, whole_value_reads_back, encoded_value_is_unique}
+use Rattle.mcs_codec.proofs.Codecs.{IsCodec, IsBytes, IsBytes-rest, IsBlock, byte_codec, long_codec, address_codec, number_below_codec, last_step, next_step, steps_of_empty_block, row_of_tag_table, whole_value_reads_encoding, whole_value_reads_back, encoded_value_is_unique}
 use Rattle.mcs_codec.proofs.BoardCodec.{board_codec}
 use Rattle.mcs_codec.proofs.ImageCodec.{image_codec}
 
@@ -28,22 +28,22 @@ status_codec = number_below_codec 4 (omega arith)
 
 -- ---- readings of one, two and three fields
 
-steps_of_one_field : {A P : Type 0} {s : A → List ℕ} {f : A → Type 0} {r : Reading A} (make : A → P) → IsCodec s f r → Steps s f (λ a. give (make a)) (do a ← r; give (make a))
+steps_of_one_field : {A P : Type 0} {s : A → List ℕ} {f : A → Type 0} {r : Reading A} (make : A → P) → IsCodec s f r → IsBlock s f (λ a. give (make a)) (do a ← r; give (make a))
 steps_of_one_field make a = last_step _ a
 
 steps_of_two_fields : {A B P : Type 0} {s : A → List ℕ} {f : A → Type 0} {r : Reading A} {t : B → List ℕ} {g : B → Type 0} {q : Reading B} (make : A → B → P) → IsCodec s f r → IsCodec t g q
-    → Steps (λ (p : A × B). s p.0 ++ t p.1) (λ p. f p.0 × g p.1) (λ p. give (make p.0 p.1)) (do a ← r; b ← q; give (make a b))
+    → IsBlock (λ (p : A × B). s p.0 ++ t p.1) (λ p. f p.0 × g p.1) (λ p. give (make p.0 p.1)) (do a ← r; b ← q; give (make a b))
 steps_of_two_fields make a b = next_step _ a (λ _ _. last_step _ b)
 
 steps_of_three_fields : {A B C P : Type 0} {s : A → List ℕ} {f : A → Type 0} {r : Reading A} {t : B → List ℕ} {g : B → Type 0} {q : Reading B} {u : C → List ℕ} {h : C → Type 0} {w : Reading C} (make : A → B → C → P) → IsCodec s f r → IsCodec t g q → IsCodec u h w
-    → Steps (λ (p : A × (B × C)). s p.0 ++ (t p.1.0 ++ u p.1.1)) (λ p. f p.0 × (g p.1.0 × h p.1.1)) (λ p. give (make p.0 p.1.0 p.1.1)) (do a ← r; b ← q; c ← w; give (make a b c))
+    → IsBlock (λ (p : A × (B × C)). s p.0 ++ (t p.1.0 ++ u p.1.1)) (λ p. f p.0 × (g p.1.0 × h p.1.1)) (λ p. give (make p.0 p.1.0 p.1.1)) (do a ← r; b ← q; c ← w; give (make a b c))
 steps_of_three_fields make a b c = next_step _ a (λ _ _. next_step _ b (λ _ _. last_step _ c))
 
 -- the fields of a status character: bank, upper nibble of the SRC byte, number, value
 abbrev StatusParts : Type 0
 StatusParts = ℕ × (ℕ × (ℕ × ℕ))
 
-status_steps : Steps (λ (p : StatusParts). p.0 ∷ p.1.0 ∷ p.1.1.0 ∷ p.1.1.1 ∷ []) (λ p. (p.0 < 8) × ((p.1.0 < 16) × ((p.1.1.0 < 4) × (p.1.1.1 < 16)))) (λ p. give (Status p.0 p.1.0 p.1.1.0 p.1.1.1))
+status_steps : IsBlock (λ (p : StatusParts). p.0 ∷ p.1.0 ∷ p.1.1.0 ∷ p.1.1.1 ∷ []) (λ p. (p.0 < 8) × ((p.1.0 < 16) × ((p.1.1.0 < 4) × (p.1.1.1 < 16)))) (λ p. give (Status p.0 p.1.0 p.1.1.0 p.1.1.1))
     (do bank ← number_below_at 8; high ← number_below_at 16; k ← number_below_at 4; n ← number_below_at 16; give (Status bank high k n))
 status_steps = next_step _ bank_codec (λ _ _. next_step _ nibble_codec (λ _ _. next_step _ status_codec (λ _ _. last_step _ nibble_codec)))
 

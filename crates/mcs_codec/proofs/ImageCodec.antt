@@ -11,9 +11,9 @@ use Rattle.std.proofs.lemmas.List.Elements.{All-from_recursion, recursion_from_A
 use Rattle.std.proofs.lemmas.Bool.Decides.{nat_tests}
 use Rattle.mcs_nibble.specs.Bits.{bit_of}
 use Rattle.mcs_nibble.specs.Tables.{table_of}
-use Rattle.mcs_nibble.proofs.TabledLemmas.{table_of-unique, get_or-table_of, length-table_of}
+use Rattle.mcs_nibble.proofs.TableLemmas.{table_of-unique, get_or-table_of, length-table_of}
 use Rattle.mcs_model.specs.Images.{IsImage}
-use Rattle.mcs_codec.specs.CommandBytes.{mark, byte_of_bits, mark_bytes, image_bytes, values}
+use Rattle.mcs_codec.specs.CommandBytes.{mark, byte_of_bits, mark_bytes, image_bytes, image_values}
 use Rattle.mcs_codec.specs.CommandReading.{mark_bit, addressed_bytes_at, image_at}
 use Rattle.mcs_codec.proofs.Codecs.{AreNumbersBelow, IsCodec, byte_codec, numbers_codec, last_step, next_step, steps_of_empty_block, steps_of_last_value, giving_codec, codec_of_equivalent_range}
 
@@ -23,8 +23,8 @@ abbrev pub HasAddressesFrom : ℕ → ℕ → List (ℕ × ℕ) → Type 0
 HasAddressesFrom low limit [] = Unit {0}
 HasAddressesFrom low limit (p ∷ image) = (low ≤ p.0) × (p.0 < limit) × (p.1 < 256) × HasAddressesFrom (p.0 + 1) limit image
 
--- Holds if the marks of the addresses from `at` to `limit - 1` are the marks of the image. A mark
--- of the image is 1 if the image has a byte at that address, and 0 otherwise.
+-- Holds if the marks of the addresses from `at` to `limit - 1` are the marks of the image. The mark
+-- of an address is 1 if the image has a byte at the address, and 0 otherwise.
 abbrev pub HasMarksOf : List ℕ → ℕ → ℕ → List (ℕ × ℕ) → Type 0
 HasMarksOf marks at limit image = (x : ℕ) → at ≤ x → x < limit → mark image x ≡ mark_bit marks x
 
@@ -58,8 +58,8 @@ mark_bit_is_one_or_zero marks at =
     let lt : n % 2 < 2 = omega arith in
     grind arith
 
-above : (at v : ℕ) → at ≤ v → (at < v) ⊎ (v ≡ at)
-above at v le = elim (cases_lt at v) [ inl lt ↦ inl lt | inr ge ↦ inr (omega arith) ]
+above_or_equal : (at v : ℕ) → at ≤ v → (at < v) ⊎ (v ≡ at)
+above_or_equal at v le = elim (cases_lt at v) [ inl lt ↦ inl lt | inr ge ↦ inr (omega arith) ]
 
 -- holds if the image has a byte at exactly those addresses from `at` to `limit - 1` that are marked
 abbrev HasBytesAtMarkedAddresses : List ℕ → ℕ → ℕ → List (ℕ × ℕ) → Type 0
@@ -73,7 +73,7 @@ no_address_left marks at limit (p ∷ image) le h = absurd (omega (arith, h.0.0,
 marked_address_read : (marks : List ℕ) (at limit : ℕ) (p : ℕ × List (ℕ × ℕ)) → at < limit → mark_bit marks at ≡ 1 → (p.0 < 256) × HasBytesAtMarkedAddresses marks (at + 1) limit p.1 → HasBytesAtMarkedAddresses marks at limit ((at, p.0) ∷ p.1)
 marked_address_read marks at limit p lt one h = (
   (omega arith, lt, h.0, h.1.0),
-  λ v le below. elim (above at v le) [
+  λ v le below. elim (above_or_equal at v le) [
     | inl more ↦ mark_past_first_address (at, p.0) p.1 v more ∙ h.1.1 v (omega arith) below
     | inr is ↦ mark_at_first_address (at, p.0) p.1 v (sym is) ∙ sym one ∙ ap (mark_bit marks) (sym is)
   ],
@@ -81,7 +81,7 @@ marked_address_read marks at limit p lt one h = (
 
 marked_address_split : (marks : List ℕ) (at limit : ℕ) (image : List (ℕ × ℕ)) → at < limit → mark_bit marks at ≡ 1 → HasBytesAtMarkedAddresses marks at limit image → (p : ℕ × List (ℕ × ℕ)) × ((at, p.0) ∷ p.1 ≡ image) × ((p.0 < 256) × HasBytesAtMarkedAddresses marks (at + 1) limit p.1)
 marked_address_split marks at limit [] lt one h = absurd (not_both_zero_and_one (mark_bit marks at) (sym (h.1 at (omega arith) lt)) one)
-marked_address_split marks at limit (p ∷ image) lt one h = elim (above at p.0 h.0.0) [
+marked_address_split marks at limit (p ∷ image) lt one h = elim (above_or_equal at p.0 h.0.0) [
   | inl more ↦ absurd (not_both_zero_and_one (mark_bit marks at) (sym (h.1 at (omega arith) lt) ∙ no_mark_below_lowest_address (p ∷ image) p.0 limit at (omega arith, h.0.1, h.0.2, h.0.3) more) one)
   | inr is ↦ ((p.1, image), ap (λ n. (n, p.1) ∷ image) (sym is), (h.0.2, (rw is at h.0.3, λ v le below. sym (mark_past_first_address p image v (omega arith)) ∙ h.1 v (omega arith) below)))
 ]
@@ -90,7 +90,7 @@ marked_address_split marks at limit (p ∷ image) lt one h = elim (above at p.0 
 unmarked_address_read : (marks : List ℕ) (at limit : ℕ) (image : List (ℕ × ℕ)) → mark_bit marks at ≡ 0 → HasBytesAtMarkedAddresses marks (at + 1) limit image → HasBytesAtMarkedAddresses marks at limit image
 unmarked_address_read marks at limit image none h = (
   addresses_from_lower_bound image at limit h.0,
-  λ v le below. elim (above at v le) [
+  λ v le below. elim (above_or_equal at v le) [
     | inl more ↦ h.1 v (omega arith) below
     | inr is ↦ rw is (no_mark_below_lowest_address image (at + 1) limit at h.0 (omega arith) ∙ sym none)
   ],
@@ -98,18 +98,18 @@ unmarked_address_read marks at limit image none h = (
 
 unmarked_address_split : (marks : List ℕ) (at limit : ℕ) (image : List (ℕ × ℕ)) → at < limit → mark_bit marks at ≡ 0 → HasBytesAtMarkedAddresses marks at limit image → HasBytesAtMarkedAddresses marks (at + 1) limit image
 unmarked_address_split marks at limit [] lt none h = (tt, λ v le below. h.1 v (omega arith) below)
-unmarked_address_split marks at limit (p ∷ image) lt none h = elim (above at p.0 h.0.0) [
+unmarked_address_split marks at limit (p ∷ image) lt none h = elim (above_or_equal at p.0 h.0.0) [
   | inl more ↦ ((omega arith, h.0.1, h.0.2, h.0.3), λ v le below. h.1 v (omega arith) below)
   | inr is ↦ absurd (not_both_zero_and_one (mark (p ∷ image) at) (h.1 at (omega arith) lt ∙ none) (mark_at_first_address p image at is))
 ]
 
-addressed_codec : (marks : List ℕ) (n at limit : ℕ) → at + n ≡ limit → IsCodec values (HasBytesAtMarkedAddresses marks at limit) (addressed_bytes_at marks n at)
+addressed_codec : (marks : List ℕ) (n at limit : ℕ) → at + n ≡ limit → IsCodec image_values (HasBytesAtMarkedAddresses marks at limit) (addressed_bytes_at marks n at)
 unfolding addressed_bytes_at
-addressed_codec marks zero at limit k = giving_codec (λ (_ : Unit {0}). []) values (HasBytesAtMarkedAddresses marks at limit) (steps_of_empty_block _) (λ u h. (refl, (tt, λ v le below. absurd (omega arith)))) (λ image h. no_address_left marks at limit image (omega arith) h)
+addressed_codec marks zero at limit k = giving_codec (λ (_ : Unit {0}). []) image_values (HasBytesAtMarkedAddresses marks at limit) (steps_of_empty_block _) (λ u h. (refl, (tt, λ v le below. absurd (omega arith)))) (λ image h. no_address_left marks at limit image (omega arith) h)
 addressed_codec marks (suc n) at limit k =
     let others = addressed_codec marks n (at + 1) limit (omega arith) in
     elim (mark_bit_is_one_or_zero marks at) [
-      | inl one ↦ rw one (giving_codec (λ p. (at, p.0) ∷ p.1) values (HasBytesAtMarkedAddresses marks at limit) (next_step _ byte_codec (λ _ _. last_step _ others)) (λ p h. (refl, marked_address_read marks at limit p (omega arith) one h)) (λ image h. marked_address_split marks at limit image (omega arith) one h))
+      | inl one ↦ rw one (giving_codec (λ p. (at, p.0) ∷ p.1) image_values (HasBytesAtMarkedAddresses marks at limit) (next_step _ byte_codec (λ _ _. last_step _ others)) (λ p h. (refl, marked_address_read marks at limit p (omega arith) one h)) (λ image h. marked_address_split marks at limit image (omega arith) one h))
       | inr none ↦ rw none (codec_of_equivalent_range (HasBytesAtMarkedAddresses marks at limit) (λ image h. unmarked_address_read marks at limit image none h) (λ image h. unmarked_address_split marks at limit image (omega arith) none h) others)
     ]
 
@@ -177,18 +177,18 @@ ascending_image_codec : IsCodec image_bytes (HasAddressesFrom 0 4096) image_at
 unfolding image_at
 ascending_image_codec = giving_codec (λ (p : List ℕ × List (ℕ × ℕ)). p.1) image_bytes (HasAddressesFrom 0 4096)
     (next_step _ (numbers_codec 512) (λ marks _. steps_of_last_value (addressed_codec marks 4096 0 4096 refl)))
-    (λ p h. (ap (λ (l : List ℕ). l ++ values p.1) (mark_bytes_equal_marks p.0 p.1 h.0 h.1.1), h.1.0))
+    (λ p h. (ap (λ (l : List ℕ). l ++ image_values p.1) (mark_bytes_equal_marks p.0 p.1 h.0 h.1.1), h.1.0))
     (λ image h. ((mark_bytes image, image), refl, (mark_bytes_are_bytes image, (h, mark_bytes_have_marks image))))
 
 -- ---- images in the form of `HasAddressesFrom` and in the form of `IsImage`
 
 addresses_from_low_of_image : (image : List (ℕ × ℕ)) (low : ℕ) → IsImage image → All (λ p. low ≤ p.0) image → HasAddressesFrom low 4096 image
-addresses_from_low_of_image [] low h above = tt
-addresses_from_low_of_image (p ∷ image) low h above =
+addresses_from_low_of_image [] low h at_least_low = tt
+addresses_from_low_of_image (p ∷ image) low h at_least_low =
     let here = h.in_range 0 p (omega arith) in
     let rest : IsImage image = record { rising = λ i j d lt in_list. h.rising (suc i) (suc j) d (omega arith) (omega arith); in_range = λ i d lt. h.in_range (suc i) d (omega arith) } in
     let later : All (λ q. p.0 + 1 ≤ q.0) image = λ i d lt. let x : p.0 < (get_or image i d).0 = h.rising 0 (suc i) d (omega arith) (omega arith) in omega arith in
-    (above 0 p (omega arith), here.0, here.1, addresses_from_low_of_image image (p.0 + 1) rest later)
+    (at_least_low 0 p (omega arith), here.0, here.1, addresses_from_low_of_image image (p.0 + 1) rest later)
 
 all_cons : (P : ℕ × ℕ → Type 0) (p : ℕ × ℕ) (image : List (ℕ × ℕ)) → P p → All P image → All P (p ∷ image)
 all_cons P p image h rest zero d lt = h
@@ -199,9 +199,9 @@ image_of_addresses_from_low [] low h = (record { rising = λ i j d lt in_list. a
 image_of_addresses_from_low (p ∷ image) low h =
     let rest = image_of_addresses_from_low image (p.0 + 1) h.3 in
     let later : All (λ q. p.0 < q.0) image = λ i d lt. let x = rest.1 i d lt in omega arith in
-    let above : All (λ q. low ≤ q.0) image = λ i d lt. let x = rest.1 i d lt in omega (arith, h.0) in (
+    let at_least_low : All (λ q. low ≤ q.0) image = λ i d lt. let x = rest.1 i d lt in omega (arith, h.0) in (
       record { rising = AllPairs-cons (λ x y. x.0 < y.0) p image later rest.0.rising; in_range = all_cons (λ q. (q.0 < 4096) × (q.1 < 256)) p image (h.1, h.2) rest.0.in_range },
-      all_cons (λ q. low ≤ q.0) p image h.0 above,
+      all_cons (λ q. low ≤ q.0) p image h.0 at_least_low,
     )
 
 pub image_codec : IsCodec image_bytes IsImage image_at
@@ -219,7 +219,7 @@ image_length_within_bounds (p ∷ image) low limit le h =
 pub length-image : (image : List (ℕ × ℕ)) → IsImage image → length (image_bytes image) ≤ 4608
 length-image image h =
     let few = image_length_within_bounds image 0 4096 (omega arith) (addresses_from_low_of_image image 0 h (λ i d lt. omega arith)) in
-    omega (arith, few, (mark_bytes_are_bytes image).len, length-append (mark_bytes image) (values image), length-map image (λ p. p.1))
+    omega (arith, few, (mark_bytes_are_bytes image).len, length-append (mark_bytes image) (image_values image), length-map image (λ p. p.1))
 
 -- ---- an image with one more byte
 
@@ -229,8 +229,8 @@ mark_if_either_test true false = refl
 mark_if_either_test false true = refl
 mark_if_either_test false false = refl
 
--- the marks of an image with one more byte: the address of that byte is marked, and the other marks
--- are unchanged
+-- if an image gets one more byte, the address of that byte is marked, and the other marks are
+-- unchanged
 pub mark_with_one_more_byte : (image : List (ℕ × ℕ)) (p : ℕ × ℕ) (at : ℕ) → mark (image ++ p ∷ []) at ≡ cond (eqb p.0 at) 1 (mark image at)
 mark_with_one_more_byte image p at = rw (list_any-append (λ q. eqb q.0 at) image (p ∷ [])) (mark_if_either_test (list_any (λ q. eqb q.0 at) image) (eqb p.0 at))
 

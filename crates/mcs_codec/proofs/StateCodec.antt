@@ -18,7 +18,7 @@ use Rattle.mcs_version1.proofs.Limits.{small-board-if-valid-in-version-1, valid-
 use Rattle.mcs_codec.specs.Reading.{read_all_of}
 use Rattle.mcs_codec.specs.BoardBytes.{counted_bytes}
 use Rattle.mcs_codec.specs.CommandBytes.{address_bytes}
-use Rattle.mcs_codec.specs.StateBytes.{registers_bytes, src_bytes, wiring_bytes, field_group_bytes}
+use Rattle.mcs_codec.specs.StateBytes.{registers_bytes, src_bytes, chains_to_breakpoints_bytes, field_group_bytes}
 use Rattle.mcs_codec.specs.StateReading.{chains_at, state_at}
 use Rattle.mcs_codec.specs.Codec.{EncodesInSomeVersion, EncodesState, EncodesState1, EncodesStateBy, version_of}
 use Rattle.mcs_codec.specs.declared.versions.Version.{Version}
@@ -89,17 +89,17 @@ regroup_three a b c rest = simp append_assoc
 regroup_five : (a b c d e rest : List ℕ) → (a ++ (b ++ (c ++ (d ++ e)))) ++ rest ≡ a ++ (b ++ (c ++ (d ++ (e ++ rest))))
 regroup_five a b c d e rest = simp append_assoc
 
--- the groups of fields, one after another, are all fields in the order of their bytes
+-- `field_group_bytes` is the concatenation of all fields, in the order of their bytes
 fields_in_order : (b : BusState) (p : Regs) (breakpoints rest : List ℕ)
     → field_group_bytes p b breakpoints rest
     ≡ b.rom ++ (b.ram ++ (b.status ++ (b.ram_ports ++ (b.rom_ports ++ (p.acc ∷ p.cy ∷ (p.r ++ (address_bytes p.pc ++ (flat_map address_bytes p.ret ++ (p.dcl ∷ b.rom_src ∷ (b.ram_src ++ (p.owed ∷ (flat_map (λ bits. bits) b.chains ++ (b.keys ++ (b.test ∷ (counted_bytes address_bytes breakpoints ++ rest)))))))))))))))
 fields_in_order b p breakpoints rest =
-    let wiring = wiring_bytes b breakpoints ++ rest in
-    regroup_five b.rom b.ram b.status b.ram_ports b.rom_ports (registers_bytes p ++ (src_bytes p b ++ wiring))
+    let chains_to_breakpoints = chains_to_breakpoints_bytes b breakpoints ++ rest in
+    regroup_five b.rom b.ram b.status b.ram_ports b.rom_ports (registers_bytes p ++ (src_bytes p b ++ chains_to_breakpoints))
     ∙ ap (λ l. b.rom ++ (b.ram ++ (b.status ++ (b.ram_ports ++ (b.rom_ports ++ (p.acc ∷ p.cy ∷ l)))))) (
-    regroup_three p.r (address_bytes p.pc) (flat_map address_bytes p.ret) (src_bytes p b ++ wiring)
+    regroup_three p.r (address_bytes p.pc) (flat_map address_bytes p.ret) (src_bytes p b ++ chains_to_breakpoints)
     ∙ ap (λ l. p.r ++ (address_bytes p.pc ++ (flat_map address_bytes p.ret ++ (p.dcl ∷ b.rom_src ∷ l)))) (
-    append_assoc b.ram_src (p.owed ∷ []) wiring ∙ ap (λ l. b.ram_src ++ (p.owed ∷ l)) (regroup_three (flat_map (λ bits. bits) b.chains) b.keys (b.test ∷ counted_bytes address_bytes breakpoints) rest)
+    append_assoc b.ram_src (p.owed ∷ []) chains_to_breakpoints ∙ ap (λ l. b.ram_src ++ (p.owed ∷ l)) (regroup_three (flat_map (λ bits. bits) b.chains) b.keys (b.test ∷ counted_bytes address_bytes breakpoints) rest)
     )
     )
 

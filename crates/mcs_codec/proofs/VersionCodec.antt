@@ -57,7 +57,7 @@ unfolding version_at
 bytes-of-read-version [] x e = absurd cc
 bytes-of-read-version (b ∷ bytes) x e = bytes_of_version_by_cases b bytes _ (eqb b 2) x (eqb-true _ _) e
 
--- ---- the version that the next byte determines, apart from the bytes after it
+-- ---- the version in a result of reading, without the bytes that follow it
 
 abbrev pub version_with_rest : List ℕ → Version → Version × List ℕ
 version_with_rest rest v = (v, rest)

@@ -20,7 +20,7 @@ rom_bytes (Some mask) =
 rom_bytes None = 45 ∷ 45 ∷ 45 ∷ 45 ∷ []
 
 -- the four bytes of a line: the number of its kind, and then three numbers; the last number is 0 if
--- a line of this kind has only two
+-- a line of this kind has only two numbers
 abbrev pub board_line_bytes : Line → List ℕ
 board_line_bytes (Rom chip k) = 0 ∷ chip ∷ k ∷ 0 ∷ []
 board_line_bytes (Ram bank chip k) = 1 ∷ bank ∷ chip ∷ k ∷ []

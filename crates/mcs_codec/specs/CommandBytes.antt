@@ -41,12 +41,12 @@ unfoldable pub mark_bytes : List (ℕ × ℕ) → List ℕ
 mark_bytes image = table_of 512 (λ i. byte_of_bits (λ k. mark image (8 * i + k)))
 
 -- the bytes of an image, without their addresses
-abbrev pub values : List (ℕ × ℕ) → List ℕ
-values image = map (λ p. p.1) image
+abbrev pub image_values : List (ℕ × ℕ) → List ℕ
+image_values image = map (λ p. p.1) image
 
 -- the bytes of an image: its marks, and then its bytes in ascending order of address
 abbrev pub image_bytes : List (ℕ × ℕ) → List ℕ
-image_bytes image = mark_bytes image ++ values image
+image_bytes image = mark_bytes image ++ image_values image
 
 -- the bytes of a command: its tag, 1 to 13, and then its fields
 abbrev pub command_bytes : Command → List ℕ

@@ -50,7 +50,7 @@ unfoldable pub mark_bit : List ℕ → ℕ → ℕ
 mark_bit marks at = bit_of (slice_index marks (at / 8)) (at % 8)
 
 -- Reads one byte for each marked address among `n` consecutive addresses (`n` is the second
--- argument). The first of them is `at`. Gives each byte with its address.
+-- argument). The first of these addresses is `at`. Gives each byte with its address.
 unfoldable pub addressed_bytes_at : List ℕ → ℕ → ℕ → Reading (List (ℕ × ℕ))
 addressed_bytes_at marks zero at = give []
 addressed_bytes_at marks (suc n) at =

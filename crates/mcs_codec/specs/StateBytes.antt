@@ -26,8 +26,8 @@ abbrev pub src_bytes : Regs → BusState → List ℕ
 src_bytes p b = p.dcl ∷ b.rom_src ∷ (b.ram_src ++ p.owed ∷ [])
 
 -- the bits of the chains, the states of the keys, the TEST level and the breakpoints
-abbrev pub wiring_bytes : BusState → List ℕ → List ℕ
-wiring_bytes b breakpoints =
+abbrev pub chains_to_breakpoints_bytes : BusState → List ℕ → List ℕ
+chains_to_breakpoints_bytes b breakpoints =
     flat_map (λ bits. bits) b.chains ++ (b.keys ++ (b.test ∷ counted_bytes address_bytes breakpoints))
 
 -- the four groups of fields after the board, and then `rest`
@@ -36,7 +36,7 @@ field_group_bytes p b breakpoints rest =
     memory_bytes b
     ++ (registers_bytes p
     ++ (src_bytes p b
-    ++ (wiring_bytes b breakpoints
+    ++ (chains_to_breakpoints_bytes b breakpoints
     ++ rest)))
 
 -- The bytes after the board in version 2: the groups of fields and the watches. Each watch is the

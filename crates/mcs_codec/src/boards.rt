@@ -58,12 +58,12 @@ impl Encode for Line {
     ghost spelling = { board_line_bytes };
 
     fn put(&self, out: &mut [u8], at: usize) -> usize {
-        let text = match *self {
+        let bytes = match *self {
             Line::Rom(chip, k) => [0, chip, k, 0],
             Line::Ram(bank, chip, k) => [1, bank, chip, k],
             Line::Chain(n, i) => [2, n, i, 0],
         };
-        put(out, at, &text)
+        put(out, at, &bytes)
     }
 }
 

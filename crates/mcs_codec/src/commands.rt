@@ -50,7 +50,7 @@ fn show_command_is_in_range(command: &Command)
             address.get();
         }
         Command::Watch(bank, src) | Command::Unwatch(bank, src) => {
-            let _character = (bank.get(), *src);
+            let _nibble = (bank.get(), *src);
         }
         Command::Step | Command::Reset => {}
     }

@@ -2,7 +2,7 @@
 //! is 1 if the image has a byte at the address.
 ghost use Rattle.std.specs.Prelude.{◌≡◌, ℕ, ◌+◌, ◌*◌, ◌≤◌, ◌<◌, ◌∷◌, ◌++◌, List, [], length, take, map, slice_index, option_map, IfOk};
 ghost use Rattle.mcs_nibble.specs.Tables.{table_of};
-ghost use Rattle.mcs_codec.specs.CommandBytes.{mark, byte_of_bits, mark_bytes, values, image_bytes};
+ghost use Rattle.mcs_codec.specs.CommandBytes.{mark, byte_of_bits, mark_bytes, image_values, image_bytes};
 ghost use Rattle.mcs_codec.specs.CommandReading.{mark_bit, addressed_bytes_at, image_at};
 
 use crate::encoding::{Encode, put, put_all};
@@ -25,8 +25,8 @@ fn marks_of(image: &[AddressedByte]) -> [Bit; ADDRESSES]
     ensures { (at : ℕ) → at < 4096 → slice_index result at ≡ mark image.now at }
 {
     let mut marks = [Bit::ZERO; ADDRESSES];
-    for addressed in image {
-        marks[usize::from(addressed.0.get())] = Bit::ONE;
+    for pair in image {
+        marks[usize::from(pair.0.get())] = Bit::ONE;
     }
     marks
 }
@@ -56,7 +56,7 @@ fn packed_marks(image: &[AddressedByte]) -> [u8; MARK_BYTES]
 }
 
 impl Encode for AddressedByte {
-    ghost spelling = { λ addressed. addressed.1 ∷ [] };
+    ghost spelling = { λ pair. pair.1 ∷ [] };
 
     fn put(&self, out: &mut [u8], at: usize) -> usize {
         put(out, at, &[self.1])
@@ -65,9 +65,9 @@ impl Encode for AddressedByte {
 
 /// Writes the bytes of an image in ascending order of address. Returns the offset after them.
 fn put_values(image: &[AddressedByte], out: &mut [u8], at: usize) -> usize
-    requires { at + length (values image.now) ≤ length out.old }
-    ensures end { result ≡ at + length (values image.now) }
-    ensures front { take result out.new ≡ take at out.old ++ values image.now }
+    requires { at + length (image_values image.now) ≤ length out.old }
+    ensures end { result ≡ at + length (image_values image.now) }
+    ensures front { take result out.new ≡ take at out.old ++ image_values image.now }
 {
     put_all(image, out, at)
 }
@@ -78,9 +78,9 @@ pub fn put_image(image: &Image, out: &mut [u8], at: usize) -> usize
     ensures end { result ≡ at + length (image_bytes image.now) }
     ensures front { take result out.new ≡ take at out.old ++ image_bytes image.now }
 {
-    let addressed = image.pairs();
-    let at = put(out, at, &packed_marks(addressed));
-    put_values(addressed, out, at)
+    let pairs = image.pairs();
+    let at = put(out, at, &packed_marks(pairs));
+    put_values(pairs, out, at)
 }
 
 /// Returns the mark of an address, 0 or 1, from the packed marks.

@@ -51,8 +51,8 @@ fn read_board_in_version(version: Version, reader: &mut Reader<'_>) -> Option<Bo
     }
 }
 
-/// Reads the version and then the board. Only this step of reading a state determines the version.
-/// Returns `None` if the bytes do not encode a version and a board.
+/// Reads the version and then the board. When a state is read, only this function determines the version. Returns
+/// `None` if the bytes do not encode a version and a board.
 #[tactic(auto, unfolding(crate::specs::StateReading::versioned_board_at))]
 fn read_versioned_board(reader: &mut Reader<'_>) -> Option<(Version, Board)>
     ensures { option_map (λ x. (x, reader.new)) result ≡ versioned_board_at reader.old }

@@ -4,7 +4,7 @@ ghost use Rattle.std.specs.List.{flat_map};
 ghost use Rattle.mcs_model.specs.Boards.{chain_bits, chain_count, key_count};
 ghost use Rattle.mcs_model.specs.Validity.{IsValid};
 ghost use Rattle.mcs_codec.specs.StateLists.{list_in_state, state_list_length};
-ghost use Rattle.mcs_codec.specs.StateBytes.{memory_bytes, registers_bytes, src_bytes, wiring_bytes, bytes_after_board, state_bytes};
+ghost use Rattle.mcs_codec.specs.StateBytes.{memory_bytes, registers_bytes, src_bytes, chains_to_breakpoints_bytes, bytes_after_board, state_bytes};
 ghost use Rattle.mcs_codec.specs.Codec.{EncodesState};
 
 use crate::boards::put_board;
@@ -157,13 +157,13 @@ fn put_chains(bench: &Bench, out: &mut [u8], at: usize) -> usize
 
 /// Writes the bits of the chains, the states of the keys, the TEST level and the breakpoints.
 /// Returns the offset after them.
-fn put_wiring(bench: &Bench, out: &mut [u8], at: usize) -> usize
+fn put_chains_to_breakpoints(bench: &Bench, out: &mut [u8], at: usize) -> usize
     requires valid { IsValid bench.now }
-    requires room { at + length (wiring_bytes bench.now.bus bench.now.breakpoints)
+    requires room { at + length (chains_to_breakpoints_bytes bench.now.bus bench.now.breakpoints)
         ≤ length out.old }
-    ensures end { result ≡ at + length (wiring_bytes bench.now.bus bench.now.breakpoints) }
+    ensures end { result ≡ at + length (chains_to_breakpoints_bytes bench.now.bus bench.now.breakpoints) }
     ensures front { take result out.new
-        ≡ take at out.old ++ wiring_bytes bench.now.bus bench.now.breakpoints }
+        ≡ take at out.old ++ chains_to_breakpoints_bytes bench.now.bus bench.now.breakpoints }
 {
     let at = put_chains(bench, out, at);
     let at = StateList::Keys.put(bench, out, at);
@@ -171,9 +171,9 @@ fn put_wiring(bench: &Bench, out: &mut [u8], at: usize) -> usize
     put_counted(bench.breaks(), out, at)
 }
 
-/// Writes all fields after the board: memory, registers, SRC bytes, wiring and watches. Returns the
+/// Writes all fields after the board: memory, registers, SRC bytes, chains to breakpoints, and watches. Returns the
 /// offset after them.
-fn put_groups(bench: &Bench, out: &mut [u8], at: usize) -> usize
+fn put_fields_after_board(bench: &Bench, out: &mut [u8], at: usize) -> usize
     requires valid { IsValid bench.now }
     requires room { at + length (bytes_after_board bench.now) ≤ length out.old }
     ensures end { result ≡ at + length (bytes_after_board bench.now) }
@@ -182,7 +182,7 @@ fn put_groups(bench: &Bench, out: &mut [u8], at: usize) -> usize
     let at = put_memory(bench, out, at);
     let at = put_registers(bench, out, at);
     let at = put_src_bytes(bench, out, at);
-    let at = put_wiring(bench, out, at);
+    let at = put_chains_to_breakpoints(bench, out, at);
     put_counted(bench.watches(), out, at)
 }
 
@@ -197,7 +197,7 @@ fn put_state(bench: &Bench, into: &mut [u8]) -> usize
     let at = put(into, 0, &bench.seq().to_be_bytes());
     let at = put(into, at, &[Version::Two.number()]);
     let at = put_board(bench.board().parts(), into, at);
-    put_groups(bench, into, at)
+    put_fields_after_board(bench, into, at)
 }
 
 /// Writes the state of a bench to the start of `into` and returns its length, at most 7,632 bytes.

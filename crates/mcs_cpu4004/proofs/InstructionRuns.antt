@@ -10,8 +10,8 @@ use Rattle.mcs_model.specs.Running.{Machine, is_outside_table, after_cycles}
 use Rattle.mcs_model.proofs.RunLemmas.{next}
 use Rattle.mcs_cpu4004.specs.IsInstructionRun.{IsInstructionRun}
 
--- if `cycle_of` returns `Some t` for the machine `s`, the opcode is in the table, or a second cycle
--- is pending; `t` is the machine after the cycle
+-- if `cycle_of` returns `Some t` for the machine `s`, a cycle is possible (`is_outside_table` is
+-- false), and `t` is the machine after this cycle
 pub machine_after_possible_cycle : (s t : Machine) → cycle_of s.0 s.1 ≡ Some t → (is_outside_table s ≡ false) × (t ≡ next s)
 machine_after_possible_cycle s t e = (ap is_none e, sym (ap (λ o. unwrap_or o s) e))
 
@@ -25,7 +25,7 @@ instruction_run-of_no_cycle left s out = record {
   between = λ j h l. absurd (omega arith);
 }
 
--- if a cycle leads from `s` to `t`, it is a run of one instruction with 1 cycle
+-- if a cycle leads from `s` to `t`, this cycle alone is a run of one instruction
 pub instruction_run-of_one_cycle : (left : ℕ) (s t : Machine) → 0 < left → cycle_of s.0 s.1 ≡ Some t → IsInstructionRun left s t 1
 instruction_run-of_one_cycle left s t l e = record {
   within = omega arith;
@@ -35,8 +35,8 @@ instruction_run-of_one_cycle left s t l e = record {
   between = λ j h k. absurd (omega arith);
 }
 
--- if a cycle from `s` leaves a second cycle pending, both cycles are a run of one instruction with
--- 2 cycles
+-- if a cycle from `s` leaves a second cycle pending, both cycles together are a run of one
+-- instruction
 pub instruction_run-of_two_cycles : (left : ℕ) (s t u : Machine) → 1 < left → cycle_of s.0 s.1 ≡ Some t → t.0.owed ≡ 1 → cycle_of t.0 t.1 ≡ Some u → IsInstructionRun left s u 2
 instruction_run-of_two_cycles left s t u l e owed f =
     let new = (machine_after_possible_cycle s t e).1 in
@@ -61,16 +61,16 @@ second_cycle-clears_owed : (s : Regs) (m : BusState) → cycle_of (record s { ow
 unfolding cycle_of
 second_cycle-clears_owed s m = refl
 
--- if a second cycle is pending, it is a run of one instruction with 1 cycle
+-- if a second cycle is pending, this cycle alone is a run of one instruction
 pub instruction_run-of_second_cycle : (left : ℕ) (s : Regs) (m : BusState) (counter : ℕ) → 0 < left → s.owed ≡ 1 → counter ≡ s.pc → IsInstructionRun left (s, m) (record s { pc = counter; owed = 0 }, m) 1
 instruction_run-of_second_cycle left s m counter l owed same =
     let begun : s ≡ record s { owed = 1 } = ap (λ o. record s { owed = o }) owed in
     let there : (record s { owed = 0 }, m) ≡ (record s { pc = counter; owed = 0 }, m) = ap (λ p. (record s { pc = p; owed = 0 }, m)) (sym same) in
     instruction_run-of_one_cycle left (s, m) (record s { pc = counter; owed = 0 }, m) l (ap (λ (r : Regs). cycle_of r m) begun ∙ second_cycle-clears_owed s m ∙ ap Some there)
 
--- If no second cycle is pending, all cycles of the instruction at the program counter are a run of
--- one instruction. No second cycle is pending after the run. `regs`, with the program counter set
--- to `counter`, are the registers after the run, and `m` is the bus after the run.
+-- If no second cycle is pending, all cycles of the instruction at the program counter together are
+-- a run of one instruction. No second cycle is pending after the run. `regs`, with the program
+-- counter set to `counter`, are the registers after the run, and `m` is the bus after the run.
 pub instruction_run-of_all_cycles : (left : ℕ) (op : Op) (s : Machine) (regs : Regs) (m : BusState) (counter cycles : ℕ) → cycles ≤ left → s.0.owed ≢ 1 → instruction_at s.0 s.1 ≡ Some op → (record regs { pc = counter; owed = cycles - 1 }, m) ≡ effect op s.0 s.1 → 0 < cycles → cycles < 3 → regs.owed ≡ 0 → IsInstructionRun left s (record regs { pc = counter }, m) cycles
 instruction_run-of_all_cycles left op s regs m counter cycles l free at done some few none =
     let t : Machine = (record regs { pc = counter; owed = cycles - 1 }, m) in

@@ -89,7 +89,7 @@ fn increment_register(regs: &mut Regs, r: RegNo)
 /// makes the compiler emit a branch for this decision. The host can predict a branch, so it need not wait for the
 /// value of a register.
 ///
-/// The emulated registers are not parameters, because the compiler would assume that the call can change each of
+/// The emulated registers are not parameters: if they were, the compiler would assume that the call can change each of
 /// them. The compiler cannot see that adding 0 has no effect, so it keeps the call.
 #[cold]
 #[inline(never)]
@@ -182,10 +182,10 @@ fn active_line(lines: Nibble) -> Nibble
 fn decimal_adjust(regs: &mut Regs)
     ensures { regs.new ≡ after_daa regs.old }
 {
-    let adds = regs.cy.get() == 1 || regs.acc.get() > 9;
-    let sum = regs.acc.get() + if adds { 6 } else { 0 };
+    let needs_adjustment = regs.cy.get() == 1 || regs.acc.get() > 9;
+    let sum = regs.acc.get() + if needs_adjustment { 6 } else { 0 };
     regs.acc = Nibble::low_of(sum);
-    regs.cy = Bit::when(adds);
+    regs.cy = Bit::when(needs_adjustment);
 }
 
 /// Expands to the program counter after an instruction, whose name is the first argument. The result is `$next`, the
@@ -261,9 +261,9 @@ macro_rules! effect {
     };
     (Xch $regs:ident $bus:ident $next:ident $a:ident $b:ident) => {
         {
-            let held = $regs.register($a);
+            let old_value = $regs.register($a);
             $regs.set_register($a, $regs.acc);
-            $regs.acc = held;
+            $regs.acc = old_value;
         }
     };
     (Bbl $regs:ident $bus:ident $next:ident $a:ident $b:ident) => {

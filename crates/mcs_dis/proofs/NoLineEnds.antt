@@ -17,30 +17,30 @@ use Rattle.mcs_dis.proofs.LinesParseBack.{ends_in_cr, IsLine}
 abbrev pub is_no_line_end : ℕ → Bool
 is_no_line_end b = not (eqb b 10) && not (eqb b 13)
 
-abbrev pub NoLineEnds : List ℕ → Type 0
-NoLineEnds l = list_all is_no_line_end l ≡ true
+abbrev pub HasNoLineEnds : List ℕ → Type 0
+HasNoLineEnds l = list_all is_no_line_end l ≡ true
 
-byte_at_index_is_no_line_end : (l : List ℕ) (i : ℕ) → i < length l → NoLineEnds l → is_no_line_end (get_or l i 0) ≡ true
+byte_at_index_is_no_line_end : (l : List ℕ) (i : ℕ) → i < length l → HasNoLineEnds l → is_no_line_end (get_or l i 0) ≡ true
 byte_at_index_is_no_line_end [] i lt all = absurd (omega (arith, lt))
 byte_at_index_is_no_line_end (b ∷ l) zero lt all = (and_parts (is_no_line_end b) (list_all is_no_line_end l) all).0
 byte_at_index_is_no_line_end (b ∷ l) (suc i) lt all = byte_at_index_is_no_line_end l i (omega (arith, lt)) (and_parts (is_no_line_end b) (list_all is_no_line_end l) all).1
 
-does_not_end_in_cr : (l : List ℕ) → NoLineEnds l → ends_in_cr l ≡ false
+does_not_end_in_cr : (l : List ℕ) → HasNoLineEnds l → ends_in_cr l ≡ false
 does_not_end_in_cr [] all = refl
 does_not_end_in_cr (b ∷ l) all =
     let last : ℕ = get_or (b ∷ l) (length (b ∷ l) - 1) 0 in
     not-true (eqb last 13) (and_parts (not (eqb last 10)) (not (eqb last 13)) (byte_at_index_is_no_line_end (b ∷ l) (length (b ∷ l) - 1) (omega arith) all)).1
 
-contains_no_line_feed : (l : List ℕ) → NoLineEnds l → HasNoSeparator is_line_feed l
+contains_no_line_feed : (l : List ℕ) → HasNoLineEnds l → HasNoSeparator is_line_feed l
 contains_no_line_feed [] all = tt
 contains_no_line_feed (b ∷ l) all =
     let (here, more) = and_parts (is_no_line_end b) (list_all is_no_line_end l) all in
     (not-true (eqb b 10) (and_parts (not (eqb b 10)) (not (eqb b 13)) here).0, contains_no_line_feed l more)
 
-pub is_line_if_no_line_ends : (l : List ℕ) → NoLineEnds l → IsLine l
+pub is_line_if_no_line_ends : (l : List ℕ) → HasNoLineEnds l → IsLine l
 is_line_if_no_line_ends l all = (contains_no_line_feed l all, does_not_end_in_cr l all)
 
-no_line_ends_in_append : (xs ys : List ℕ) → NoLineEnds xs → NoLineEnds ys → NoLineEnds (xs ++ ys)
+no_line_ends_in_append : (xs ys : List ℕ) → HasNoLineEnds xs → HasNoLineEnds ys → HasNoLineEnds (xs ++ ys)
 no_line_ends_in_append [] ys all more = more
 no_line_ends_in_append (b ∷ xs) ys all more =
     let (here, others) = and_parts (is_no_line_end b) (list_all is_no_line_end xs) all in
@@ -49,23 +49,23 @@ no_line_ends_in_append (b ∷ xs) ys all more =
 hex_digit_is_no_line_end : (d : ℕ) → d < 16 → is_no_line_end (hex_digit d) ≡ true
 hex_digit_is_no_line_end d lt = test_true_below_limit (λ d. is_no_line_end (hex_digit d)) 16 refl d lt
 
-no_line_ends_in_decimal : (d : ℕ) → d < 16 → NoLineEnds (decimal d)
+no_line_ends_in_decimal : (d : ℕ) → d < 16 → HasNoLineEnds (decimal d)
 unfolding digits
 no_line_ends_in_decimal d lt = test_true_below_limit (λ d. list_all is_no_line_end (decimal d)) 16 refl d lt
 
-no_line_ends_in_two_hex_digits : (b : ℕ) → b < 256 → NoLineEnds (two_hex_digits b)
+no_line_ends_in_two_hex_digits : (b : ℕ) → b < 256 → HasNoLineEnds (two_hex_digits b)
 no_line_ends_in_two_hex_digits b lt =
     let high : b / 16 < 16 = omega arith in
     let last : b % 16 < 16 = omega arith in
     rw (hex_digit_is_no_line_end (b / 16) high, hex_digit_is_no_line_end (b % 16) last) refl
 
-pub no_line_ends_in_address : (p b : ℕ) → p < 16 → b < 256 → NoLineEnds (address p b)
+pub no_line_ends_in_address : (p b : ℕ) → p < 16 → b < 256 → HasNoLineEnds (address p b)
 no_line_ends_in_address p b lp lt = rw (hex_digit_is_no_line_end p lp) (no_line_ends_in_two_hex_digits b lt)
 
-pub no_line_ends_in_byte_text : (b : ℕ) → b < 256 → NoLineEnds (byte_text b)
+pub no_line_ends_in_byte_text : (b : ℕ) → b < 256 → HasNoLineEnds (byte_text b)
 no_line_ends_in_byte_text b lt = no_line_ends_in_two_hex_digits b lt
 
-pub no_line_ends_in_instruction_text : (at : ℕ) (o : Op) → HasOperandsInRange o → NoLineEnds (instruction_text at o)
+pub no_line_ends_in_instruction_text : (at : ℕ) (o : Op) → HasOperandsInRange o → HasNoLineEnds (instruction_text at o)
 no_line_ends_in_instruction_text at Nop h = refl
 no_line_ends_in_instruction_text at Wrm h = refl
 no_line_ends_in_instruction_text at Wmp h = refl

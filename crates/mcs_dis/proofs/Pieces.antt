@@ -6,11 +6,11 @@ use Rattle.mcs_model.specs.declared.op.Op.{Op}
 use Rattle.mcs_source.specs.Lexical.{tokens}
 use Rattle.mcs_source.specs.Lines as asm
 use Rattle.mcs_model.specs.Table.{instruction_of, word_count_of}
-use Rattle.mcs_source.specs.Assembly.{statement_bytes, size, is_bad_origin, next_statement}
+use Rattle.mcs_source.specs.Assembly.{statement_bytes, size, is_bad_origin, address_after_statement}
 use Rattle.mcs_source.specs.Text.{op_at, complete_op, second_word, piece_text, piece_size}
 use Rattle.mcs_dis.specs.ParseBack.{statement}
 use Rattle.mcs_dis.proofs.ReadBack.{instruction_text_parses_back, statement_emits_encoding, byte_parses_back, statement_size_is_word_count, next_address_after_instruction, origin_is_not_bad}
-use Rattle.mcs_dis.proofs.NoLineEnds.{NoLineEnds, no_line_ends_in_byte_text, no_line_ends_in_instruction_text}
+use Rattle.mcs_dis.proofs.NoLineEnds.{HasNoLineEnds, no_line_ends_in_byte_text, no_line_ends_in_instruction_text}
 use Rattle.mcs_source.proofs.Decoding.{decoded_instruction_is_encoded_by_words, word_count_is_one_or_two}
 
 abbrev pub piece_statement : ℕ → ℕ → Option Op → asm.Statement
@@ -18,17 +18,17 @@ piece_statement at b None = asm.Data (asm.Number b ∷ [])
 piece_statement at b (Some o) = statement at o
 
 pub record IsPiece (at b : ℕ) (rest : List ℕ) (x : Option Op) : Type 0 where
-  pub reads : asm.line_of (tokens (piece_text at b x)) ≡ Some (asm.Code None (Some (piece_statement at b x)))
+  pub parses_back : asm.line_of (tokens (piece_text at b x)) ≡ Some (asm.Code None (Some (piece_statement at b x)))
   pub bytes : statement_bytes at [] (piece_statement at b x) ≡ Ok (take (piece_size x) (b ∷ rest))
-  pub size_of : size (piece_statement at b x) ≡ piece_size x
-  pub next : next_statement (Some (piece_statement at b x)) at ≡ at + piece_size x
+  pub statement_size : size (piece_statement at b x) ≡ piece_size x
+  pub next : address_after_statement (Some (piece_statement at b x)) at ≡ at + piece_size x
   pub no_bad_origin : is_bad_origin (Some (piece_statement at b x)) ≡ false
   pub some : 1 ≤ piece_size x
   pub fits : piece_size x ≤ 1 + length rest
-  pub no_line_ends : NoLineEnds (piece_text at b x)
+  pub no_line_ends : HasNoLineEnds (piece_text at b x)
 
 single_byte_is_piece : (at b : ℕ) (rest : List ℕ) → b < 256 → IsPiece at b rest None
-single_byte_is_piece at b rest lt = record { reads = byte_parses_back b lt; bytes = rw (lt-ltb b 256 lt) refl; size_of = refl; next = refl; no_bad_origin = refl; some = omega arith; fits = omega arith; no_line_ends = no_line_ends_in_byte_text b lt }
+single_byte_is_piece at b rest lt = record { parses_back = byte_parses_back b lt; bytes = rw (lt-ltb b 256 lt) refl; statement_size = refl; next = refl; no_bad_origin = refl; some = omega arith; fits = omega arith; no_line_ends = no_line_ends_in_byte_text b lt }
 
 words_are_first_bytes : (n b : ℕ) (rest : List ℕ) → (n ≡ 1) ⊎ (n ≡ 2) → n ≤ 1 + length rest → take n (b ∷ second_word rest ∷ []) ≡ take n (b ∷ rest)
 words_are_first_bytes n b rest (inl e) le = rw e refl
@@ -39,9 +39,9 @@ instruction_is_piece : (at b : ℕ) (rest : List ℕ) (o : Op) → second_word r
 instruction_is_piece at b rest o lt e le =
     let s = decoded_instruction_is_encoded_by_words b (second_word rest) o lt e in
     record {
-      reads = instruction_text_parses_back at o s.0;
+      parses_back = instruction_text_parses_back at o s.0;
       bytes = statement_emits_encoding at o [] s.0 ∙ ap Ok (s.1 ∙ words_are_first_bytes (word_count_of o) b rest (word_count_is_one_or_two o) le);
-      size_of = statement_size_is_word_count at o;
+      statement_size = statement_size_is_word_count at o;
       next = next_address_after_instruction at at o;
       no_bad_origin = origin_is_not_bad at o;
       some = elim (word_count_is_one_or_two o) [ inl e ↦ omega (arith, e) | inr e ↦ omega (arith, e) ];

@@ -8,13 +8,13 @@ use Rattle.std.specs.Char.{digit_value}
 use Rattle.mcs_model.specs.declared.op.Op.{Op}
 use Rattle.mcs_model.specs.declared.op.Op.TheVariants.{Nop, Jcn, Fim, Src, Fin, Jin, Jun, Jms, Inc, Isz, Add, Sub, Ld, Xch, Bbl, Ldm, Wrm, Wmp, Wrr, Wr0, Wr1, Wr2, Wr3, Sbm, Rdm, Rdr, Adm, Rd0, Rd1, Rd2, Rd3, Clb, Clc, Iac, Cmc, Cma, Ral, Rar, Tcc, Dac, Tcs, Stc, Daa, Kbp, Dcl}
 use Rattle.mcs_source.specs.Lexical.{Token, Word, Comma, tokens, is_word_byte}
-use Rattle.mcs_source.proofs.Tokens.{byte_by_byte, tokens_after, word_token_before}
+use Rattle.mcs_source.proofs.Tokens.{tokens_byte_by_byte, tokens_after, word_token_before}
 use Rattle.mcs_model.specs.Numerals.{capped_number, number_in_word}
 use Rattle.mcs_source.specs.Mnemonics.{mnemonic_of, mnemonic_in_group1, mnemonic_in_group2, mnemonic_in_group3, mnemonic_in_group4, mnemonic_in_group5, mnemonic_in_group6}
 use Rattle.mcs_source.specs.Lines as asm
 use Rattle.mcs_source.specs.Text.{address, byte_text, instruction_text}
 use Rattle.mcs_source.specs.SourceText.{origin_text}
-use Rattle.mcs_source.specs.Assembly.{Names, statement_bytes, size, next_statement, is_bad_origin, reachable_page}
+use Rattle.mcs_source.specs.Assembly.{Names, statement_bytes, size, address_after_statement, is_bad_origin, reachable_page}
 use Rattle.mcs_model.specs.Table.{word_count_of}
 use Rattle.mcs_source.specs.Spelling.{spelling}
 use Rattle.mcs_source.specs.Spelled.{HasOperandsInRange}
@@ -62,22 +62,22 @@ tokens_of_word_before_comma w (b ∷ bs) rest all =
     let (here, more) = and_parts (is_word_byte b) (list_all is_word_byte bs) all in
     rw here (tokens_of_word_before_comma (w ++ b ∷ []) bs rest more ∙ ap (λ l. word_token_before l (Comma ∷ tokens_after [] rest)) (append_assoc w (b ∷ []) bs))
 
-is_some_of_nat : ℕ → Option ℕ → Bool
-is_some_of_nat n (Some m) = eqb m n
-is_some_of_nat n None = false
+is_some_equal_to : ℕ → Option ℕ → Bool
+is_some_equal_to n (Some m) = eqb m n
+is_some_equal_to n None = false
 
-option_is_some_if_is_some_of_nat : (n : ℕ) (o : Option ℕ) → is_some_of_nat n o ≡ true → o ≡ Some n
-unfolding is_some_of_nat
-option_is_some_if_is_some_of_nat n None h = absurd cc
-option_is_some_if_is_some_of_nat n (Some m) h = ap (λ (k : ℕ). Some k) (eqb-true _ _ h)
+option_is_some_if_equal : (n : ℕ) (o : Option ℕ) → is_some_equal_to n o ≡ true → o ≡ Some n
+unfolding is_some_equal_to
+option_is_some_if_equal n None h = absurd cc
+option_is_some_if_equal n (Some m) h = ap (λ (k : ℕ). Some k) (eqb-true _ _ h)
 
 small_decimal_parses_back : (d : ℕ) → d < 16 → asm.number_up_to_15 (decimal d) ≡ Some d
-unfolding digits is_some_of_nat
-small_decimal_parses_back d lt = option_is_some_if_is_some_of_nat d (asm.number_up_to_15 (decimal d)) (test_true_below_limit (λ d. is_some_of_nat d (asm.number_up_to_15 (decimal d))) 16 refl d lt)
+unfolding digits is_some_equal_to
+small_decimal_parses_back d lt = option_is_some_if_equal d (asm.number_up_to_15 (decimal d)) (test_true_below_limit (λ d. is_some_equal_to d (asm.number_up_to_15 (decimal d))) 16 refl d lt)
 
 pair_parses_back : (d : ℕ) → d < 8 → asm.pair_named (80 ∷ decimal d) ≡ Some d
-unfolding digits is_some_of_nat
-pair_parses_back d lt = option_is_some_if_is_some_of_nat d (asm.pair_named (80 ∷ decimal d)) (test_true_below_limit (λ d. is_some_of_nat d (asm.pair_named (80 ∷ decimal d))) 8 refl d lt)
+unfolding digits is_some_equal_to
+pair_parses_back d lt = option_is_some_if_equal d (asm.pair_named (80 ∷ decimal d)) (test_true_below_limit (λ d. is_some_equal_to d (asm.pair_named (80 ∷ decimal d))) 8 refl d lt)
 
 number_of_option : Option asm.Operand → Option ℕ
 number_of_option (Some (asm.Number m)) = Some m
@@ -199,7 +199,7 @@ line_of_instruction_tokens at (Isz r b) h = rw (tokens_of_word_before_comma (82 
 line_of_instruction_tokens at (Jcn c b) h = rw (tokens_of_decimal_before_comma c (32 ∷ address (reachable_page at) b) h.0, decimal_parses_back c h.0, tokens_of_address (reachable_page at) b (reachable_page_is_below_16 at) h.1, address_parses_back (reachable_page at) b (reachable_page_is_below_16 at) h.1) refl
 
 pub instruction_text_parses_back : (at : ℕ) (o : Op) → HasOperandsInRange o → TextParsesToStatement at o
-instruction_text_parses_back at o h = ap asm.line_of (byte_by_byte (instruction_text at o)) ∙ line_of_instruction_tokens at o h
+instruction_text_parses_back at o h = ap asm.line_of (tokens_byte_by_byte (instruction_text at o)) ∙ line_of_instruction_tokens at o h
 
 -- ---- the statement of an instruction emits the words that encode the instruction
 
@@ -272,7 +272,7 @@ unfolding tokens_after asm.statement_of asm.operands_of mnemonic_of mnemonic_in_
 line_of_byte_tokens b lt = rw (tokens_of_hex_byte b lt, hex_byte_parses_back b lt) refl
 
 pub byte_parses_back : (b : ℕ) → b < 256 → asm.line_of (tokens (byte_text b)) ≡ Some (asm.Code None (Some (asm.Data (asm.Number b ∷ []))))
-byte_parses_back b lt = ap asm.line_of (byte_by_byte (byte_text b)) ∙ line_of_byte_tokens b lt
+byte_parses_back b lt = ap asm.line_of (tokens_byte_by_byte (byte_text b)) ∙ line_of_byte_tokens b lt
 
 pub statement_size_is_word_count : (at : ℕ) (o : Op) → size (statement at o) ≡ word_count_of o
 statement_size_is_word_count at Nop = refl
@@ -321,7 +321,7 @@ statement_size_is_word_count at (Jun r b) = refl
 statement_size_is_word_count at (Jms r b) = refl
 statement_size_is_word_count at (Isz r b) = refl
 
-pub next_address_after_instruction : (at a : ℕ) (o : Op) → next_statement (Some (statement at o)) a ≡ a + word_count_of o
+pub next_address_after_instruction : (at a : ℕ) (o : Op) → address_after_statement (Some (statement at o)) a ≡ a + word_count_of o
 next_address_after_instruction at a Nop = refl
 next_address_after_instruction at a Wrm = refl
 next_address_after_instruction at a Wmp = refl
@@ -423,4 +423,4 @@ line_of_origin_tokens from lt =
     rw (tokens_of_address (from / 256) (from % 256) p b, number_in_address_text (from / 256) (from % 256) from p b (omega arith)) refl
 
 pub origin_parses_back : (from : ℕ) → from < 4096 → asm.line_of (tokens (origin_text from)) ≡ Some (asm.Code None (Some (asm.Origin from)))
-origin_parses_back from lt = ap asm.line_of (byte_by_byte (origin_text from)) ∙ line_of_origin_tokens from lt
+origin_parses_back from lt = ap asm.line_of (tokens_byte_by_byte (origin_text from)) ∙ line_of_origin_tokens from lt

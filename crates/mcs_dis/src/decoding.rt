@@ -57,7 +57,7 @@ pub fn piece_size(piece: &Option<Op>) -> usize
 }
 
 /// Returns the second word of the piece at the start of some bytes, or `None` if the piece has only one byte.
-pub fn second(bytes: &[u8], piece: &Option<Op>) -> Option<u8>
+pub fn second_word(bytes: &[u8], piece: &Option<Op>) -> Option<u8>
     requires { piece_size piece.now ≤ length bytes.now }
     ensures { result ≡ second_word_of_piece piece.now (drop 1 bytes.now) }
 {

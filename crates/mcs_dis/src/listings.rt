@@ -5,7 +5,7 @@ ghost use Rattle.mcs_source.specs.SourceText.{line_text, source_text};
 ghost use Rattle.mcs_dis.specs.OpAtStart.{op_at_start};
 ghost use Rattle.mcs_model.specs.TextLines.{as_line};
 
-use crate::decoding::{op_at_start, op_of, piece_size, second};
+use crate::decoding::{op_at_start, op_of, piece_size, second_word};
 use crate::texts::{push_columns, push_origin, push_piece};
 use mcs_nibble::Addr;
 use std::alloc::{AllocError, Global};
@@ -49,7 +49,7 @@ fn push_listing_line(out: &mut String, at: Addr, bytes: &[u8]) -> Result<usize, 
 {
     let piece = op_at_start(bytes);
     let size = piece_size(&piece);
-    push_columns(out, at, bytes[0], second(bytes, &piece))?;
+    push_columns(out, at, bytes[0], second_word(bytes, &piece))?;
     push_piece(out, at, bytes[0], piece)?;
     out.push('\n')?;
     Ok(size)
@@ -75,8 +75,8 @@ pub fn listing(alloc: Global, rom: &[u8], from: Addr, lines: usize) -> Result<St
     Ok(out)
 }
 
-/// Returns source text for the addresses from `from` up to, but not including, `to`. The text has the line `ORG
-/// 0xHHH`, then a line for each instruction or single byte, each followed by LF. It assembles to exactly the bytes at
+/// Returns source text for the addresses from `from` up to, but not including, `to`. The text has an `ORG 0xHHH` line,
+/// then a line for each instruction or single byte. Each line ends with LF. The text assembles to exactly the bytes at
 /// these addresses.
 pub fn source(alloc: Global, rom: &[u8], from: Addr, to: u16) -> Result<String, AllocError>
     requires rom { length rom.now ≡ 4096 }

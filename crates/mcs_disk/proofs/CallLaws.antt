@@ -1,5 +1,5 @@
 -- Properties of a disk after any calls: its bytes, its images (the bytes that a power cut can
--- leave), and how a stretch of further calls changes both.
+-- leave), and the effect of further calls on its bytes and images.
 use Rattle.std.proofs.Common.{◌≡◌, ◌⊎◌, inl, inr, ⊎_elim, ℕ, zero, suc, ◌+◌, ◌≤◌, ◌<◌, List, [], ◌∷◌, ◌++◌, length, take, refl, arith, sym, ◌∙◌, ap, subst, get_or, length-take}
 use Rattle.mcs_disk.specs.Calls.{DiskCall, WasRead, Wrote, Failed, Synced, Torn, put, bytes_after, clock_of, images_after, images_after_since}
 use Rattle.mcs_disk.specs.Stretches.{writes_of}
@@ -88,8 +88,8 @@ image_since_earlier_time start (call ∷ calls) t u c le (inl now) = inl now
 image_since_earlier_time start (call ∷ calls) t u c le (inr past) =
     inr (omega (arith, le, past.0), image_since_earlier_time start calls t u c le (past.1))
 
--- A power cut since the current time of the clock leaves an image of this moment. A failed call
--- does not advance the clock. Therefore the images before that call are also images after it.
+-- An image since the clock's current time is an image of this moment. A failed call does not
+-- advance the clock, but each image before the failed call is also an image after it.
 pub image_since_now_is_image : (start : List ℕ) (calls : List DiskCall) (c : List ℕ) → images_after_since start calls (clock_of calls) c → images_after start calls c
 image_since_now_is_image start [] c left = left
 image_since_now_is_image start (WasRead ∷ calls) c (inl now) = now
@@ -114,19 +114,19 @@ pub record IsLawful (disk : DiskState) : Type 0 where
   pub current : images_of disk (bytes_of disk)
   pub sized : (c : List ℕ) → images_of disk c → length c ≡ size_of disk
   -- an image of this moment is also an image since any time
-  pub counts_now : (t : ℕ) (c : List ℕ) → images_of disk c → images_since t disk c
+  pub now_implies_since : (t : ℕ) (c : List ℕ) → images_of disk c → images_since t disk c
   -- an image since the current time of the clock is an image of this moment
-  pub only_now : (c : List ℕ) → images_since (time_of disk) disk c → images_of disk c
+  pub since_now_implies_now : (c : List ℕ) → images_since (time_of disk) disk c → images_of disk c
   -- an image since a later time is also an image since an earlier time
-  pub longer : (t u : ℕ) (c : List ℕ) → t ≤ u → images_since u disk c → images_since t disk c
+  pub since_later_implies_since_earlier : (t u : ℕ) (c : List ℕ) → t ≤ u → images_since u disk c → images_since t disk c
 
 pub disk_is_lawful : (disk : DiskState) → IsLawful disk
 disk_is_lawful disk = record {
   current = current_bytes_are_image disk.start disk.calls;
   sized = length_of_image disk.start disk.calls;
-  counts_now = image_is_image_since disk.start disk.calls;
-  only_now = image_since_now_is_image disk.start disk.calls;
-  longer = image_since_earlier_time disk.start disk.calls;
+  now_implies_since = image_is_image_since disk.start disk.calls;
+  since_now_implies_now = image_since_now_is_image disk.start disk.calls;
+  since_later_implies_since_earlier = image_since_earlier_time disk.start disk.calls;
 }
 
 pub length-bytes_of : (disk : DiskState) → length (bytes_of disk) ≡ size_of disk

@@ -4,13 +4,13 @@ use Rattle.mcs_disk.specs.CallList.{IsCutShort, IsFailureOf, MakesCalls, AtMostO
 use Rattle.mcs_disk.specs.Calls.{DiskCall, Failed, Synced, WasRead, Wrote}
 use Rattle.mcs_disk.specs.Stretches.{writes_of}
 
--- an empty stretch leaves at most one unsynced write after each call
+-- `AtMostOneUnsynced` holds for an empty stretch
 pub at_most_one_unsynced_without_calls : (calls : List DiskCall) → AtMostOneUnsynced calls calls
 at_most_one_unsynced_without_calls calls = record { added = []; all = refl; each = none }
   where
-    none : (later sooner : List DiskCall) (call : DiskCall) → [] ≡ later ++ call ∷ sooner → unsynced_writes (call ∷ sooner ++ calls) ≤ 1
-    none [] sooner call is = cc
-    none (c ∷ later) sooner call is = cc
+    none : (later earlier : List DiskCall) (call : DiskCall) → [] ≡ later ++ call ∷ earlier → unsynced_writes (call ∷ earlier ++ calls) ≤ 1
+    none [] earlier call is = cc
+    none (c ∷ later) earlier call is = cc
 
 -- if `first` succeeded and `second` was cut short, then `first` followed by `second` was cut short
 pub cut_short_in_second : (first second : List DiskCall) (old mid new : List DiskCall) → mid ≡ first ++ old → IsCutShort second mid new → IsCutShort (second ++ first) old new
@@ -26,8 +26,8 @@ pub cut_short_in_first : (first second : List DiskCall) (old new : List DiskCall
 cut_short_in_first first [] old new cut = cut
 cut_short_in_first first (call ∷ second) old new cut = inr (cut_short_in_first first second old new cut)
 
--- if `first` succeeded, and `second` was then made with this result, then `first` followed by
--- `second` was made with this result
+-- if `first` succeeded, and `second` was then made with the result `result`, then `first` followed
+-- by `second` was made with `result`
 pub makes_calls_after_first_succeeds : {T E : Type 0} (first second : List DiskCall) (old mid new : List DiskCall) (result : Result T E)
     → mid ≡ first ++ old → MakesCalls second mid new result → MakesCalls (second ++ first) old new result
 makes_calls_after_first_succeeds first second old mid new (Ok x) is made = record { all = made.all ∙ ap (λ (l : List DiskCall). second ++ l) is ∙ sym (append_assoc second first old); cut = tt }
@@ -52,22 +52,22 @@ abbrev pub EachLeavesOneUnsynced : List DiskCall → List DiskCall → Type 0
 EachLeavesOneUnsynced old [] = Unit {0}
 EachLeavesOneUnsynced old (call ∷ made) = (unsynced_writes (call ∷ made ++ old) ≤ 1) × EachLeavesOneUnsynced old made
 
-one_unsynced_write_at_each_call : (old made later sooner : List DiskCall) (call : DiskCall) → EachLeavesOneUnsynced old made → made ≡ later ++ call ∷ sooner → unsynced_writes (call ∷ sooner ++ old) ≤ 1
-one_unsynced_write_at_each_call old [] [] sooner call ones is = cc
-one_unsynced_write_at_each_call old [] (d ∷ later) sooner call ones is = cc
-one_unsynced_write_at_each_call old (c ∷ made) [] sooner call ones is = subst (λ (l : List DiskCall). unsynced_writes (l ++ old) ≤ 1) is ones.0
-one_unsynced_write_at_each_call old (c ∷ made) (d ∷ later) sooner call ones is = one_unsynced_write_at_each_call old made later sooner call ones.1 cc
+one_unsynced_write_at_each_call : (old made later earlier : List DiskCall) (call : DiskCall) → EachLeavesOneUnsynced old made → made ≡ later ++ call ∷ earlier → unsynced_writes (call ∷ earlier ++ old) ≤ 1
+one_unsynced_write_at_each_call old [] [] earlier call ones is = cc
+one_unsynced_write_at_each_call old [] (d ∷ later) earlier call ones is = cc
+one_unsynced_write_at_each_call old (c ∷ made) [] earlier call ones is = subst (λ (l : List DiskCall). unsynced_writes (l ++ old) ≤ 1) is ones.0
+one_unsynced_write_at_each_call old (c ∷ made) (d ∷ later) earlier call ones is = one_unsynced_write_at_each_call old made later earlier call ones.1 cc
 
-each_leaves_one_unsynced_if_bounded : (old made : List DiskCall) → ((later sooner : List DiskCall) (call : DiskCall) → made ≡ later ++ call ∷ sooner → unsynced_writes (call ∷ sooner ++ old) ≤ 1) → EachLeavesOneUnsynced old made
+each_leaves_one_unsynced_if_bounded : (old made : List DiskCall) → ((later earlier : List DiskCall) (call : DiskCall) → made ≡ later ++ call ∷ earlier → unsynced_writes (call ∷ earlier ++ old) ≤ 1) → EachLeavesOneUnsynced old made
 each_leaves_one_unsynced_if_bounded old [] each = tt
-each_leaves_one_unsynced_if_bounded old (c ∷ made) each = (each [] made c refl, each_leaves_one_unsynced_if_bounded old made (λ later sooner call is. each (c ∷ later) sooner call (ap (λ (l : List DiskCall). c ∷ l) is)))
+each_leaves_one_unsynced_if_bounded old (c ∷ made) each = (each [] made c refl, each_leaves_one_unsynced_if_bounded old made (λ later earlier call is. each (c ∷ later) earlier call (ap (λ (l : List DiskCall). c ∷ l) is)))
 
 each_leaves_one_unsynced_in_both : (old first second : List DiskCall) → EachLeavesOneUnsynced old first → EachLeavesOneUnsynced (first ++ old) second → EachLeavesOneUnsynced old (second ++ first)
 each_leaves_one_unsynced_in_both old first [] before ones = before
 each_leaves_one_unsynced_in_both old first (c ∷ second) before ones = (subst (λ (l : List DiskCall). unsynced_writes (c ∷ l) ≤ 1) (sym (append_assoc second first old)) ones.0, each_leaves_one_unsynced_in_both old first second before ones.1)
 
 pub at_most_one_unsynced_if_each_leaves_one : (old new made : List DiskCall) → new ≡ made ++ old → EachLeavesOneUnsynced old made → AtMostOneUnsynced old new
-at_most_one_unsynced_if_each_leaves_one old new made is ones = record { added = made; all = is; each = λ later sooner call cut. one_unsynced_write_at_each_call old made later sooner call ones cut }
+at_most_one_unsynced_if_each_leaves_one old new made is ones = record { added = made; all = is; each = λ later earlier call cut. one_unsynced_write_at_each_call old made later earlier call ones cut }
 
 -- if two consecutive stretches each leave at most one write unsynced after each call, then so do
 -- both together

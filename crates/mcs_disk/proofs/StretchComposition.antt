@@ -66,7 +66,7 @@ length_of_disk_image_since disk t c left = length_of_image_since disk.start disk
 
 -- on a durable disk, the bytes of the disk are the only image since the clock's current time
 pub only_image_since_now_if_durable : (disk : DiskState) → IsDurable disk → (c : List ℕ) → images_since (time_of disk) disk c → c ≡ bytes_of disk
-only_image_since_now_if_durable disk durable c left = durable c ((disk_is_lawful disk).only_now c left)
+only_image_since_now_if_durable disk durable c left = durable c ((disk_is_lawful disk).since_now_implies_now c left)
 
 pub durable_without_calls : (disk : DiskState) → disk.calls ≡ [] → IsDurable disk
 durable_without_calls disk none = subst (λ (l : List DiskCall). (c : List ℕ) → images_after disk.start l c → c ≡ bytes_after disk.start l) (sym none) (λ c now. now)

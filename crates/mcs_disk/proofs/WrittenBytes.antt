@@ -28,7 +28,7 @@ put_of_no_bytes zero zero (y ∷ ys) = refl
 put_of_no_bytes zero (suc n) (y ∷ ys) = refl
 put_of_no_bytes (suc at) n (y ∷ ys) = ap (λ (l : List ℕ). y ∷ l) (put_of_no_bytes at n ys)
 
--- if the calls of the record `h` leave the bytes `b`, the calls of `h` and a failed write leave `b`
--- too
+-- if the calls of the record `h` leave the bytes `b`, these calls followed by a failed write also
+-- leave `b`
 pub bytes_unchanged_by_failed_write : (h h' : Record Call) (at : ℕ) (from b : List ℕ) → h' ≡ record h { notes = (FailedWrite at, from) ∷ h.notes } → b ≡ bytes_after h.start (calls_in h.notes) → b ≡ bytes_after h'.start (calls_in h'.notes)
 bytes_unchanged_by_failed_write h h' at from b lists_call kept = rw lists_call (kept ∙ sym (put_of_no_bytes at (length from) (bytes_after h.start (calls_in h.notes))))

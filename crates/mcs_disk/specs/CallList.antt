@@ -16,8 +16,8 @@ unsynced_writes (Synced ∷ calls) = 0
 pub record AtMostOneUnsynced (old new : List DiskCall) : Type 0 where
   pub added : List DiskCall
   pub all : new ≡ added ++ old
-  pub each : (later sooner : List DiskCall) (call : DiskCall) → added ≡ later ++ call ∷ sooner
-      → unsynced_writes (call ∷ sooner ++ old) ≤ 1
+  pub each : (later earlier : List DiskCall) (call : DiskCall) → added ≡ later ++ call ∷ earlier
+      → unsynced_writes (call ∷ earlier ++ old) ≤ 1
 
 -- Holds if `new` is the list `old` after the given call failed. A failed write either adds an entry
 -- `Failed` with its offset and bytes, or leaves the list unchanged. Any other failed call leaves

@@ -6,7 +6,8 @@
 use Rattle.std.specs.Prelude.{◌≡◌, ◌⊎◌, ℕ, zero, suc, ◌+◌, ◌≤◌, ◌<◌, List, [], ◌∷◌, length, take, drop, slice_index}
 
 -- A call in a list of calls: a call that returned Ok, or a failed write. Failed reads and syncs are
--- not listed. A failed write that had no effect can be missing too (`MakesCalls` in CallList).
+-- not listed. A failed write that had no effect can also be missing from the list (`MakesCalls` in
+-- CallList).
 pub data DiskCall : Type 0 where
   -- a read that returned Ok; on an honest disk it returned the bytes that the disk held
   WasRead : DiskCall

@@ -43,9 +43,9 @@ images_since time disk = images_after_since disk.start disk.calls time
 abbrev pub max_fault_count : ℕ
 max_fault_count = 2 ^ 64 - 1
 
--- Holds if the initial bytes and the honesty of a disk are the same in `old` and `new`, and
--- failures were counted. The error count rises by one, up to `max_fault_count`, if `failed` holds;
--- otherwise it stays the same. `failed` states that a call failed; it is `⊥` if none did.
+-- Holds if the initial bytes and the honesty of a disk are the same in `old` and `new`, and the
+-- error count rises by one, up to `max_fault_count`, if `failed` holds. Otherwise the error count
+-- stays the same. `failed` states that a call failed; it is `⊥` if none did.
 pub record CountsFault (old new : DiskState) (failed : Type 0) : Type 0 where
   pub start : new.start ≡ old.start
   pub honest : new.honest ↔ old.honest

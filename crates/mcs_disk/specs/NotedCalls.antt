@@ -5,7 +5,7 @@ use Rattle.mcs_disk.specs.declared.call_record.Call.{Call}
 use Rattle.mcs_disk.specs.declared.call_record.Call.TheVariants.{Read, Write, FailedWrite, Sync}
 
 -- The `DiskCall` for a `Call`; `bytes` are the bytes of a write. The list `seen` of a failed write
--- is empty: a read after it returns the same bytes as before.
+-- is empty: a read after the failed write returns the same bytes as before it.
 abbrev pub call_of : Call → List ℕ → DiskCall
 call_of Read bytes = WasRead
 call_of (Write at) bytes = Wrote at bytes

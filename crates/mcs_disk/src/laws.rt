@@ -49,8 +49,9 @@ pub fn cut_keeps_durable_bytes<D: Disk, E: Disk>()
         → bytes_of (E.state found) ≡ bytes_of (D.state disk) }
 {}
 
-/// Shows that a power cut since a given time happens either before a stretch of calls or after the
-/// stretch has begun. The stretch leads from `old` to `new`; `time` is not later than its start.
+/// Shows that there are two cases for a disk `found` that a power cut on `new` since `time` can leave. A cut on `old`
+/// since `time` can leave `found`, or a cut on `new` since the clock time of `old` can leave `found`. `new` is later
+/// than `old`, and `time` is not later than that clock time.
 pub fn cut_is_before_a_stretch_or_since_its_start<D: Disk, E: Disk>()
     ensures { (time : ℕ) (old new : D) (found : E) → time ≤ time_of (D.state old)
         → IsLater (D.state old) (D.state new) → IsLeftByCut time (D.state new) (E.state found)

@@ -1,4 +1,4 @@
--- The clock and data lines of chains are output lines (as in `BoardLemmas` of mcs_board).
+-- The clock and data lines of chains are output lines (`BoardLemmas` of mcs_board proves the same).
 use Rattle.std.proofs.Common.{◌≡◌, ℕ, ◌<◌, None, true, false, not, ◌||◌}
 use Rattle.std.proofs.lemmas.Bool.{or_parts, not-false}
 use Rattle.mcs_model.specs.declared.board.BoardParts.{BoardParts}
@@ -16,8 +16,8 @@ clock-and-data-are-output-lines b i v l =
     let chains = (or_parts (any_chain_line p b) (any_column q b) first.0).0 in
     test_false-if_list_any_false (λ (c : ChainPart). not (is_output_line b c.clock) || not (is_output_line b c.data_in)) b.chains.items i no_chain chains l
 
-pub clock-output : (b : BoardParts) (i : ℕ) → board_fault_of b ≡ None → i < chain_count b → is_output_line b (chain_part b i).clock ≡ true
-clock-output b i v l = not-false _ (or_parts (not (is_output_line b (chain_part b i).clock)) (not (is_output_line b (chain_part b i).data_in)) (clock-and-data-are-output-lines b i v l)).0
+pub clock_line-is_output : (b : BoardParts) (i : ℕ) → board_fault_of b ≡ None → i < chain_count b → is_output_line b (chain_part b i).clock ≡ true
+clock_line-is_output b i v l = not-false _ (or_parts (not (is_output_line b (chain_part b i).clock)) (not (is_output_line b (chain_part b i).data_in)) (clock-and-data-are-output-lines b i v l)).0
 
-pub data-output : (b : BoardParts) (i : ℕ) → board_fault_of b ≡ None → i < chain_count b → is_output_line b (chain_part b i).data_in ≡ true
-data-output b i v l = not-false _ (or_parts (not (is_output_line b (chain_part b i).clock)) (not (is_output_line b (chain_part b i).data_in)) (clock-and-data-are-output-lines b i v l)).1
+pub data_line-is_output : (b : BoardParts) (i : ℕ) → board_fault_of b ≡ None → i < chain_count b → is_output_line b (chain_part b i).data_in ≡ true
+data_line-is_output b i v l = not-false _ (or_parts (not (is_output_line b (chain_part b i).clock)) (not (is_output_line b (chain_part b i).data_in)) (clock-and-data-are-output-lines b i v l)).1

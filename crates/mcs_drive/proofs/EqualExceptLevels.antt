@@ -1,5 +1,5 @@
--- Tracked machines that differ only in their input levels: the difference stays limited to the
--- levels until one machine reads an input.
+-- If two tracked machines differ only in their input levels, they still differ only in these levels
+-- until one of them reads an input.
 use Rattle.std.proofs.Common.{◌≡◌, ◌<◌, ◌≤◌, ℕ, zero, suc, Bool, false, None, refl, sym, ap, ◌∙◌, arith}
 use Rattle.mcs_model.specs.Boards.{board_fault_of}
 use Rattle.mcs_model.specs.Bus.{fetch_of}

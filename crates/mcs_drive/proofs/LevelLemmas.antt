@@ -9,13 +9,13 @@ use Rattle.mcs_model.specs.Running.{Machine}
 use Rattle.std.proofs.lemmas.Bool.{and_parts, not-true}
 use Rattle.mcs_nibble.specs.declared.lines.LineMask.{LineMask}
 use Rattle.mcs_nibble.specs.Ports.{latch_value}
-use Rattle.mcs_nibble.proofs.TabledLemmas.{table_of-equal_functions}
+use Rattle.mcs_nibble.proofs.TableLemmas.{table_of-equal_functions}
 use Rattle.mcs_model.specs.Registers.{pair_of}
 use Rattle.mcs_model.specs.declared.board.Line.{Line}
 use Rattle.mcs_model.specs.declared.board.Line.TheVariants.{Rom, Ram, Chain}
 use Rattle.mcs_model.specs.Boards.{board_fault_of, is_output_line, is_on_board, chain_part, chain_count, rom_masks}
 use Rattle.mcs_model.specs.Levels.{level, latch_of, clock_levels, chain_bits_after_clock, after_chain_clocks, with_ram_ports_at, with_rom_ports_at, after_ram_port, after_rom_port}
-use Rattle.mcs_drive.proofs.ChainOutputs.{clock-output, data-output}
+use Rattle.mcs_drive.proofs.ChainOutputs.{clock_line-is_output, data_line-is_output}
 use Rattle.mcs_drive.specs.DrivenRuns.{Levels, with_levels, cycled}
 use Rattle.mcs_drive.specs.InputReads.{reads_input, next_reads_input}
 
@@ -45,13 +45,13 @@ level-at_levels l m (Chain n i) h = refl
 
 clock_levels-at_levels : (l : Levels) (m : BusState) → board_fault_of m.board ≡ None → clock_levels (at_levels l m) ≡ clock_levels m
 unfolding clock_levels
-clock_levels-at_levels l m v = table_of-equal_functions (chain_count m.board) _ _ (λ i h. level-at_levels l m (chain_part m.board i).clock (clock-output m.board i v h))
+clock_levels-at_levels l m v = table_of-equal_functions (chain_count m.board) _ _ (λ i h. level-at_levels l m (chain_part m.board i).clock (clock_line-is_output m.board i v h))
 
 chain_bits_after_clock-at_levels : (l : Levels) (m : BusState) (i was : ℕ) (bits : List ℕ) → board_fault_of m.board ≡ None → i < chain_count m.board → chain_bits_after_clock (at_levels l m) i was bits ≡ chain_bits_after_clock m i was bits
 unfolding chain_bits_after_clock
 chain_bits_after_clock-at_levels l m i was bits v h =
-    let clock = level-at_levels l m (chain_part m.board i).clock (clock-output m.board i v h) in
-    let datum = level-at_levels l m (chain_part m.board i).data_in (data-output m.board i v h) in
+    let clock = level-at_levels l m (chain_part m.board i).clock (clock_line-is_output m.board i v h) in
+    let datum = level-at_levels l m (chain_part m.board i).data_in (data_line-is_output m.board i v h) in
     rw (clock, datum) refl
 
 after_chain_clocks-at_levels : (l : Levels) (before : List ℕ) (m : BusState) → board_fault_of m.board ≡ None → after_chain_clocks before (at_levels l m) ≡ at_levels l (after_chain_clocks before m)

@@ -1,4 +1,4 @@
--- If an observer has seen a mark, the key was at the mark.
+-- If an observer has seen a mark, the key of the mark was at the mark's level.
 use Rattle.std.proofs.Common.{◌≡◌, ℕ, zero, suc, ◌+◌, ◌-◌, ◌<◌, ◌≤◌, Bool, true, false, cond, ◌&&◌, List, [], ◌∷◌, ◌++◌, Option, Some, None, inl, inr, length, nat_lt, slice_get, take, refl, sym, ap, ◌∙◌, subst, arith, add-one}
 use Rattle.std.proofs.Math.Seq.{take-suc}
 use Rattle.std.proofs.lemmas.Bool.{and_cases, cases_lt, le-ltb, lt-ltb, ltb-false, not-true}
@@ -30,7 +30,7 @@ passed-marks-with-next-mark board f [] mark a b order at h = (b, order, omega ar
 passed-marks-with-next-mark board f (first ∷ marks) mark a b order at h =
     (h.0, h.1, (let before = h.2 in omega arith), h.3, passed-marks-with-next-mark board f marks mark (suc h.0) b (let before = h.2 in omega arith) at h.4)
 
--- ---- the count
+-- ---- the count of marks
 
 seen_mark_count-of-zero : (n : ℕ) → seen_mark_count n 0 ≡ 0
 seen_mark_count-of-zero n = rw (le-ltb n 0 (omega arith)) refl
@@ -49,10 +49,10 @@ seen_mark_count-le : (n seen : ℕ) → seen_mark_count n seen ≤ n
 seen_mark_count-le n seen = seen_mark_count-le-for-test (nat_lt n seen) n seen refl
 
 -- Holds if the keys were at the seen marks, in order, at moments that are at least `a` and below
--- `i`. If `a` is before `i`, the count at moment `i` is also at most the number of marks.
+-- `i`. If `a` is below `i`, the count `seen` must also be at most the number of marks.
 record SeenMarksPassed (board : BoardParts) (f : ℕ → Levels) (marks : List Mark) (a i seen : ℕ) : Type 0 where
   passed : PassesMarks board f (take (seen_mark_count (length marks) seen) marks) a i
-  few : a < i → seen ≤ length marks
+  count_at_most : a < i → seen ≤ length marks
 
 -- if the condition does not hold before a cycle, `SeenMarksPassed` still holds after the cycle
 seen-marks-passed-after-cycle : (board : BoardParts) (f : ℕ → Levels) (marks : List Mark) (a i seen : ℕ) → a ≤ i → PassesMarks board f (take (seen_mark_count (length marks) seen) marks) a i →
@@ -64,7 +64,7 @@ seen-marks-passed-after-cycle board f marks a i seen order passed o p false is s
     let same : seen_mark_count n q ≡ q = seen_mark_count-if-at-most n q (seen_mark_count-le n seen) in
     record {
       passed = subst (λ (k : ℕ). PassesMarks board f (take k marks) a (suc i)) (sym same) (passed-marks-stay-passed board f (take q marks) a i passed);
-      few = λ _. seen_mark_count-le n seen;
+      count_at_most = λ _. seen_mark_count-le n seen;
     }
 seen-marks-passed-after-cycle board f marks a i seen order passed None p true is shows at = absurd (cc)
 seen-marks-passed-after-cycle board f marks a i seen order passed (Some mark) p true is shows at =
@@ -77,7 +77,7 @@ seen-marks-passed-after-cycle board f marks a i seen order passed (Some mark) p 
     record {
       passed = subst (λ (k : ℕ). PassesMarks board f (take k marks) a (suc i)) (sym next)
           (subst (λ (xs : List Mark). PassesMarks board f xs a (suc i)) (sym taken) (passed-marks-with-next-mark board f (take q marks) mark a i order (at mark shows) passed));
-      few = λ _. omega arith;
+      count_at_most = λ _. omega arith;
     }
 
 -- ---- a run
@@ -106,60 +106,60 @@ module _ (w : Observer) where
 
   seen-along : (s : TrackedMachine) (f : ℕ → Levels) → board_fault_of s.1.board ≡ None → ((k : ℕ) → FitsBoard s.1.board (f k)) → (a b : ℕ) → ((i : ℕ) → a ≤ i → i < b → condition_holds_at w (driven w f i s) ≡ false) →
       SeenMarksPassed s.1.board f w.marks a a (driven w f a s).2.seen → (m : ℕ) → a + m ≤ b → SeenMarksPassed s.1.board f w.marks a (a + m) (driven w f (a + m) s).2.seen
-  seen-along s f v fit a b waits first zero h =
+  seen-along s f v fit a b false_before first zero h =
       let here : a ≡ a + zero = omega arith in
       subst (λ (i : ℕ). SeenMarksPassed s.1.board f w.marks a i (driven w f i s).2.seen) here first
-  seen-along s f v fit a b waits first (suc m) h =
+  seen-along s f v fit a b false_before first (suc m) h =
       let next : suc (a + m) ≡ a + suc m = omega arith in
       subst (λ (i : ℕ). SeenMarksPassed s.1.board f w.marks a i (driven w f i s).2.seen) next
-      (seen-cycle s f a (a + m) v (fit (a + m)) (omega arith) (waits (a + m) (omega arith) (omega arith)) (seen-along s f v fit a b waits first m (omega arith)))
+      (seen-cycle s f a (a + m) v (fit (a + m)) (omega arith) (false_before (a + m) (omega arith) (omega arith)) (seen-along s f v fit a b false_before first m (omega arith)))
 
   -- at moment `a`, `SeenMarksPassed` holds if the number of seen marks is 0
-  seen-none : (board : BoardParts) (f : ℕ → Levels) (a seen : ℕ) → seen_mark_count (length w.marks) seen ≡ 0 → SeenMarksPassed board f w.marks a a seen
-  seen-none board f a seen none = record {
+  passed-if-none-seen : (board : BoardParts) (f : ℕ → Levels) (a seen : ℕ) → seen_mark_count (length w.marks) seen ≡ 0 → SeenMarksPassed board f w.marks a a seen
+  passed-if-none-seen board f a seen none = record {
     passed = subst (λ (k : ℕ). PassesMarks board f (take k w.marks) a a) (sym none) tt;
-    few = λ less. absurd (omega arith);
+    count_at_most = λ less. absurd (omega arith);
   }
 
   -- immediately after the condition held, the number of seen marks is 0
-  opened-none : (s : TrackedMachine) (f : ℕ → Levels) (p : ℕ) → condition_holds_at w (driven w f p s) ≡ true → seen_mark_count (length w.marks) (driven w f (suc p) s).2.seen ≡ 0
-  opened-none s f p is =
+  none-seen-after-condition : (s : TrackedMachine) (f : ℕ → Levels) (p : ℕ) → condition_holds_at w (driven w f p s) ≡ true → seen_mark_count (length w.marks) (driven w f (suc p) s).2.seen ≡ 0
+  none-seen-after-condition s f p is =
       let y = with_levels (f p) (driven w f p s) in
       let n = length w.marks in
       ap (λ b. seen_mark_count n (seen_count_after n y.2.seen b (shows_next_mark w y (port_of y.1)))) is ∙ seen_mark_count-after-condition n
 
-  before-none : (s : TrackedMachine) (f : ℕ → Levels) (a b : ℕ) → BecomesTrue (λ i. condition_holds_at w (driven w f i s)) a b → a < b → condition_holds_at w (driven w f (a - 1) s) ≡ true → seen_mark_count (length w.marks) (driven w f a s).2.seen ≡ 0
-  before-none s f zero b is less held = (let closed = is.waits 0 (omega arith) less in absurd (cc))
-  before-none s f (suc p) b is less held =
+  none-seen-if-condition-held : (s : TrackedMachine) (f : ℕ → Levels) (a b : ℕ) → BecomesTrue (λ i. condition_holds_at w (driven w f i s)) a b → a < b → condition_holds_at w (driven w f (a - 1) s) ≡ true → seen_mark_count (length w.marks) (driven w f a s).2.seen ≡ 0
+  none-seen-if-condition-held s f zero b is less held = (let closed = is.false_before 0 (omega arith) less in absurd (cc))
+  none-seen-if-condition-held s f (suc p) b is less held =
       let at : suc p - 1 ≡ p = omega arith in
-      opened-none s f p (ap (λ i. condition_holds_at w (driven w f i s)) (sym at) ∙ held)
+      none-seen-after-condition s f p (ap (λ i. condition_holds_at w (driven w f i s)) (sym at) ∙ held)
 
-  first-none : (s : TrackedMachine) (f : ℕ → Levels) (a : ℕ) → s.2.seen ≡ 0 → a ≡ 0 → seen_mark_count (length w.marks) (driven w f a s).2.seen ≡ 0
-  first-none s f a none start =
+  none-seen-at-run-start : (s : TrackedMachine) (f : ℕ → Levels) (a : ℕ) → s.2.seen ≡ 0 → a ≡ 0 → seen_mark_count (length w.marks) (driven w f a s).2.seen ≡ 0
+  none-seen-at-run-start s f a none start =
       ap (λ i. seen_mark_count (length w.marks) (driven w f i s).2.seen) start ∙ ap (seen_mark_count (length w.marks)) none ∙ seen_mark_count-of-zero (length w.marks)
 
-  start-none : (s : TrackedMachine) (f : ℕ → Levels) (a b : ℕ) → s.2.seen ≡ 0 → BecomesTrue (λ i. condition_holds_at w (driven w f i s)) a b → seen_mark_count (length w.marks) (driven w f a s).2.seen ≡ 0
-  start-none s f a b none is =
+  none-seen-at-start : (s : TrackedMachine) (f : ℕ → Levels) (a b : ℕ) → s.2.seen ≡ 0 → BecomesTrue (λ i. condition_holds_at w (driven w f i s)) a b → seen_mark_count (length w.marks) (driven w f a s).2.seen ≡ 0
+  none-seen-at-start s f a b none is =
       elim is.start [
-        | inl start ↦ first-none s f a none start
-        | inr after ↦ before-none s f a b is after.0 after.1
+        | inl start ↦ none-seen-at-run-start s f a none start
+        | inr after ↦ none-seen-if-condition-held s f a b is after.0 after.1
       ]
 
-  -- when the condition becomes true, the count is at most the number of marks
+  -- when the condition becomes true, the count of marks is at most the number of marks
   count-le : (s : TrackedMachine) (f : ℕ → Levels) (a b : ℕ) → s.2.seen ≡ 0 → BecomesTrue (λ i. condition_holds_at w (driven w f i s)) a b → (a < b → (driven w f b s).2.seen ≤ length w.marks) → (driven w f b s).2.seen ≤ length w.marks
-  count-le s f a b none is few =
+  count-le s f a b none is count_at_most =
       elim is.start [
         | inl start ↦ elim (cases_lt a b) [
-          | inl less ↦ few less
+          | inl less ↦ count_at_most less
           | inr past ↦
               let at : 0 ≡ b = omega arith in
               subst (λ (i : ℕ). (driven w f i s).2.seen ≤ length w.marks) at (omega arith)
         ]
-        | inr after ↦ few after.0
+        | inr after ↦ count_at_most after.0
       ]
 
-  -- if the condition holds, and holds only after all marks are seen, the count is at least the
-  -- number of marks
+  -- if the condition holds, and holds only after all marks are seen, the count of marks is at least
+  -- the number of marks
   count-ge : (t : TrackedMachine) → holds_only_after_marks w t ≡ true → condition_holds_at w t ≡ true → length w.marks ≤ t.2.seen
   count-ge t turn held =
       elim (and_cases (condition_holds_at w t) (nat_lt t.2.seen (length w.marks)) (not-true (condition_holds_at w t && nat_lt t.2.seen (length w.marks)) turn)) [
@@ -167,16 +167,16 @@ module _ (w : Observer) where
         | inr all ↦ ltb-false t.2.seen (length w.marks) all
       ]
 
-  pub opens-only-after : (limits : InputLimits) (s : TrackedMachine) → s.2.seen ≡ 0 → board_fault_of s.1.board ≡ None → Holds limits w (holds_only_after_marks w) s →
+  pub marks-precede-condition : (limits : InputLimits) (s : TrackedMachine) → s.2.seen ≡ 0 → board_fault_of s.1.board ≡ None → Holds limits w (holds_only_after_marks w) s →
       (f : ℕ → Levels) → AreInputsAllowed limits s.1.board f → (a b : ℕ) → BecomesTrue (λ i. condition_holds_at w (driven w f i s)) a b → PassesMarks s.1.board f w.marks a b
-  opens-only-after limits s none v holds f allowed a b is =
+  marks-precede-condition limits s none v holds f allowed a b is =
       let n = length w.marks in
       let order : a ≤ b = elim is.start [ inl start ↦ omega arith | inr after ↦ (let less = after.0 in omega arith) ] in
       let end : a + (b - a) ≡ b = omega arith in
-      let first = seen-none s.1.board f a (driven w f a s).2.seen (start-none s f a b none is) in
+      let first = passed-if-none-seen s.1.board f a (driven w f a s).2.seen (none-seen-at-start s f a b none is) in
       let last : SeenMarksPassed s.1.board f w.marks a b (driven w f b s).2.seen =
-      subst (λ (i : ℕ). SeenMarksPassed s.1.board f w.marks a i (driven w f i s).2.seen) end (seen-along s f v (λ k. (allowed.levels k).fits) a b is.waits first (b - a) (omega arith)) in
-      let most = count-le s f a b none is last.few in
-      let least = count-ge (driven w f b s) (holds f allowed b) is.comes in
+      subst (λ (i : ℕ). SeenMarksPassed s.1.board f w.marks a i (driven w f i s).2.seen) end (seen-along s f v (λ k. (allowed.levels k).fits) a b is.false_before first (b - a) (omega arith)) in
+      let most = count-le s f a b none is last.count_at_most in
+      let least = count-ge (driven w f b s) (holds f allowed b) is.true_at_end in
       let all : seen_mark_count n (driven w f b s).2.seen ≡ n = seen_mark_count-if-at-most n (driven w f b s).2.seen most ∙ (omega arith) in
       subst (λ (xs : List Mark). PassesMarks s.1.board f xs a b) (ap (λ (k : ℕ). take k w.marks) all ∙ take_all n w.marks (omega arith)) last.passed

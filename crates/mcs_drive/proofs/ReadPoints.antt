@@ -93,14 +93,14 @@ module _ (w : Observer) where
 
   -- ---- an invariant of one run, which may depend on the inputs and on the moment
 
-  -- Holds if `a`, at the input levels `l`, leads to a machine for which `R` holds at the moment at
-  -- which the run reaches it. The run is at `a` at moment `n`.
+  -- Holds if a run that is at `a` at moment `n` leads, at the input levels `l`, to a machine for
+  -- which `R` holds at the moment of arrival.
   abbrev pub LeadsAlong : (TrackedMachine → Bool) → (ℕ → TrackedMachine → Type 0) → ℕ → TrackedMachine → Levels → Type 0
   LeadsAlong p R n a l = (to : TrackedMachine) × (leads : LeadsTo w p a to l) × R (n + suc leads.more) to
 
   -- Holds if `p` is true for each machine for which `R` holds at some moment. At the levels that the
-  -- inputs `f` have at that moment, each such machine must lead to one for which `R` holds. Each such
-  -- machine must have a valid board, and `p` must ignore the input levels.
+  -- inputs `f` have at that moment, each such machine must lead to a machine for which `R` holds.
+  -- Each such machine must have a valid board, and `p` must ignore the input levels.
   pub record IsClosedAlong (f : ℕ → Levels) (p : TrackedMachine → Bool) (R : ℕ → TrackedMachine → Type 0) : Type 0 where
     pub ignores : IgnoresLevels p
     pub sound : (n : ℕ) (a : TrackedMachine) → R n a → board_fault_of a.1.board ≡ None

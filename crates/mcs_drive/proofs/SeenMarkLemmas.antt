@@ -16,7 +16,7 @@ use Rattle.mcs_drive.specs.Marks.{column_line, line_shows, shows}
 use Rattle.mcs_drive.specs.TrackedMachine.{Observer, TrackedMachine, answer, next_reads_input, seen_count_after, condition_holds_at, seen_mark_count, seen_after, seen_after_reading, shows_next_mark, with_levels}
 use Rattle.mcs_drive.proofs.LevelLemmas.{at_levels}
 
--- true if `o` is a mark, and `p` is true for this mark
+-- true if `o` contains a mark for which `p` is true
 abbrev pub mark_satisfies : Option Mark → (Mark → Bool) → Bool
 mark_satisfies o p = elim o [ Some mark ↦ p mark | None ↦ false ]
 

@@ -1,4 +1,4 @@
--- A read shows a mark only if the key is at the level of the mark.
+-- A read shows a mark only if the key of the mark is at the mark's level.
 use Rattle.std.proofs.Common.{◌≡◌, ℕ, zero, suc, ◌+◌, ◌*◌, ◌/◌, ◌<◌, Bool, true, false, not, cond, ◌&&◌, ◌||◌, List, [], ◌∷◌, Option, Some, None, is_some, inl, inr, length, get_or, nat_lt, slice_index, slice_index_or, refl, sym, ap, ◌∙◌, subst, arith, eqb}
 use Rattle.std.specs.List.{list_any, range_with_len}
 use Rattle.std.proofs.lemmas.Bool.{and_from, and_parts, cases_Bool, cases_lt, eq-eqb, eqb-false, eqb-true, ltb-true, not-false, not-true, or_parts}
@@ -73,7 +73,7 @@ column_line-is-input-line b m j v e within =
     subst (λ (o : Option KeyMatrix). elim o as (λ _. Bool) [ Some m ↦ list_any q m.columns.items | None ↦ false ] ≡ false) e columns in
     not-false (is_input_line b (column_line m j)) (test_false-if_list_any_false q m.columns.items j (Rom 0 0) none within)
 
--- ---- a line at 1 is pulled by the only key that can pull it, and a line at 0 by no key
+-- ---- a line that reads 1 or 0 shows the level of a key
 
 false-in-range-if-no-match : (p : ℕ → Bool) (n j : ℕ) → list_any p (range_with_len 0 n) ≡ false → j < n → p j ≡ false
 false-in-range-if-no-match p n j none h =
@@ -178,9 +178,9 @@ key-level-if-matrix-shows-mark : (s : BusState) (mark : Mark) (o : Option KeyMat
     elim o as (λ _. Bool) [ Some m ↦ nat_lt mark.row m.rows && nat_lt mark.column (length m.columns.items) | None ↦ false ] ≡ true →
     elim o as (λ _. Bool) [ Some m ↦ line_shows s m (port_of s) mark (column_line m mark.column) | None ↦ false ] ≡ true →
     slice_index s.keys (elim o as (λ _. ℕ) [ Some m ↦ mark.row * length m.columns.items + mark.column | None ↦ 0 ]) ≡ bit_when mark.is_down
-key-level-if-matrix-shows-mark s mark None e v fit there is = absurd (cc)
-key-level-if-matrix-shows-mark s mark (Some m) e v fit there is =
-    let parts = and_parts (nat_lt mark.row m.rows) (nat_lt mark.column (length m.columns.items)) there in
+key-level-if-matrix-shows-mark s mark None e v fit key_exists is = absurd (cc)
+key-level-if-matrix-shows-mark s mark (Some m) e v fit key_exists is =
+    let parts = and_parts (nat_lt mark.row m.rows) (nat_lt mark.column (length m.columns.items)) key_exists in
     let column = ltb-true mark.column (length m.columns.items) parts.1 in
     key_level-if-line-shows-mark s m mark (column_line m mark.column) e refl (column_line-is-input-line s.board m mark.column v e column) (ltb-true mark.row m.rows parts.0) column
     (key-level-below-two (key_count s.board) (mark.row * length m.columns.items + mark.column) s.keys fit) is
@@ -188,7 +188,7 @@ key-level-if-matrix-shows-mark s mark (Some m) e v fit there is =
 at-mark-if-port-shows-mark : (l : Levels) (s : BusState) (mark : Mark) → board_fault_of s.board ≡ None → FitsBoard s.board l → port_shows (at_levels l s) (port_of (at_levels l s)) mark ≡ true → IsAtMark s.board l mark
 at-mark-if-port-shows-mark l s mark v fit is =
     let parts = and_parts (has_key s.board mark.row mark.column) _ is in
-    record { there = parts.0; level = key-level-if-matrix-shows-mark (at_levels l s) mark s.board.keys refl v fit.keys parts.0 parts.1 }
+    record { key_exists = parts.0; level = key-level-if-matrix-shows-mark (at_levels l s) mark s.board.keys refl v fit.keys parts.0 parts.1 }
 
 pub at-mark-if-read-shows-mark : (l : Levels) (s : BusState) (mark : Mark) (o : Option Op) → board_fault_of s.board ≡ None → FitsBoard s.board l → shows o (at_levels l s) (port_of (at_levels l s)) mark ≡ true → IsAtMark s.board l mark
 at-mark-if-read-shows-mark l s mark (Some Rdr) v fit is = at-mark-if-port-shows-mark l s mark v fit is

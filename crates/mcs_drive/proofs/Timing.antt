@@ -37,36 +37,36 @@ module _ (w : Observer) where
       ((d : ℕ) × (1 ≤ d) × (d ≤ m) × (ends_at w (driven w f (k + d) s) ≡ true))
       ⊎ (suc m ≤ (driven w f (suc (k + m)) s).2.elapsed)
 
-  runs-on : (f : ℕ → Levels) (k m : ℕ) (s : TrackedMachine) (b : Bool) → ends_at w (driven w f (suc (k + m)) s) ≡ b → suc m ≤ (driven w f (suc (k + m)) s).2.elapsed →
+  ended-or-shows-more-step : (f : ℕ → Levels) (k m : ℕ) (s : TrackedMachine) (b : Bool) → ends_at w (driven w f (suc (k + m)) s) ≡ b → suc m ≤ (driven w f (suc (k + m)) s).2.elapsed →
       (driven w f (suc (k + m)) s).2.elapsed < STOPWATCH_MAX → EndedOrShowsMore f k s (suc m)
-  runs-on f k m s true e shows few =
+  ended-or-shows-more-step f k m s true e shows few =
       let next : k + suc m ≡ suc (k + m) = omega arith in
       inl (suc m, omega arith, omega arith, ap (λ (n : ℕ). ends_at w (driven w f n s)) next ∙ e)
-  runs-on f k m s false e shows few =
+  ended-or-shows-more-step f k m s false e shows few =
       let next : suc (k + m) ≡ k + suc m = omega arith in
       let t = driven w f (suc (k + m)) s in
       inr (subst (λ (n : ℕ). suc (suc m) ≤ (driven w f (suc n) s).2.elapsed) next
       (running-stopwatch-counts-cycle t.2.elapsed (suc m) (begins_at w t) (ends_at w t) (omega arith) few e shows))
 
-  runs-to : (limit : ℕ) (s : TrackedMachine) → limit < STOPWATCH_MAX → (f : ℕ → Levels) → ((k : ℕ) → nat_le (driven w f k s).2.elapsed limit ≡ true) → (k : ℕ) → begins_at w (driven w f k s) ≡ true → (m : ℕ) → EndedOrShowsMore f k s m
-  runs-to limit s few f within k begins zero =
+  ended-or-shows-more : (limit : ℕ) (s : TrackedMachine) → limit < STOPWATCH_MAX → (f : ℕ → Levels) → ((k : ℕ) → nat_le (driven w f k s).2.elapsed limit ≡ true) → (k : ℕ) → begins_at w (driven w f k s) ≡ true → (m : ℕ) → EndedOrShowsMore f k s m
+  ended-or-shows-more limit s few f within k begins zero =
       let t = driven w f k s in
       let here : k ≡ k + zero = omega arith in
       inr (subst (λ (n : ℕ). 1 ≤ (driven w f (suc n) s).2.elapsed) here
       (subst (λ b. 1 ≤ stopwatch_after t.2.elapsed b (ends_at w t)) (sym begins) (stopwatch-positive-after-begin t.2.elapsed (ends_at w t))))
-  runs-to limit s few f within k begins (suc m) =
-      elim (runs-to limit s few f within k begins m) [
+  ended-or-shows-more limit s few f within k begins (suc m) =
+      elim (ended-or-shows-more limit s few f within k begins m) [
         | inl ended ↦ inl (ended.0, ended.1, (let less = ended.2 in omega arith), ended.3)
         | inr shows ↦
             let most = leb-true (driven w f (suc (k + m)) s).2.elapsed limit (within (suc (k + m))) in
-            runs-on f k m s (ends_at w (driven w f (suc (k + m)) s)) refl shows (omega arith)
+            ended-or-shows-more-step f k m s (ends_at w (driven w f (suc (k + m)) s)) refl shows (omega arith)
       ]
 
   pub ends-within : (limits : InputLimits) (limit : ℕ) (s : TrackedMachine) → limit < STOPWATCH_MAX → Holds limits w (λ t. nat_le t.2.elapsed limit) s →
       (f : ℕ → Levels) → AreInputsAllowed limits s.1.board f → (k : ℕ) → begins_at w (driven w f k s) ≡ true →
       (d : ℕ) × (1 ≤ d) × (d ≤ limit) × (ends_at w (driven w f (k + d) s) ≡ true)
   ends-within limits limit s few holds f fit k begins =
-      elim (runs-to limit s few f (holds f fit) k begins limit) [
+      elim (ended-or-shows-more limit s few f (holds f fit) k begins limit) [
         | inl ended ↦ ended
         | inr shows ↦ (let most = leb-true (driven w f (suc (k + limit)) s).2.elapsed limit (holds f fit (suc (k + limit))) in absurd (omega arith))
       ]

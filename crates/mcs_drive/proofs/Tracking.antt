@@ -1,4 +1,4 @@
--- Laws about one cycle of a machine hold for the machine with its counts.
+-- The laws about one cycle of a machine also hold for a tracked machine.
 use Rattle.std.proofs.Common.{◌≡◌, ◌∙◌, ℕ, zero, suc, false, None, refl, ap}
 use Rattle.mcs_model.specs.Boards.{board_fault_of}
 use Rattle.mcs_model.specs.Bus.{fetch_of}

@@ -65,7 +65,7 @@ shows _ s value mark = false
 
 -- holds if the board has the key of a mark, and the key is at the level of the mark
 pub record IsAtMark (b : BoardParts) (l : Levels) (mark : Mark) : Type 0 where
-  pub there : has_key b mark.row mark.column ≡ true
+  pub key_exists : has_key b mark.row mark.column ≡ true
   pub level : slice_index l.keys (key_index b mark.row mark.column) ≡ bit_when mark.is_down
 
 -- holds if the keys are at the marks, in order, at increasing moments that are at least `a` and

@@ -15,12 +15,12 @@ holds_only_after_marks w s = not (condition_holds_at w s && nat_lt s.2.seen (len
 -- the condition holds at moment `i`.
 pub record BecomesTrue (holds : ℕ → Bool) (a b : ℕ) : Type 0 where
   pub start : (a ≡ 0) ⊎ ((a < b) × (holds (a - 1) ≡ true))
-  pub waits : (i : ℕ) → a ≤ i → i < b → holds i ≡ false
-  pub comes : holds b ≡ true
+  pub false_before : (i : ℕ) → a ≤ i → i < b → holds i ≡ false
+  pub true_at_end : holds b ≡ true
 
--- If the condition of an observer never holds before all its marks are seen, then the keys were at
--- the marks, in order, each time the condition becomes true. The keys were at the marks after the
--- condition last held, or after the start of the run.
+-- Suppose that the condition of an observer never holds before all its marks are seen. Then, each
+-- time the condition becomes true, the keys have been at the marks, in order, since the condition
+-- last held or since the start of the run.
 abbrev pub MarksPrecedeCondition : Type 0
 MarksPrecedeCondition =
     (limits : InputLimits) (w : Observer) (s : TrackedMachine) → s.2.seen ≡ 0 → board_fault_of s.1.board ≡ None →

@@ -42,14 +42,14 @@ pub fn counts_keep_machine()
     ensures { CountsKeepMachine }
 {}
 
-/// Proves, for all inputs within given limits, that a stopwatch ends within a number of cycles each time it begins, if
-/// it never shows more cycles than that number. The number is below `STOPWATCH_MAX`.
+/// Proves, for all inputs within given limits: if a stopwatch never shows more than `limit` cycles, it ends within
+/// `limit` cycles each time it begins. `limit` is below `STOPWATCH_MAX`.
 pub fn stopwatch_ends_within_limit()
     ensures { StopwatchEndsWithinLimit }
 {}
 
-/// Proves, for all inputs within given limits, that the keys were at the marks of an observer, in order, each time the
-/// observer's condition becomes true. The premise is that the condition never holds before all marks are seen.
+/// Proves, for all inputs within given limits, that the keys have been at the marks of an observer, in order, each time
+/// the observer's condition becomes true. The premise is that the condition never holds before all marks are seen.
 pub fn marks_precede_condition()
     ensures { MarksPrecedeCondition }
 {}

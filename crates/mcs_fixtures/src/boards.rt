@@ -32,9 +32,9 @@ const COLUMNS: [Line; KEY_COLUMNS] = [
 ];
 
 /// Returns the given lines as a list of capacity `CAP`. Lines beyond this capacity are dropped.
-pub fn lines<const CAP: usize>(of: &[Line]) -> ArrayVec<Line, CAP> {
+pub fn lines<const CAP: usize>(items: &[Line]) -> ArrayVec<Line, CAP> {
     let mut list = ArrayVec::new();
-    for line in of {
+    for line in items {
         let _ = list.try_push(*line);
     }
     list
@@ -54,11 +54,11 @@ pub fn chains(count: u8, chips: u8, (clock, data_in): (Line, Line)) -> ArrayVec<
     list
 }
 
-/// The clock line and the data line of the example boards' chain, both on ROM 0.
+/// The clock line and the data line of the chains on example boards, both on ROM 0.
 pub const CLOCK_AND_DATA: (Line, Line) = (Line::Rom(0, 0), Line::Rom(0, 1));
 
-/// Returns a board whose only ROM is ROM 0, with the given port masks. The board has the given banks, chains and
-/// lamps, and no keys.
+/// Returns a board whose only ROM is ROM 0. The line masks of this ROM are `port`. The board has the given banks,
+/// chains and lamps, and no keys.
 pub fn board_on_one_rom(
     port: [LineMask; 4],
     banks: [u8; BANKS],

@@ -13,5 +13,5 @@ pub const NEW_BENCH: [FileRange; 4] = [
     (6_840, &[1]),
 ];
 
-/// The log record of the command `poke r5 9`, at the start of the session file's first log.
+/// The frame with the record of the command `poke r5 9`, at the start of the log in slot A.
 pub const POKE_RECORD: FileRange = (16_400, &[1, 0, 4, 7, 3, 5, 9]);

@@ -4,22 +4,22 @@ ghost use Rattle.std.specs.Prelude.{None, Some};
 use std::alloc::{AllocError, Global};
 use std::io::{self, Read, Write};
 
-/// A reader that fails for a number of calls. It returns its first `left` bytes, then `failures` reads return an
-/// error, and later reads return the other bytes.
+/// A reader that fails for a number of calls. It returns its first `bytes_until_failure` bytes, then `failures` reads
+/// return an error, and later reads return the other bytes.
 #[derive(Drop)]
 pub struct CutReader<'a> {
     bytes: &'a [u8],
-    left: usize,
+    bytes_until_failure: usize,
     failures: usize,
 }
 
 impl<'a> CutReader<'a> {
-    /// Returns a reader of `bytes`. When it has returned the first `left` bytes, the next `failures` reads return an
-    /// error.
-    pub fn new(bytes: &'a [u8], left: usize, failures: usize) -> CutReader<'a> {
+    /// Returns a reader of `bytes`. When it has returned the first `bytes_until_failure` bytes, the next `failures`
+    /// reads return an error.
+    pub fn new(bytes: &'a [u8], bytes_until_failure: usize, failures: usize) -> CutReader<'a> {
         CutReader {
             bytes,
-            left,
+            bytes_until_failure,
             failures,
         }
     }
@@ -29,17 +29,17 @@ impl Read for CutReader<'_> {
     ghost remaining = { λ r. Some r.bytes.now };
 
     fn read(&mut self, buf: &mut [u8]) -> io::Result<usize> {
-        if self.left == 0 && 0 < self.failures {
+        if self.bytes_until_failure == 0 && 0 < self.failures {
             self.failures -= 1;
             return Err(io::ErrorKind::Other.into());
         }
-        let most = if self.left == 0 {
+        let most = if self.bytes_until_failure == 0 {
             buf.len()
         } else {
-            self.left.min(buf.len())
+            self.bytes_until_failure.min(buf.len())
         };
         let count = self.bytes.read(&mut buf[..most])?;
-        self.left = self.left.saturating_sub(count);
+        self.bytes_until_failure = self.bytes_until_failure.saturating_sub(count);
         Ok(count)
     }
 }
@@ -76,21 +76,22 @@ impl Read for EndlessReader {
     }
 }
 
-/// A writer that fails for a number of calls and stores the bytes that it accepts. It accepts `left` bytes, then
-/// `failures` writes return an error, and later writes are accepted.
+/// A writer that fails for a number of calls and stores the bytes that it accepts. It accepts `bytes_until_failure`
+/// bytes, then `failures` writes return an error, and later writes are accepted.
 #[derive(Drop)]
 pub struct CutWriter {
     accepted_bytes: Vec<u8>,
-    left: usize,
+    bytes_until_failure: usize,
     failures: usize,
 }
 
 impl CutWriter {
-    /// Returns a writer that accepts `left` bytes, then fails for `failures` writes, then accepts all bytes.
-    pub fn new(alloc: Global, left: usize, failures: usize) -> CutWriter {
+    /// Returns a writer that accepts `bytes_until_failure` bytes, then fails for `failures` writes, then accepts all
+    /// bytes.
+    pub fn new(alloc: Global, bytes_until_failure: usize, failures: usize) -> CutWriter {
         CutWriter {
             accepted_bytes: Vec::new(alloc),
-            left,
+            bytes_until_failure,
             failures,
         }
     }
@@ -105,17 +106,17 @@ impl Write for CutWriter {
     ghost contents = { λ w. Some w.accepted_bytes.items };
 
     fn write(&mut self, buf: &[u8]) -> io::Result<usize> {
-        if self.left == 0 && 0 < self.failures {
+        if self.bytes_until_failure == 0 && 0 < self.failures {
             self.failures -= 1;
             return Err(io::ErrorKind::Other.into());
         }
-        let count = if self.left == 0 {
+        let count = if self.bytes_until_failure == 0 {
             buf.len()
         } else {
-            self.left.min(buf.len())
+            self.bytes_until_failure.min(buf.len())
         };
         self.accepted_bytes.extend_from_slice(&buf[..count])?;
-        self.left = self.left.saturating_sub(count);
+        self.bytes_until_failure = self.bytes_until_failure.saturating_sub(count);
         Ok(count)
     }
 

@@ -11,15 +11,15 @@ pub image_is_image_since_earlier_time : (start : List ℕ) (more calls : List Di
 image_is_image_since_earlier_time start [] calls t c le now = image_is_image_since start calls t c now
 image_is_image_since_earlier_time start (call ∷ more) calls t c le now = inr (omega (arith, le, clock_only_advances more calls), image_is_image_since_earlier_time start more calls t c le now)
 
--- If an open file ended after the calls `made`, the bytes found in it at its next opening are an
--- image since `t`. The premise is that `t` is not later than the clock at the end. If the newest of
--- these calls is a write, the end can have interrupted it.
-pub found_image_is_image_since : (start : List ℕ) (all more made calls_before_end : List DiskCall) (t : ℕ) (c : List ℕ) → all ≡ more ++ made → (calls_before_end ≡ made) ⊎ IsInterruptedInWrite made calls_before_end → t ≤ clock_of calls_before_end
+-- If an open file ended after the calls `calls_made`, the bytes found in it at its next opening are
+-- an image since `t`. The premise is that `t` is not later than the clock at the end. If the newest
+-- of these calls is a write, the end can have interrupted it.
+pub found_image_is_image_since : (start : List ℕ) (all more calls_made calls_before_end : List DiskCall) (t : ℕ) (c : List ℕ) → all ≡ more ++ calls_made → (calls_before_end ≡ calls_made) ⊎ IsInterruptedInWrite calls_made calls_before_end → t ≤ clock_of calls_before_end
     → images_after start calls_before_end c → images_after_since start all t c
-found_image_is_image_since start all more made calls_before_end t c are (inl complete) le now =
+found_image_is_image_since start all more calls_made calls_before_end t c are (inl complete) le now =
     subst (λ (calls : List DiskCall). images_after_since start calls t c) (sym are)
-    (image_is_image_since_earlier_time start more made t c (subst (λ (calls : List DiskCall). t ≤ clock_of calls) complete le) (subst (λ (calls : List DiskCall). images_after start calls c) complete now))
-found_image_is_image_since start all more made calls_before_end t c are (inr cut) le now =
+    (image_is_image_since_earlier_time start more calls_made t c (subst (λ (calls : List DiskCall). t ≤ clock_of calls) complete le) (subst (λ (calls : List DiskCall). images_after start calls c) complete now))
+found_image_is_image_since start all more calls_made calls_before_end t c are (inr cut) le now =
     let clock_reached : t ≤ clock_of cut.before = subst (λ (calls : List DiskCall). t ≤ clock_of calls) cut.torn le in
     let image : images_after start (Wrote cut.at cut.bytes ∷ cut.before) c = subst (λ (calls : List DiskCall). images_after start calls c) cut.torn now in
     subst (λ (calls : List DiskCall). images_after_since start calls t c) (sym are)

@@ -9,7 +9,7 @@ use Rattle.mcs_host.specs.declared.arguments.Choice.TheVariants.{New, Open}
 abbrev pub file_rule : Rule
 file_rule = record (new_rule (codes "FILE")) { required = true }
 
--- a subcommand of this name, which takes the argument FILE
+-- a subcommand with this name, which takes the argument FILE
 abbrev pub subcommand_with_file : Text → App
 subcommand_with_file name = with_rule (new_app name) file_rule
 

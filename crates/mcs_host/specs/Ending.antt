@@ -31,15 +31,16 @@ pub record IsInterruptedInWrite (calls cut : List DiskCall) : Type 0 where
   pub ends_in_write : calls ≡ Wrote at bytes ∷ before
   pub torn : cut ≡ Failed at bytes [] ∷ before
 
--- Holds if the open file ended after the calls `made`, an initial part of all its calls. The disk's
--- clock was then at `time` or later. Lists of calls are newest first, so the initial part is the
--- tail of the list. If the newest call of `made` is a write, the end can have interrupted it.
+-- Holds if the open file ended after the calls `calls_made`, an initial part of all its calls. The
+-- disk's clock was then at `time` or later. Lists of calls are newest first, so the initial part is
+-- the tail of the list. If the newest call of `calls_made` is a write, the end can have interrupted
+-- it.
 pub record IsLeftSince (time : ℕ) (file : FileDisk) : Type 0 where
-  pub never_made : List DiskCall
-  pub made : List DiskCall
-  pub all : calls_in file.inner_disk.history.notes ≡ never_made ++ made
-  pub calls_before_end : (calls_in file.inner_disk.end.notes ≡ made)
-      ⊎ IsInterruptedInWrite made (calls_in file.inner_disk.end.notes)
+  pub calls_not_made : List DiskCall
+  pub calls_made : List DiskCall
+  pub all : calls_in file.inner_disk.history.notes ≡ calls_not_made ++ calls_made
+  pub calls_before_end : (calls_in file.inner_disk.end.notes ≡ calls_made)
+      ⊎ IsInterruptedInWrite calls_made (calls_in file.inner_disk.end.notes)
   pub clock_reached : time ≤ clock_of (calls_in file.inner_disk.end.notes)
 
 -- Holds if the bytes found in the file at its next opening are an image that the calls before the
@@ -48,14 +49,14 @@ abbrev pub IsFoundAfterTheEnd : FileDisk → Type 0
 IsFoundAfterTheEnd file =
     images_after file.inner_disk.history.start (calls_in file.inner_disk.end.notes) (bytes_found_in file)
 
--- Holds if `like` and `file` have given the same answers to all calls. In addition, the open file
--- `like` ended after all of its calls, and the bytes `image` are found in it at its next opening.
-pub record AgreesButEndsWith (image : List ℕ) (file like : FileDisk) : Type 0 where
-  pub faults : like.inner_disk.faults ≡ file.inner_disk.faults
-  pub bytes : like.inner_disk.bytes.items ≡ file.inner_disk.bytes.items
-  pub start : like.inner_disk.history.start ≡ file.inner_disk.history.start
-  pub calls : calls_in like.inner_disk.history.notes ≡ calls_in file.inner_disk.history.notes
-  pub asked : as_host_file like ≡ as_host_file file
-  pub stable : like.inner_disk.is_name_stable ≡ file.inner_disk.is_name_stable
-  pub calls_before_end : calls_in like.inner_disk.end.notes ≡ calls_in file.inner_disk.history.notes
-  pub found : bytes_found_in like ≡ image
+-- Holds if `twin` and `file` have given the same answers to all calls. In addition, the open file
+-- `twin` ended after all of its calls, and the bytes `image` are found in it at its next opening.
+pub record AgreesButEndsWith (image : List ℕ) (file twin : FileDisk) : Type 0 where
+  pub faults : twin.inner_disk.faults ≡ file.inner_disk.faults
+  pub bytes : twin.inner_disk.bytes.items ≡ file.inner_disk.bytes.items
+  pub start : twin.inner_disk.history.start ≡ file.inner_disk.history.start
+  pub calls : calls_in twin.inner_disk.history.notes ≡ calls_in file.inner_disk.history.notes
+  pub same_host_state : as_host_file twin ≡ as_host_file file
+  pub stable : twin.inner_disk.is_name_stable ≡ file.inner_disk.is_name_stable
+  pub calls_before_end : calls_in twin.inner_disk.end.notes ≡ calls_in file.inner_disk.history.notes
+  pub found : bytes_found_in twin ≡ image

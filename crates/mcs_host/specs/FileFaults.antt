@@ -39,8 +39,8 @@ pub record IsNameFault (error : Error) (fault : FileFault) : Type 0 where
   pub memory : error_kind error ≡ OutOfMemory → fault ≡ NoMemory
   pub other : error_kind error ≢ OutOfMemory → IsHostFault error fault
 
--- holds if `fault` is the `FileFault` for an error of `check_removable`: `FolderUnsynced` for
--- `InvalidFilename` (for example, the target of a link is not valid UTF-8)
+-- Holds if `fault` is the `FileFault` for an error of `check_removable`. For `InvalidFilename` (for
+-- example, if the target of a link is not valid UTF-8), this is `FolderUnsynced`.
 pub record IsLinkFault (error : Error) (fault : FileFault) : Type 0 where
   pub no_text : error_kind error ≡ InvalidFilename → fault ≡ FolderUnsynced
   pub other : error_kind error ≢ InvalidFilename → IsNameFault error fault

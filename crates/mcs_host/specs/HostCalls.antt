@@ -43,8 +43,8 @@ pub record HostState : Type 0 where
   pub calls : List AnsweredCall
 
 -- the state of the file after one more call
-abbrev pub asked : AnsweredCall → HostState → HostState
-asked call file = record file { calls = call ∷ file.calls }
+abbrev pub after_call : AnsweredCall → HostState → HostState
+after_call call file = record file { calls = call ∷ file.calls }
 
 -- holds if the name and the descriptor are unchanged; the calls can differ
 pub record KeepsNameAndNumber (old new : HostState) : Type 0 where
@@ -65,4 +65,4 @@ is_yes (Err e) = false
 -- Ok, that call returned Ok.
 abbrev pub MakesReadCall : {T E : Type 0} → ℕ → List ℕ → Result T E → HostState → HostState → Type 0
 MakesReadCall at into result old new =
-    (ok : Bool) × (new ≡ asked (ReadAt at into ok) old) × OnOk result (ok ≡ true)
+    (ok : Bool) × (new ≡ after_call (ReadAt at into ok) old) × OnOk result (ok ≡ true)

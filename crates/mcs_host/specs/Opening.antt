@@ -87,35 +87,35 @@ pub record IsFilledAfter
 pub record IsFilled
     (create_if_missing : Bool) (name bytes : List ℕ) (is_name_stable : Bool) (locked calls : List AnsweredCall)
     : Type 0 where
-  pub to_be_made : IsTrue create_if_missing
+  pub may_create : IsTrue create_if_missing
   pub size : length bytes ≡ FILE_SIZE
   pub stable : IsTrue is_name_stable
   pub written : List ℕ
   pub is_blank : IsAllZeros written
-  pub asked : IsFilledAfter name written bytes (Length 0 true ∷ locked) calls
+  pub host_calls : IsFilledAfter name written bytes (Length 0 true ∷ locked) calls
 
--- Holds if the file was read, and was neither filled nor rewritten. `found` is the length of the
--- file. If the file is longer than a session file, only `FILE_SIZE + 1` bytes were read; this shows
--- that it is not a session file.
+-- Holds if the file was read, and was neither filled nor rewritten. `file_length` is the length of
+-- the file. If the file is longer than a session file, only `FILE_SIZE + 1` bytes were read; this
+-- shows that it is not a session file.
 pub record IsRead
     (create_if_missing : Bool) (name bytes : List ℕ) (is_name_stable : Bool) (locked calls : List AnsweredCall)
     : Type 0 where
-  pub found : ℕ
-  pub size : length bytes ≡ min found (FILE_SIZE + 1)
+  pub file_length : ℕ
+  pub size : length bytes ≡ min file_length (FILE_SIZE + 1)
   -- if `create_if_missing` is true, the file is neither empty nor blank
-  pub not_empty : IsTrue create_if_missing → ¬ (found ≡ 0)
+  pub not_empty : IsTrue create_if_missing → ¬ (file_length ≡ 0)
   pub not_blank : IsTrue create_if_missing → ¬ (IsAllZeros bytes)
-  pub asked : IsReadAfter name bytes is_name_stable (Length found true ∷ locked) calls
+  pub host_calls : IsReadAfter name bytes is_name_stable (Length file_length true ∷ locked) calls
 
 -- Holds if the file was blank, `create_if_missing` is true, and the file was read and then written
 -- again. (A blank file can have holes.)
 pub record IsRewritten
     (create_if_missing : Bool) (name bytes : List ℕ) (is_name_stable : Bool) (locked calls : List AnsweredCall)
     : Type 0 where
-  pub to_be_made : IsTrue create_if_missing
+  pub may_create : IsTrue create_if_missing
   pub is_blank : IsAllZeros bytes
   pub read : List AnsweredCall
-  pub asked : IsReadAfter name bytes is_name_stable (Length FILE_SIZE true ∷ locked) read
+  pub host_calls : IsReadAfter name bytes is_name_stable (Length FILE_SIZE true ∷ locked) read
   pub writes : IsWrittenAfter name bytes read calls
 
 -- Holds if the file of this name was opened and locked, and holds these bytes. If `is_name_stable`

@@ -32,10 +32,10 @@ fn parse_arguments<'a, S: AsStr>(alloc: Global, arguments: &'a [S]) -> Result<Ar
     let new_command = Command::new(alloc, "new").arg(new_file)?;
     let open_file = Arg::new(alloc, "FILE").required(true);
     let open_command = Command::new(alloc, "open").arg(open_file)?;
-    let bench = Command::new(alloc, "mcs4");
-    let with_new = bench.subcommand(new_command)?;
-    let with_both = with_new.subcommand(open_command)?;
-    with_both.try_get_matches_from(arguments)
+    let app = Command::new(alloc, "mcs4");
+    let app_with_new = app.subcommand(new_command)?;
+    let app_with_both = app_with_new.subcommand(open_command)?;
+    app_with_both.try_get_matches_from(arguments)
 }
 
 /// Returns the task that the arguments select. The first argument is the program's name.
@@ -45,17 +45,17 @@ fn parse_arguments<'a, S: AsStr>(alloc: Global, arguments: &'a [S]) -> Result<Ar
 /// select neither `new FILE` nor `open FILE`. A request for help is an example of such arguments.
 /// Fails with `NoMemory` if memory runs out.
 pub fn choice<S: AsStr>(alloc: Global, arguments: &[S]) -> Result<Choice, ArgumentsFault>
-    ensures given { IfOk result (λ c.
+    ensures selected { IfOk result (λ c.
         choice_in (map S.text arguments.entry.now) ≡ Some (arguments_of_choice c)) }
     ensures usage { IsErrOf result ArgumentsFault.Usage
         → (accepts_arguments (map S.text arguments.entry.now) ≡ true
         → choice_in (map S.text arguments.entry.now) ≡ None) }
 {
-    let found = match parse_arguments(alloc, arguments) {
-        Ok(found) => found,
+    let matches = match parse_arguments(alloc, arguments) {
+        Ok(matches) => matches,
         Err(error) => return Err(fault_of(&error)),
     };
-    let Some((name, inner)) = found.subcommand() else {
+    let Some((name, inner)) = matches.subcommand() else {
         return Err(ArgumentsFault::Usage);
     };
     let Some(file) = inner.get_str("FILE") else {

@@ -30,8 +30,8 @@ impl FileDisk {
 
     /// Opens a file for reading and writing. If `create_if_missing` is true, creates a missing
     /// file, and fills an empty file with [`FILE_SIZE`] zero bytes. When the function returns Ok,
-    /// the file's contents are on the device. The file's name is there too if
-    /// [`FileDisk::is_name_stable`] returns true.
+    /// the file's contents are on the device. The file's name is on the device too if [`FileDisk::is_name_stable`]
+    /// returns true.
     ///
     /// Fails with:
     ///
@@ -51,7 +51,7 @@ impl FileDisk {
         ensures opened { IfOk result (λ disk. HasNoCalls (as_disk disk)) }
         ensures at_most { IfOk result (λ disk. size_of (as_disk disk) ≤ FILE_SIZE + 1) }
         ensures not_empty { IsTrue create_if_missing → IfOk result (λ disk. 0 < size_of (as_disk disk)) }
-        ensures asked { IfOk result (λ disk. IsOpenedFile create_if_missing file.now (bytes_of (as_disk disk))
+        ensures host_calls { IfOk result (λ disk. IsOpenedFile create_if_missing file.now (bytes_of (as_disk disk))
             disk.inner_disk.is_name_stable (as_host_file disk)) }
     {
         let inner_disk = HostDisk::open_at(rt, alloc, file, create_if_missing)?;
@@ -86,7 +86,7 @@ impl FileDisk {
 
 impl Disk for FileDisk {
     ghost use Rattle.mcs_host.specs.Ending.{as_disk, as_host_file};
-    ghost use Rattle.mcs_host.specs.HostCalls.{MakesReadCall, SyncData, WriteAt, asked};
+    ghost use Rattle.mcs_host.specs.HostCalls.{MakesReadCall, SyncData, WriteAt, after_call};
 
     ghost state = { as_disk };
 
@@ -102,9 +102,9 @@ impl Disk for FileDisk {
         ensures honest { (as_disk self.old).honest → OnOk result
             (into.new ≡ part at (length into.old) (bytes_of (as_disk self.old))) }
         // The next clause holds even if the file is not honest.
-        ensures given { OnOk result
+        ensures read_bytes { OnOk result
             (into.new ≡ part at (length into.old) (bytes_of (as_disk self.old))) }
-        ensures asked { MakesReadCall at into.new result
+        ensures host_calls { MakesReadCall at into.new result
             (as_host_file self.old) (as_host_file self.new) }
     {
         self.inner_disk.read(at, into)
@@ -119,8 +119,8 @@ impl Disk for FileDisk {
         // any part of the range.
         ensures torn { (before image : List ℕ) → images_of (as_disk self.old) before
             → Torn at (length from.now) before image → images_of (as_disk self.new) image }
-        ensures asked { as_host_file self.new
-            ≡ asked (WriteAt at from.now (is_ok result)) (as_host_file self.old) }
+        ensures host_calls { as_host_file self.new
+            ≡ after_call (WriteAt at from.now (is_ok result)) (as_host_file self.old) }
     {
         self.inner_disk.write(at, from)
     }
@@ -129,8 +129,8 @@ impl Disk for FileDisk {
         ensures call { CountsFault (as_disk self.old) (as_disk self.new) (IsErr result) }
         ensures lists_call { MakesCalls (Synced ∷ []) (as_disk self.old).calls (as_disk self.new).calls
             result }
-        ensures asked { as_host_file self.new
-            ≡ asked (SyncData (is_ok result)) (as_host_file self.old) }
+        ensures host_calls { as_host_file self.new
+            ≡ after_call (SyncData (is_ok result)) (as_host_file self.old) }
     {
         self.inner_disk.sync()
     }

@@ -51,7 +51,7 @@ impl<H: HostFile> HostDisk<H> {
         ensures opened { IfOk result (λ disk. HasNoCalls (host_disk disk)) }
         ensures at_most { IfOk result (λ disk. size_of (host_disk disk) ≤ FILE_SIZE + 1) }
         ensures not_empty { IsTrue create_if_missing → IfOk result (λ disk. 0 < size_of (host_disk disk)) }
-        ensures asked { IfOk result (λ disk. IsOpenedFile create_if_missing file.now (bytes_of (host_disk disk))
+        ensures host_calls { IfOk result (λ disk. IsOpenedFile create_if_missing file.now (bytes_of (host_disk disk))
             disk.is_name_stable (H.HostFile.state disk.file)) }
     {
         // Allocate first, so that no call is made on the host if memory runs out.
@@ -98,12 +98,12 @@ impl<H: HostFile> HostDisk<H> {
         self.bytes.len() == FILE_SIZE && is_session_name(&self.bytes[0..8])
     }
 
-    // Returns true if `given` equals the bytes at offset `at` of the copy in memory.
-    fn holds(&self, at: usize, given: &[u8]) -> bool
-        requires { at + length given.now ≤ length self.now.bytes.items }
-        ensures { IsTrue result ↔ (given.now ≡ part at (length given.now) self.now.bytes.items) }
+    // Returns true if `expected` equals the bytes at offset `at` of the copy in memory.
+    fn holds(&self, at: usize, expected: &[u8]) -> bool
+        requires { at + length expected.now ≤ length self.now.bytes.items }
+        ensures { IsTrue result ↔ (expected.now ≡ part at (length expected.now) self.now.bytes.items) }
     {
-        given == &self.bytes[at..at + given.len()]
+        expected == &self.bytes[at..at + expected.len()]
     }
 
     // Adds one to the error count (which saturates), stores `is_full`, and returns `DiskFault`.
@@ -132,7 +132,7 @@ fn zeros(alloc: Global, size: usize) -> Result<Vec<u8>, AllocError>
 
 impl<H: HostFile> Disk for HostDisk<H> {
     ghost use Rattle.mcs_host.specs.HostDisk.{host_disk};
-    ghost use Rattle.mcs_host.specs.HostCalls.{MakesReadCall, SyncData, WriteAt, asked};
+    ghost use Rattle.mcs_host.specs.HostCalls.{MakesReadCall, SyncData, WriteAt, after_call};
 
     ghost state = { host_disk };
 
@@ -148,9 +148,9 @@ impl<H: HostFile> Disk for HostDisk<H> {
         ensures honest { (host_disk self.old).honest → OnOk result
             (into.new ≡ part at (length into.old) (bytes_of (host_disk self.old))) }
         // The next clause holds even if the file is not honest.
-        ensures given { OnOk result
+        ensures read_bytes { OnOk result
             (into.new ≡ part at (length into.old) (bytes_of (host_disk self.old))) }
-        ensures asked { MakesReadCall at into.new result
+        ensures host_calls { MakesReadCall at into.new result
             (H.HostFile.state self.old.file) (H.HostFile.state self.new.file) }
     {
         let answer = self.file.read_at(at, into);
@@ -170,8 +170,8 @@ impl<H: HostFile> Disk for HostDisk<H> {
         // any part of the range.
         ensures torn { (before image : List ℕ) → images_of (host_disk self.old) before
             → Torn at (length from.now) before image → images_of (host_disk self.new) image }
-        ensures asked { H.HostFile.state self.new.file
-            ≡ asked (WriteAt at from.now (is_ok result)) (H.HostFile.state self.old.file) }
+        ensures host_calls { H.HostFile.state self.new.file
+            ≡ after_call (WriteAt at from.now (is_ok result)) (H.HostFile.state self.old.file) }
     {
         let answer = self.file.write_at(at, from);
         if answer.is_err() {
@@ -189,8 +189,8 @@ impl<H: HostFile> Disk for HostDisk<H> {
         ensures call { CountsFault (host_disk self.old) (host_disk self.new) (IsErr result) }
         ensures lists_call { MakesCalls (Synced ∷ []) (host_disk self.old).calls (host_disk self.new).calls
             result }
-        ensures asked { H.HostFile.state self.new.file
-            ≡ asked (SyncData (is_ok result)) (H.HostFile.state self.old.file) }
+        ensures host_calls { H.HostFile.state self.new.file
+            ≡ after_call (SyncData (is_ok result)) (H.HostFile.state self.old.file) }
     {
         let answer = self.file.sync_data();
         if answer.is_err() {

@@ -41,18 +41,18 @@ pub(crate) fn open_and_read<N: Host>(
     ensures not_standard_stream { IfOk result (λ opened. IsNotStandardStream (N.File.state opened.0).number) }
     ensures at_most { vec_len bytes.new ≤ MAX_BYTES_READ }
     ensures not_empty { IsTrue create_if_missing → IfOk result (λ _. 0 < vec_len bytes.new) }
-    ensures asked { IfOk result (λ opened. IsOpenedFile create_if_missing file.now bytes.new.items opened.1
+    ensures host_calls { IfOk result (λ opened. IsOpenedFile create_if_missing file.now bytes.new.items opened.1
         (N.File.state opened.0)) }
 {
     let streams = host.streams_of_file(file)?;
     if streams.any() {
         return Err(FileFault::Stream(streams));
     }
-    let (mut opened, is_made) = open_or_create(host, alloc, file, create_if_missing)?;
+    let (mut opened, is_created) = open_or_create(host, alloc, file, create_if_missing)?;
     match lock_and_read(host, alloc, &mut opened, file, create_if_missing, bytes) {
         Ok(is_name_stable) => Ok((opened, is_name_stable)),
         Err(fault) => {
-            if is_made && fault != FileFault::InUse {
+            if is_created && fault != FileFault::InUse {
                 // the first error is returned, even if the empty file cannot be removed
                 let _ = remove_empty(host, alloc, &mut opened, file);
             }
@@ -101,17 +101,17 @@ fn lock_and_read<N: Host>(
     ensures not_standard_stream { OnOk result (IsNotStandardStream (N.File.state opened.new).number) }
     ensures at_most { vec_len bytes.new ≤ MAX_BYTES_READ }
     ensures not_empty { IsTrue create_if_missing → OnOk result (0 < vec_len bytes.new) }
-    ensures asked { IfOk result (λ is_name_stable. IsOpenedFile create_if_missing file.now bytes.new.items
+    ensures host_calls { IfOk result (λ is_name_stable. IsOpenedFile create_if_missing file.now bytes.new.items
         is_name_stable (N.File.state opened.new)) }
 {
     lock(host, opened, file)?;
-    let found = opened.length()?;
-    if create_if_missing && found == 0 {
+    let file_length = opened.length()?;
+    if create_if_missing && file_length == 0 {
         bytes.truncate(FILE_SIZE);
         fill_and_read(host, alloc, opened, file, bytes)?;
         return Ok(true);
     }
-    bytes.truncate(found.min(MAX_BYTES_READ as u64) as usize);
+    bytes.truncate(file_length.min(MAX_BYTES_READ as u64) as usize);
     let is_name_stable = sync_and_read(host, alloc, opened, file, bytes)?;
     if create_if_missing && is_blank(bytes) {
         // A blank file can have holes, for example after an earlier fill that was interrupted.
@@ -126,7 +126,7 @@ fn lock_and_read<N: Host>(
 fn lock<N: Host>(host: &N, opened: &mut N::File, file: &str) -> Result<(), FileFault>
     ensures not_standard_stream { OnOk result (IsNotStandardStream (N.File.state opened.new).number) }
     ensures same { OnOk result (KeepsNameAndNumber (N.File.state opened.old) (N.File.state opened.new)) }
-    ensures asked { OnOk result ((N.File.state opened.new).calls
+    ensures host_calls { OnOk result ((N.File.state opened.new).calls
         ≡ locking_calls file.now (N.File.state opened.old).calls) }
 {
     if opened.number() <= STANDARD_ERROR {
@@ -149,7 +149,7 @@ fn fill_and_read<N: Host>(
 ) -> Result<(), FileFault>
     ensures len { vec_len bytes.new ≡ vec_len bytes.old }
     ensures same { OnOk result (KeepsNameAndNumber (N.File.state opened.old) (N.File.state opened.new)) }
-    ensures asked { OnOk result (IsFilledAfter file.now bytes.old.items bytes.new.items
+    ensures host_calls { OnOk result (IsFilledAfter file.now bytes.old.items bytes.new.items
         (N.File.state opened.old).calls (N.File.state opened.new).calls) }
 {
     fill(host, alloc, opened, file, bytes)?;
@@ -168,7 +168,7 @@ fn sync_and_read<N: Host>(
 ) -> Result<bool, FileFault>
     ensures len { vec_len bytes.new ≡ vec_len bytes.old }
     ensures same { OnOk result (KeepsNameAndNumber (N.File.state opened.old) (N.File.state opened.new)) }
-    ensures asked { IfOk result (λ is_name_stable. IsReadAfter file.now bytes.new.items
+    ensures host_calls { IfOk result (λ is_name_stable. IsReadAfter file.now bytes.new.items
         is_name_stable (N.File.state opened.old).calls (N.File.state opened.new).calls) }
 {
     opened.sync_all()?;
@@ -201,8 +201,8 @@ fn fault_for_name_error(error: io::Error) -> FileFault
     }
 }
 
-// Returns the `FileFault` for an error of `check_removable`. If the target of a link is not valid
-// UTF-8, for example, it is `FolderUnsynced`.
+// Returns the `FileFault` for an error of `check_removable`. For `InvalidFilename` (for example, if the target of a
+// link is not valid UTF-8), this is `FolderUnsynced`.
 fn fault_for_link_error(error: io::Error) -> FileFault
     ensures { IsLinkFault error result }
 {
@@ -222,7 +222,7 @@ fn fill<N: Host>(
     zeros: &[u8],
 ) -> Result<(), FileFault>
     ensures same { OnOk result (KeepsNameAndNumber (N.File.state opened.old) (N.File.state opened.new)) }
-    ensures asked { OnOk result (IsWrittenAfter file.now zeros.now
+    ensures host_calls { OnOk result (IsWrittenAfter file.now zeros.now
         (N.File.state opened.old).calls (N.File.state opened.new).calls) }
 {
     let filled = write_whole(host, alloc, opened, file, zeros);
@@ -245,7 +245,7 @@ fn write_whole<N: Host>(
     bytes: &[u8],
 ) -> Result<(), FileFault>
     ensures same { OnOk result (KeepsNameAndNumber (N.File.state opened.old) (N.File.state opened.new)) }
-    ensures asked { OnOk result (IsWrittenAfter file.now bytes.now
+    ensures host_calls { OnOk result (IsWrittenAfter file.now bytes.now
         (N.File.state opened.old).calls (N.File.state opened.new).calls) }
 {
     opened.set_length(bytes.len() as u64)?;
@@ -261,7 +261,7 @@ fn write_whole<N: Host>(
 // syncs the folder of the file that the link leads to.
 fn sync_folder<N: Host>(host: &N, alloc: Global, opened: &mut N::File, file: &str) -> io::Result<()>
     ensures same { KeepsNameAndNumber (N.File.state opened.old) (N.File.state opened.new) }
-    ensures asked { FolderCalls file.now (is_ok result)
+    ensures host_calls { FolderCalls file.now (is_ok result)
         (N.File.state opened.old).calls (N.File.state opened.new).calls }
 {
     if !host.is_link(opened, file)? {
@@ -291,7 +291,7 @@ fn try_sync_folder<N: Host>(
     file: &str,
 ) -> Result<bool, FileFault>
     ensures same { OnOk result (KeepsNameAndNumber (N.File.state opened.old) (N.File.state opened.new)) }
-    ensures asked { IfOk result (λ done. FolderCalls file.now done
+    ensures host_calls { IfOk result (λ done. FolderCalls file.now done
         (N.File.state opened.old).calls (N.File.state opened.new).calls) }
 {
     match sync_folder(host, alloc, opened, file) {

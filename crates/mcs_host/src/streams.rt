@@ -102,12 +102,12 @@ impl StandIns {
         let errors = stream_kind(is_session(rt, ERRORS), rt.stderr().is_terminal());
         let fault = match opened {
             Err(_) => StreamsFault::NoStandIn,
-            Ok(stand_ins) => match refused(input, output, errors) {
+            Ok(stand_ins) => match streams_fault(input, output, errors) {
                 None => return Ok(stand_ins),
                 Some(fault) => fault,
             },
         };
-        let unusable = unusable(output, errors);
+        let unusable = unusable_outputs(output, errors);
         Err(StreamsError { fault, unusable })
     }
 
@@ -161,7 +161,7 @@ fn stream_kind(answer: io::Result<bool>, is_terminal: bool) -> StreamKind
 
 // Returns the reason why the program cannot start with these streams, or `None` if the program can
 // start.
-fn refused(input: StreamKind, output: StreamKind, errors: StreamKind) -> Option<StreamsFault>
+fn streams_fault(input: StreamKind, output: StreamKind, errors: StreamKind) -> Option<StreamsFault>
     ensures input { IsNone result → input ≢ StreamKind.Unknown }
     ensures output { IsNone result → output ≡ StreamKind.Other }
     ensures errors { IsNone result → errors ≡ StreamKind.Other }
@@ -181,7 +181,7 @@ fn refused(input: StreamKind, output: StreamKind, errors: StreamKind) -> Option<
 }
 
 // Returns the output streams that are session files, or could be.
-fn unusable(output: StreamKind, errors: StreamKind) -> Streams
+fn unusable_outputs(output: StreamKind, errors: StreamKind) -> Streams
     ensures output { result.output ≡ false ↔ output ≡ StreamKind.Other }
     ensures errors { result.errors ≡ false ↔ errors ≡ StreamKind.Other }
 {
@@ -228,16 +228,16 @@ fn has_session_size(file: &Metadata) -> bool
 }
 
 fn has_session_name<R: Files<File = File>>(rt: &R, stream: &str) -> io::Result<bool> {
-    let mut found = [0u8; 8];
-    File::open(rt, stream)?.read_exact_at(&mut found, 0)?;
-    Ok(is_session_name(&found))
+    let mut bytes = [0u8; 8];
+    File::open(rt, stream)?.read_exact_at(&mut bytes, 0)?;
+    Ok(is_session_name(&bytes))
 }
 
 /// Returns true if these bytes are `MCS4BEN1`, the name at the start of each session file.
-pub(crate) fn is_session_name(found: &[u8]) -> bool
-    ensures { IsTrue result ↔ (found.now ≡ NAME) }
+pub(crate) fn is_session_name(bytes: &[u8]) -> bool
+    ensures { IsTrue result ↔ (bytes.now ≡ NAME) }
 {
-    found == b"MCS4BEN1".as_slice()
+    bytes == b"MCS4BEN1".as_slice()
 }
 
 /// Returns the standard streams that refer to the file of this name, or no streams if the file is

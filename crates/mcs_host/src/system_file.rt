@@ -121,9 +121,9 @@ impl<R: Files<File = File>> Host for R {
     fn open_or_create(&self, name: &str) -> io::Result<SystemFile> {
         let mut options = OpenOptions::new();
         options.read(true).write(true).create(true);
-        let mut made = SystemFile::new(options.open(self, name)?, name);
-        made.history.note(&AnsweredRequest::OpenedOrCreated, &[]);
-        Ok(made)
+        let mut created = SystemFile::new(options.open(self, name)?, name);
+        created.history.note(&AnsweredRequest::OpenedOrCreated, &[]);
+        Ok(created)
     }
 
     fn is_named(&self, file: &mut SystemFile, name: &str) -> io::Result<bool> {
@@ -150,8 +150,9 @@ impl<R: Files<File = File>> Host for R {
     ) -> io::Result<PathBuf<Global>> {
         match self.canonicalize(alloc, name) {
             Ok(real_path) => {
-                let real = real_path.as_str().as_bytes();
-                file.history.note(&AnsweredRequest::RealName(true), real);
+                let real_bytes = real_path.as_str().as_bytes();
+                file.history
+                    .note(&AnsweredRequest::RealName(true), real_bytes);
                 Ok(real_path)
             }
             Err(error) => {

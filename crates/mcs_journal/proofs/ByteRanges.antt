@@ -52,8 +52,8 @@ begins_with_equal_bytes (x ∷ p) q (y ∷ c) long same =
     let tail = begins_with_equal_bytes p q c (omega arith) (λ i lt. same (suc i) (omega (arith, lt))) in
     (λ k. head k ∷ tail k)
 
--- if the list `c` differs from `p ++ x ∷ q` at most in the byte after `p`, it is `p`, that byte and
--- `q`
+-- if the list `c` differs from `p ++ x ∷ q` at most in the byte after `p`, then `c` is `p`, some
+-- byte, and `q`
 pub differs_in_one_byte : (p q c : List ℕ) (x : ℕ) → length c ≡ length (p ++ x ∷ q) → ((i : ℕ) → i < length p → get_or c i 0 ≡ get_or (p ++ x ∷ q) i 0) → ((i : ℕ) → length p + 1 ≤ i → get_or c i 0 ≡ get_or (p ++ x ∷ q) i 0) → c ≡ p ++ get_or c (length p) 0 ∷ q
 differs_in_one_byte [] q [] x long before after = absurd (omega arith)
 differs_in_one_byte [] q (y ∷ c) x long before after =

@@ -9,7 +9,7 @@ use Rattle.mcs_journal.specs.declared.format.TheConstants.{NAME, ZEROS}
 use Rattle.mcs_journal.specs.declared.slot.Slot.{Slot}
 use Rattle.mcs_journal.specs.declared.slot.Slot.TheVariants.{A, B}
 use Rattle.mcs_journal.proofs.ByteRanges.{length-part, part_unchanged_outside_write, part_torn_around_write, part_of_part, byte_of_part}
-use Rattle.mcs_journal.proofs.Logs.{log_unchanged_after_commit_byte, IsStaged, record_is_staged_by_write, old_or_new_log_after_torn_commit, log_by_commit_byte}
+use Rattle.mcs_journal.proofs.Logs.{log_unchanged_after_commit_byte, IsStaged, record_is_staged_by_write, old_or_new_log_after_torn_commit, log_after_torn_commit_byte}
 
 pub start_bounds : (slot : Slot) → (16 ≤ start_of slot) × (start_of slot ≤ 81936)
 start_bounds A = (omega arith, omega arith)
@@ -58,8 +58,8 @@ file_holds_snapshot_of_area c snap area long name zeros is_area there =
     }
 
 -- a write inside the active log leaves the snapshot unchanged; the new log determines the records
-log_write_keeps_rest : (f c snap : List ℕ) (rs news : List (List ℕ)) (at n : ℕ) → Holds f snap rs → Torn at n f c → slot_at f + 16384 ≤ at → IsLog news (part (slot_at f + 16384) 65536 c) → Holds c snap news
-log_write_keeps_rest f c snap rs news at n old torn after log =
+holds_after_log_write : (f c snap : List ℕ) (rs news : List (List ℕ)) (at n : ℕ) → Holds f snap rs → Torn at n f c → slot_at f + 16384 ≤ at → IsLog news (part (slot_at f + 16384) 65536 c) → Holds c snap news
+holds_after_log_write f c snap rs news at n old torn after log =
     let bounds = active_slot_bounds f in
     let same : (lo k : ℕ) → lo + k ≤ at → part lo k c ≡ part lo k f = λ lo k le. part_unchanged_outside_write at n lo k f c torn (inl le) in
     holds_with_log f c snap rs news old torn.size (slot_unchanged_with_selector f c (torn.before 8 (omega (arith, after, bounds.0)))) (same 0 8 (omega (arith, after))) (same 9 7 (omega (arith, after)))
@@ -82,7 +82,7 @@ module _ (f snap r from : List ℕ) (rs : List (List ℕ)) (commit_at : ℕ) (sp
 
   -- the first write, even if it is torn, leaves the contents unchanged
   pub holds_after_torn_first_write : (c : List ℕ) → Torn (commit_at + 1) (length from) f c → Holds c snap rs
-  holds_after_torn_first_write c torn = log_write_keeps_rest f c snap rs rs (commit_at + 1) (length from) old torn (omega (arith, at_commit.at)) (log_unchanged_after_commit_byte rs (length from) _ _ old.log (log_torn c torn))
+  holds_after_torn_first_write c torn = holds_after_log_write f c snap rs rs (commit_at + 1) (length from) old torn (omega (arith, at_commit.at)) (log_unchanged_after_commit_byte rs (length from) _ _ old.log (log_torn c torn))
 
   first_staged : (c : List ℕ) → Torn (commit_at + 1) (length from) f c → part (commit_at + 1) (length from) c ≡ from → IsStaged rs r (part lo 65536 c)
   first_staged c torn here =
@@ -101,7 +101,7 @@ module _ (f snap r from : List ℕ) (rs : List (List ℕ)) (commit_at : ℕ) (sp
     commit_torn_log = part_torn_around_write commit_at 1 lo 65536 (length (frames_of rs)) g c torn (omega (arith, fits, first.size)) at_commit.at (omega (arith, at_commit.room))
 
     lift : (news : List (List ℕ)) → IsLog news (part lo 65536 c) → Holds c snap news
-    lift news log = log_write_keeps_rest g c snap rs news commit_at 1 (holds_after_torn_first_write g first) torn (omega (arith, at_commit.at, slot_stays)) (subst (λ (s : ℕ). IsLog news (part (s + 16384) 65536 c)) (sym slot_stays) log)
+    lift news log = holds_after_log_write g c snap rs news commit_at 1 (holds_after_torn_first_write g first) torn (omega (arith, at_commit.at, slot_stays)) (subst (λ (s : ℕ). IsLog news (part (s + 16384) 65536 c)) (sym slot_stays) log)
 
     pub holds_after_torn_second_write : Holds c snap rs ⊎ Holds c snap (rs ++ r ∷ [])
     holds_after_torn_second_write = elim (old_or_new_log_after_torn_commit rs r _ _ (first_staged g first here) valid_length commit_torn_log) [ inl a ↦ inl (lift rs a) | inr b ↦ inr (lift (rs ++ r ∷ []) b) ]
@@ -112,4 +112,4 @@ module _ (f snap r from : List ℕ) (rs : List (List ℕ)) (commit_at : ℕ) (sp
         let at_file : get_or (part commit_at 1 c) 0 0 ≡ get_or c (commit_at + 0) 0 = byte_of_part commit_at 1 c 0 (omega arith) in
         let place : lo + length (frames_of rs) ≡ commit_at + 0 = omega (arith, at_commit.at) in
         let is_one : get_or (part lo 65536 c) (length (frames_of rs)) 0 ≡ 1 = at_log ∙ ap (λ (i : ℕ). get_or c i 0) place ∙ sym at_file ∙ ap (λ (l : List ℕ). get_or l 0 0) one in
-        let by_commit_byte = log_by_commit_byte rs r _ _ (first_staged g first here) valid_length commit_torn_log in lift (rs ++ r ∷ []) (by_commit_byte.0 is_one)
+        let by_commit_byte = log_after_torn_commit_byte rs r _ _ (first_staged g first here) valid_length commit_torn_log in lift (rs ++ r ∷ []) (by_commit_byte.0 is_one)

@@ -72,8 +72,8 @@ log_with_commit_byte_set rs r rest commit_byte ok valid_length one = record {
   records_ok = AreRecords-push rs r ok valid_length;
 }
 
-pub log_by_commit_byte : (rs : List (List ℕ)) (r log c : List ℕ) → IsStaged rs r log → IsRecord r → Torn (length (frames_of rs)) 1 log c → (get_or c (length (frames_of rs)) 0 ≡ 1 → IsLog (rs ++ r ∷ []) c) × (get_or c (length (frames_of rs)) 0 ≢ 1 → IsLog rs c)
-log_by_commit_byte rs r log c old valid_length torn =
+pub log_after_torn_commit_byte : (rs : List (List ℕ)) (r log c : List ℕ) → IsStaged rs r log → IsRecord r → Torn (length (frames_of rs)) 1 log c → (get_or c (length (frames_of rs)) 0 ≡ 1 → IsLog (rs ++ r ∷ []) c) × (get_or c (length (frames_of rs)) 0 ≢ 1 → IsLog rs c)
+log_after_torn_commit_byte rs r log c old valid_length torn =
     let bytes = (be16 (length r) ++ r ++ 0 ∷ []) ++ old.rest in
     let g = get_or c (length (frames_of rs)) 0 in
     let is : c ≡ frames_of rs ++ g ∷ bytes = differs_in_one_byte (frames_of rs) bytes c old.commit_byte (torn.size ∙ ap length old.is)
@@ -85,5 +85,5 @@ log_by_commit_byte rs r log c old valid_length torn =
 
 pub old_or_new_log_after_torn_commit : (rs : List (List ℕ)) (r log c : List ℕ) → IsStaged rs r log → IsRecord r → Torn (length (frames_of rs)) 1 log c → IsLog rs c ⊎ IsLog (rs ++ r ∷ []) c
 old_or_new_log_after_torn_commit rs r log c old valid_length torn =
-    let by_commit_byte = log_by_commit_byte rs r log c old valid_length torn in
+    let by_commit_byte = log_after_torn_commit_byte rs r log c old valid_length torn in
     elim (cases_eq (get_or c (length (frames_of rs)) 0) 1) [ inl one ↦ inr (by_commit_byte.0 one) | inr not_committed ↦ inl (by_commit_byte.1 not_committed) ]

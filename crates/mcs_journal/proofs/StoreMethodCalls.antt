@@ -17,7 +17,7 @@ module _ (old : List DiskCall) (synced : unsynced_writes old ≡ 0) where
   append_at_most_one_unsynced at payload new result made = at_most_one_unsynced_after_calls (append_calls at payload) old new result (omega arith, (omega arith, (omega arith, (omega (arith, synced), tt)))) made
 
   pub replace_at_most_one_unsynced : {T E : Type 0} (snap : List ℕ) (slot : Slot) (new : List DiskCall) (result : Result T E) → MakesWithArea snap (replace_calls slot) old new result → AtMostOneUnsynced old new
-  replace_at_most_one_unsynced snap slot new result makes = at_most_one_unsynced_after_calls (replace_calls slot makes.area) old new result (omega arith, (omega arith, (omega arith, (omega (arith, synced), tt)))) makes.made
+  replace_at_most_one_unsynced snap slot new result makes = at_most_one_unsynced_after_calls (replace_calls slot makes.area) old new result (omega arith, (omega arith, (omega arith, (omega (arith, synced), tt)))) makes.makes_calls
 
   one_read : AtMostOneUnsynced old (WasRead ∷ old)
   one_read = at_most_one_unsynced_if_each_leaves_one old (WasRead ∷ old) (WasRead ∷ []) refl (omega (arith, synced), tt)
@@ -25,7 +25,7 @@ module _ (old : List DiskCall) (synced : unsynced_writes old ≡ 0) where
   pub create_at_most_one_unsynced : {T E : Type 0} (snap : List ℕ) (new : List DiskCall) (result : Result T E) → MakesWithArea snap create_calls (WasRead ∷ old) new result → AtMostOneUnsynced old new
   create_at_most_one_unsynced snap new result makes =
       at_most_one_unsynced_in_both old (WasRead ∷ old) new one_read
-      (at_most_one_unsynced_after_calls (create_calls makes.area) (WasRead ∷ old) new result (omega arith, (omega arith, (omega arith, (omega (arith, synced), tt)))) makes.made)
+      (at_most_one_unsynced_after_calls (create_calls makes.area) (WasRead ∷ old) new result (omega arith, (omega arith, (omega arith, (omega (arith, synced), tt)))) makes.makes_calls)
 
   same_one : (new : List DiskCall) → new ≡ old → AtMostOneUnsynced old new
   same_one new same = subst (AtMostOneUnsynced old) (sym same) (at_most_one_unsynced_without_calls old)
@@ -39,16 +39,17 @@ module _ (old : List DiskCall) (synced : unsynced_writes old ≡ 0) where
   refused_create_at_most_one_unsynced store_fault.NotASession snap new result none = absurd none
   refused_create_at_most_one_unsynced store_fault.Damaged snap new result none = absurd none
 
--- `MakesWithArea` does not depend on the type of the result, only on Ok or Err
+-- `MakesWithArea` does not depend on the type of the result, only on whether the result is Ok or
+-- Err
 pub makes_with_area_of_other_ok : {T E U V : Type 0} (snap : List ℕ) (calls : List ℕ → List DiskCall) (old mid new : List DiskCall) (x : T) (y : U) → mid ≡ old
     → MakesWithArea {T = T} {E = E} snap calls mid new (Ok x) → MakesWithArea {T = U} {E = V} snap calls old new (Ok y)
 makes_with_area_of_other_ok snap calls old mid new x y same makes =
-    record { area = makes.area; is_area = makes.is_area; made = record { all = makes.made.all ∙ ap (λ (l : List DiskCall). calls makes.area ++ l) same; cut = tt } }
+    record { area = makes.area; is_area = makes.is_area; makes_calls = record { all = makes.makes_calls.all ∙ ap (λ (l : List DiskCall). calls makes.area ++ l) same; cut = tt } }
 
 pub makes_with_area_of_other_error : {T E U V : Type 0} (snap : List ℕ) (calls : List ℕ → List DiskCall) (old mid new : List DiskCall) (e : E) (f : V) → mid ≡ old
     → MakesWithArea {T = T} {E = E} snap calls mid new (Err e) → MakesWithArea {T = U} {E = V} snap calls old new (Err f)
 makes_with_area_of_other_error snap calls old mid new e f same makes =
-    record { area = makes.area; is_area = makes.is_area; made = record { all = tt; cut = subst (λ (l : List DiskCall). IsCutShort (calls makes.area) l new) same makes.made.cut } }
+    record { area = makes.area; is_area = makes.is_area; makes_calls = record { all = tt; cut = subst (λ (l : List DiskCall). IsCutShort (calls makes.area) l new) same makes.makes_calls.cut } }
 
 -- if `check_blank` returned Ok, the list of calls has one more read
 pub one_read_if_check_blank_is_ok : (old new : List DiskCall) {T : Type 0} (x : T) (A : Type 0) → MakesCalls {T = T} {E = StoreFault} (WasRead ∷ []) old new (Ok x) ⊎ (IsErrOf {T = T} {E = StoreFault} (Ok x) store_fault.NotBlank × A) → new ≡ WasRead ∷ old
@@ -77,8 +78,8 @@ failed_create_calls_after_header_fault store_fault.NotASession snap old new (Err
 failed_create_calls_after_header_fault store_fault.Damaged snap old new (Err e) result is of calls = absurd (⊎_elim (λ same. cc) (λ same. cc) of)
 
 -- during the calls of an `open`, a sync and then reads, at most one write is unsynced
-pub open_at_most_one_unsynced : (n : ℕ) (old new : List DiskCall) → new ≡ open_calls n ++ old → AtMostOneUnsynced old new
-open_at_most_one_unsynced n old new made = at_most_one_unsynced_in_both old (Synced ∷ old) new synced_one (at_most_one_unsynced_if_each_leaves_one (Synced ∷ old) new (read_calls (4 + 3 * n)) (made ∙ append_assoc (read_calls (4 + 3 * n)) (Synced ∷ []) old) (each_read_leaves_one_unsynced (4 + 3 * n) (Synced ∷ old) (omega arith)))
+pub at_most_one_unsynced_during_open : (n : ℕ) (old new : List DiskCall) → new ≡ open_calls n ++ old → AtMostOneUnsynced old new
+at_most_one_unsynced_during_open n old new made = at_most_one_unsynced_in_both old (Synced ∷ old) new synced_one (at_most_one_unsynced_if_each_leaves_one (Synced ∷ old) new (read_calls (4 + 3 * n)) (made ∙ append_assoc (read_calls (4 + 3 * n)) (Synced ∷ []) old) (each_read_leaves_one_unsynced (4 + 3 * n) (Synced ∷ old) (omega arith)))
   where
     synced_one : AtMostOneUnsynced old (Synced ∷ old)
     synced_one = at_most_one_unsynced_if_each_leaves_one old (Synced ∷ old) (Synced ∷ []) refl (omega arith, tt)

@@ -4,8 +4,8 @@ use Rattle.std.proofs.lemmas.List.{take_at, drop_at}
 use Rattle.mcs_disk.specs.Disk.{part}
 use Rattle.mcs_journal.specs.File.{Holds, frames_of, be32, slot_at}
 
--- two logs with equal bytes have equal records, if a commit byte that is not 1 (`g` and `h`) ends
--- the records of each log
+-- if the records of two logs each end with a commit byte that is not 1 (`g` and `h`), and the logs
+-- have equal bytes, then the logs have equal records
 equal_frames_have_equal_records : (rs ss : List (List ℕ)) (g h : ℕ) (xs ys : List ℕ) → g ≢ 1 → h ≢ 1 → frames_of rs ++ g ∷ xs ≡ frames_of ss ++ h ∷ ys → rs ≡ ss
 equal_frames_have_equal_records [] [] g h xs ys ends_first_log ends_log same = refl
 equal_frames_have_equal_records [] (s ∷ ss) g h xs ys ends_first_log ends_log same = let one : g ≡ 1 = cc in absurd (ends_first_log one)

@@ -56,7 +56,7 @@ pub record MakesWithArea {T E : Type 0} (snap : List ℕ) (calls : List ℕ → 
     (old new : List DiskCall) (result : Result T E) : Type 0 where
   pub area : List ℕ
   pub is_area : IsArea snap area
-  pub made : MakesCalls (calls area) old new result
+  pub makes_calls : MakesCalls (calls area) old new result
 
 -- Holds if a `create` with the snapshot `snap` failed with this error, and turned the list of calls
 -- `old` into `new`. (The lists do not contain failed reads and syncs.)

@@ -38,9 +38,9 @@ pub fn contents_are_unique()
 
 /// Shows that a power cut leaves one of two contents. The premise is that each image of the disk
 /// since the state `old` holds one of these two contents. An image is a list of bytes that a power
-/// cut can leave. The cut happens at the clock of `old` or later. On an honest disk,
-/// [`append`](crate::Store::append) and [`replace`](crate::Store::replace) satisfy the premise:
-/// each image holds the contents from before or after the call.
+/// cut can leave. The cut happens at the clock time of `old` or later. On an honest disk,
+/// [`append`](crate::Store::append) and [`replace`](crate::Store::replace) satisfy the premise: each image holds the
+/// contents from before or after the call.
 pub fn cut_leaves_old_or_new_contents<D: Disk, E: Disk>()
     ensures { (snap other : List ℕ) (records more : List (List ℕ)) (old new : D) (found : E)
         → LeavesOnly (D.state old) (D.state new)

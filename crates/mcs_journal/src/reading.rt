@@ -28,7 +28,7 @@ pub fn read_at<D: Disk>(disk: &mut D, at: usize, into: &mut [u8]) -> Result<(), 
     ensures calls { MakesCalls (WasRead ∷ []) (D.state disk.old).calls (D.state disk.new).calls result }
     ensures ticks { (D.state disk.old).honest
         → OnOk result (time_of (D.state disk.new) ≡ time_of (D.state disk.old) + 1) }
-    ensures given { (D.state disk.old).honest
+    ensures read_bytes { (D.state disk.old).honest
         → OnOk result (into.new ≡ part at (length into.old) (bytes_of (D.state disk.old))) }
 {
     disk.read(at, into)
@@ -61,7 +61,7 @@ pub fn read_record<D: Disk>(
         → IfOk result (λ o. IfSome o (λ r. IsRecordAt (bytes_of (D.state disk.old)) at r)) }
     ensures damaged { (D.state disk.old).honest → IsErrOf result StoreFault.Damaged
         → HasNoRecordAt (bytes_of (D.state disk.old)) at room }
-    ensures named { IsErrOf result StoreFault.NotASession → ⊥ }
+    ensures not_a_session { IsErrOf result StoreFault.NotASession → ⊥ }
     ensures not_blank { IsErrOf result StoreFault.NotBlank → ⊥ }
 {
     let mut commit_byte = [0u8];
@@ -108,7 +108,7 @@ pub fn read_log<D: Disk>(alloc: Global, disk: &mut D, at: usize) -> Result<Log, 
     ensures damaged { (D.state disk.old).honest → IsErrOf result StoreFault.Damaged
         → (records : List (List ℕ)) → IsLog records (part at LOG_SIZE (bytes_of (D.state disk.old)))
         → ⊥ }
-    ensures named { IsErrOf result StoreFault.NotASession → ⊥ }
+    ensures not_a_session { IsErrOf result StoreFault.NotASession → ⊥ }
     ensures not_blank { IsErrOf result StoreFault.NotBlank → ⊥ }
 {
     let mut records = Vec::new(alloc);
@@ -167,7 +167,7 @@ pub fn read_snapshot<D: Disk>(
         → IfOk result (λ snap. IsSnapshot (bytes_of (D.state disk.old)) start snap) }
     ensures damaged { (D.state disk.old).honest → IsErrOf result StoreFault.Damaged
         → (snap : List ℕ) → IsSnapshot (bytes_of (D.state disk.old)) start snap → ⊥ }
-    ensures named { IsErrOf result StoreFault.NotASession → ⊥ }
+    ensures not_a_session { IsErrOf result StoreFault.NotASession → ⊥ }
     ensures not_blank { IsErrOf result StoreFault.NotBlank → ⊥ }
 {
     let mut prefix = [0u8; SNAPSHOT_OFFSET];

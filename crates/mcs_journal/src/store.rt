@@ -59,7 +59,7 @@ impl<D: Disk + Drop> Store<D> {
     /// Creates a store with the snapshot `snap`, of at most 16,380 bytes, and no records. The disk
     /// must have [`FILE_SIZE`](crate::FILE_SIZE) bytes, and its first 16 bytes must be 0.
     ///
-    /// An error returns the disk. If the error is not `Device`, nothing was written. A power cut
+    /// If the call fails, the error contains the disk. If the error is not `Device`, nothing was written. A power cut
     /// during the call can leave any bytes.
     pub fn create(alloc: Global, disk: D, snap: &[u8]) -> Result<Store<D>, (StoreFault, D)>
         requires within_limit { length snap.now ≤ MAX_SNAPSHOT_SIZE }
@@ -118,8 +118,8 @@ impl<D: Disk + Drop> Store<D> {
         }
     }
 
-    /// Opens the store on a disk, and reads the snapshot and the records. Writes nothing. An error
-    /// returns the disk.
+    /// Opens the store on a disk, and reads the snapshot and the records. Writes nothing. If the call fails, the error
+    /// contains the disk.
     pub fn open(alloc: Global, disk: D) -> Result<Opened<D>, (StoreFault, D)>
         // the next clauses hold on any disk
         ensures live { IfOk result (λ opened. IsTrue opened.store.live) }

@@ -113,7 +113,7 @@ pub fn replace_contents<D: Disk>(
     ensures call { CountsFault (D.state disk.old) (D.state disk.new) (IsErr result) }
     ensures calls { MakesWithArea snap.now (replace_calls other) (D.state disk.old).calls
         (D.state disk.new).calls result }
-    ensures named { (D.state disk.old).honest
+    ensures selected { (D.state disk.old).honest
         → OnOk result (slot_of (bytes_of (D.state disk.new)) ≡ other) }
     ensures changes { (D.state disk.old).honest → IsDurable (D.state disk.old)
         → (old_snap : List ℕ) (records : List (List ℕ))
@@ -167,9 +167,9 @@ pub fn write_first<D: Disk>(disk: &mut D, buffer: &mut [u8], snap: &[u8]) -> Res
         → IsLater (D.state disk.old) (D.state disk.new) }
     ensures ticks { (D.state disk.old).honest
         → OnOk result (time_of (D.state disk.new) ≡ time_of (D.state disk.old) + 4) }
-    ensures made { (D.state disk.old).honest
+    ensures written { (D.state disk.old).honest
         → OnOk result (Holds (bytes_of (D.state disk.new)) snap.now []) }
-    ensures named { (D.state disk.old).honest
+    ensures selected { (D.state disk.old).honest
         → OnOk result (slot_of (bytes_of (D.state disk.new)) ≡ Slot.A) }
     ensures durable { (D.state disk.old).honest → OnOk result (IsDurable (D.state disk.new)) }
 {

@@ -58,11 +58,13 @@ mask-with_bit_of_passing_column byte k p l x passes = record {
       ];
 }
 
--- If column `k` fails the test, the byte does not change.
+-- If column `k` fails the test, the mask of the first `k` columns is also the mask of the first
+-- `k + 1` columns.
 pub next_mask-if_column_fails : (byte new k : ℕ) (p : ℕ → Bool) → new ≡ byte → IsColumnMask byte k p → p k ≡ false → IsColumnMask new (k + 1) p
 next_mask-if_column_fails byte new k p same x fails = rw same (mask-unchanged_by_failing_column byte k p x fails)
 
--- If column `k` passes the test, bit `k` of the byte is set.
+-- If column `k` passes the test, setting bit `k` in the mask of the first `k` columns gives the
+-- mask of the first `k + 1` columns.
 pub next_mask-if_column_passes : (byte new k : ℕ) (p : ℕ → Bool) → k < 8 → new ≡ bit_or byte (1 * 2 ^ k % 256) → IsColumnMask byte k p → p k ≡ true → IsColumnMask new (k + 1) p
 next_mask-if_column_passes byte new k p l same x passes = rw same (mask-with_bit_of_passing_column byte k p l x passes)
 
@@ -97,10 +99,10 @@ no_common_column a b n p q x y none =
 
 -- If two bytes have a bit in common, some column passes both tests.
 pub some_common_column : (a b n : ℕ) (p q : ℕ → Bool) → IsColumnMask a n p → IsColumnMask b n q → bit_and a b ≢ 0 → list_any (λ j. p j && q j) (range_with_len 0 n) ≡ true
-some_common_column a b n p q x y meet =
+some_common_column a b n p q x y nonzero =
     elim (cases_Bool (list_any (λ j. p j && q j) (range_with_len 0 n))) [
       | inl passes ↦ passes
-      | inr fails ↦ absurd (meet (same_from_bits (bit_and a b) 0 (λ j.
+      | inr fails ↦ absurd (nonzero (same_from_bits (bit_and a b) 0 (λ j.
           bit_of_common_columns a b n p q x y j ∙ zero-unless_both (nat_lt j n) (p j && q j) (λ below.
           elim (cases_Bool (p j && q j)) [
             | inr out ↦ out

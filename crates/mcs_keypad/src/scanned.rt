@@ -230,17 +230,17 @@ impl ScannedKeys {
             (range_with_len 0 matrix.now.rows)) }
     {
         let levels = bits.ten_bits_from(usize::from(matrix.first));
-        let mut left = levels;
+        let mut remaining_levels = levels;
         let mut driven_columns: u8 = 0;
         for r in 0..usize::from(matrix.rows) {
             // The chain bits of all remaining rows are 0.
-            if left == 0 {
+            if remaining_levels == 0 {
                 return driven_columns;
             }
-            if left & 1 == 1 {
+            if remaining_levels & 1 == 1 {
                 driven_columns |= self.rows[r];
             }
-            left /= 2;
+            remaining_levels /= 2;
         }
         driven_columns
     }

@@ -17,7 +17,7 @@ with_earlier_probes bad ps (Err fault) = Err fault
 -- probes parsed so far, and `rest` are the words that have not been parsed yet. There is room for
 -- `room` more probes.
 pub record IsParsedSoFar (all rest : List (List ℕ)) (ps : List Probe) (room : ℕ) (bad : Bool) : Type 0 where
-  pub few : length ps + room ≤ 16
+  pub within_limit : length ps + room ≤ 16
   pub so_far : probes_within 16 all ≡ with_earlier_probes bad ps (probes_within room rest)
 
 result_without_earlier_probes : (r : Result (List Probe) LineFault) → r ≡ with_earlier_probes false [] r
@@ -25,7 +25,7 @@ result_without_earlier_probes (Ok qs) = refl
 result_without_earlier_probes (Err fault) = refl
 
 pub parsed_so_far_at_start : (all : List (List ℕ)) → IsParsedSoFar all all [] 16 false
-parsed_so_far_at_start all = record { few = omega arith; so_far = result_without_earlier_probes (probes_within 16 all) }
+parsed_so_far_at_start all = record { within_limit = omega arith; so_far = result_without_earlier_probes (probes_within 16 all) }
 
 probe_moved_to_earlier_probes : (bad : Bool) (ps : List Probe) (p : Probe) (r : Result (List Probe) LineFault) → with_earlier_probes bad ps (with_probe (Ok p) r) ≡ with_earlier_probes bad (ps ++ p ∷ []) r
 probe_moved_to_earlier_probes false ps p (Ok qs) = ap Ok (sym (append_assoc ps (p ∷ []) qs))
@@ -47,8 +47,8 @@ error_unchanged_by_earlier_probes : (bad : Bool) (ps : List Probe) (fault : Line
 error_unchanged_by_earlier_probes false ps fault = refl
 error_unchanged_by_earlier_probes true ps fault = refl
 
--- the result of parsing all words, from the result for the next word and the result for the words
--- after the next word
+-- the result of parsing all words follows from the results for the next word and for the words
+-- after it
 probes_from_next_word : (all rest words : List (List ℕ)) (ps : List Probe) (room less : ℕ) (bad : Bool) (word : List ℕ) → room ≡ suc less → rest ≡ word ∷ words → IsParsedSoFar all rest ps room bad → probes_within 16 all ≡ with_earlier_probes bad ps (with_probe (probe_of word) (probes_within less words))
 probes_from_next_word all rest words ps room less bad word e cut r =
     r.so_far ∙ ap (λ ws. with_earlier_probes bad ps (probes_within room ws)) cut ∙ ap (λ m. with_earlier_probes bad ps (probes_within m (word ∷ words))) e
@@ -57,9 +57,9 @@ probes_from_next_word all rest words ps room less bad word e cut r =
 pub parsed_so_far_after_place : (all rest words : List (List ℕ)) (ps qs : List Probe) (room less : ℕ) (bad : Bool) (word : List ℕ) (p : Probe) → room ≡ suc less → rest ≡ word ∷ words → probe_of word ≡ Ok p → qs ≡ ps ++ p ∷ [] → IsParsedSoFar all rest ps room bad → IsParsedSoFar all words qs less bad
 parsed_so_far_after_place all rest words ps qs room less bad word p e cut read is r =
     let len : length qs ≡ length ps + 1 = ap length is ∙ length-append ps (p ∷ []) in
-    let few = r.few in
+    let within_limit = r.within_limit in
     record {
-      few = omega arith;
+      within_limit = omega arith;
       so_far = probes_from_next_word all rest words ps room less bad word e cut r
           ∙ ap (λ o. with_earlier_probes bad ps (with_probe o (probes_within less words))) read
           ∙ probe_moved_to_earlier_probes bad ps p (probes_within less words)
@@ -69,9 +69,9 @@ parsed_so_far_after_place all rest words ps qs room less bad word p e cut read i
 -- the invariant still holds after a word with a bad number
 pub parsed_so_far_after_bad_number : (all rest words : List (List ℕ)) (ps : List Probe) (room less : ℕ) (bad : Bool) (word : List ℕ) → room ≡ suc less → rest ≡ word ∷ words → probe_of word ≡ Err BadNumber → IsParsedSoFar all rest ps room bad → IsParsedSoFar all words ps less true
 parsed_so_far_after_bad_number all rest words ps room less bad word e cut read r =
-    let few = r.few in
+    let within_limit = r.within_limit in
     record {
-      few = omega arith;
+      within_limit = omega arith;
       so_far = probes_from_next_word all rest words ps room less bad word e cut r
           ∙ ap (λ o. with_earlier_probes bad ps (with_probe o (probes_within less words))) read
           ∙ bad_number_moved_to_flag bad ps (probes_within less words);

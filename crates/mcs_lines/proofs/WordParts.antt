@@ -31,29 +31,29 @@ parts_if_first_dot_at_index word n inside h =
 pub word_is_its_only_part : (word : List ℕ) (n : ℕ) → length word ≤ n → IsCompletePiece is_dot (take n word) (drop n word) → parts_of_word word ≡ word ∷ []
 word_is_its_only_part word n past h = parts_of_word_without_dot word (subst (HasNoSeparator is_dot) (take_all n word past) h.0)
 
-poke_parts_refused_if_five_or_more : (name a b k rest value : List ℕ) → poke_parts (name ∷ a ∷ b ∷ k ∷ parts_of_word rest) value ≡ Refused NotACommand
+poke_parts_rejected_if_five_or_more : (name a b k rest value : List ℕ) → poke_parts (name ∷ a ∷ b ∷ k ∷ parts_of_word rest) value ≡ Refused NotACommand
 unfolding parts_of_word
-poke_parts_refused_if_five_or_more name a b k rest value = let f = first_piece_of is_dot rest in ap (λ v. poke_parts (name ∷ a ∷ b ∷ k ∷ v) value) f.2
+poke_parts_rejected_if_five_or_more name a b k rest value = let f = first_piece_of is_dot rest in ap (λ v. poke_parts (name ∷ a ∷ b ∷ k ∷ v) value) f.2
 
 -- `poke` rejects a place of five or more parts
-pub poke_refuses_place_of_five_parts : (place r1 r2 r3 r4 name a b k value : List ℕ)
+pub poke_rejects_place_of_five_or_more_parts : (place r1 r2 r3 r4 name a b k value : List ℕ)
     → parts_of_word place ≡ name ∷ parts_of_word r1
     → parts_of_word r1 ≡ a ∷ parts_of_word r2
     → parts_of_word r2 ≡ b ∷ parts_of_word r3
     → parts_of_word r3 ≡ k ∷ parts_of_word r4
     → Refused NotACommand ≡ poke_of place value
-poke_refuses_place_of_five_parts place r1 r2 r3 r4 name a b k value e1 e2 e3 e4 =
-    sym (ap (λ v. poke_parts v value) (e1 ∙ ap (λ v. name ∷ v) (e2 ∙ ap (λ v. a ∷ v) (e3 ∙ ap (λ v. b ∷ v) e4))) ∙ poke_parts_refused_if_five_or_more name a b k r4 value)
+poke_rejects_place_of_five_or_more_parts place r1 r2 r3 r4 name a b k value e1 e2 e3 e4 =
+    sym (ap (λ v. poke_parts v value) (e1 ∙ ap (λ v. name ∷ v) (e2 ∙ ap (λ v. a ∷ v) (e3 ∙ ap (λ v. b ∷ v) e4))) ∙ poke_parts_rejected_if_five_or_more name a b k r4 value)
 
 probe_parts_of_four_or_more : (word name a b rest : List ℕ) → probe_parts word (name ∷ a ∷ b ∷ parts_of_word rest) ≡ probe_of_whole_word word
 unfolding parts_of_word
 probe_parts_of_four_or_more word name a b rest = let f = first_piece_of is_dot rest in ap (λ v. probe_parts word (name ∷ a ∷ b ∷ v)) f.2
 
 -- `trace` parses a word of four or more parts like a word without dots
-pub whole_word_probe_if_four_parts : (word r1 r2 r3 name a b : List ℕ)
+pub whole_word_probe_if_four_or_more_parts : (word r1 r2 r3 name a b : List ℕ)
     → parts_of_word word ≡ name ∷ parts_of_word r1
     → parts_of_word r1 ≡ a ∷ parts_of_word r2
     → parts_of_word r2 ≡ b ∷ parts_of_word r3
     → probe_of_whole_word word ≡ probe_of word
-whole_word_probe_if_four_parts word r1 r2 r3 name a b e1 e2 e3 =
+whole_word_probe_if_four_or_more_parts word r1 r2 r3 name a b e1 e2 e3 =
     sym (ap (probe_parts word) (e1 ∙ ap (λ v. name ∷ v) (e2 ∙ ap (λ v. a ∷ v) e3)) ∙ probe_parts_of_four_or_more word name a b r3)

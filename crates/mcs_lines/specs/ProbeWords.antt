@@ -111,8 +111,8 @@ number_after_prefix start name = elim (after_prefix start name) [
 
 -- The number in `name` after the prefix `start`, if a later part of the word, `k`, is also a
 -- number. `None` if `k` is not a number, or if `name` does not consist of the prefix and a number.
-abbrev pub number_before_number : List ℕ → List ℕ → List ℕ → Option (List ℕ)
-number_before_number start name k = if is_number k then number_after_prefix start name else None
+abbrev pub number_after_prefix_if_number_follows : List ℕ → List ℕ → List ℕ → Option (List ℕ)
+number_after_prefix_if_number_follows start name k = if is_number k then number_after_prefix start name else None
 
 -- ---- the probe of a word, from its parts between dots
 
@@ -136,16 +136,16 @@ probe_of_whole_word word = elim (table_entry word probe_names) [ None ↦ probe_
 
 -- the probe of a word with one dot that is `ramB.C` or a place that `poke` accepts
 abbrev pub ram_port_or_place_probe : List ℕ → List ℕ → List ℕ → Result Probe LineFault
-ram_port_or_place_probe word name c = elim (number_before_number (codes "ram") name c) [
+ram_port_or_place_probe word name c = elim (number_after_prefix_if_number_follows (codes "ram") name c) [
   | Some b ↦ probe_or_bad_number (ram_port_probe b c)
   | None ↦ probe_of_poke word
 ]
 
 -- the probe of a word with one dot: `romC.K`, `chainN.I`, `ramB.C` or a place of `poke`
 abbrev pub probe_of_two_parts : List ℕ → List ℕ → List ℕ → Result Probe LineFault
-probe_of_two_parts word name k = elim (number_before_number (codes "rom") name k) [
+probe_of_two_parts word name k = elim (number_after_prefix_if_number_follows (codes "rom") name k) [
   | Some c ↦ probe_or_bad_number (rom_line_probe c k)
-  | None ↦ elim (number_before_number (codes "chain") name k) [
+  | None ↦ elim (number_after_prefix_if_number_follows (codes "chain") name k) [
     | Some n ↦ probe_or_bad_number (chain_line_probe n k)
     | None ↦ ram_port_or_place_probe word name k
   ]
@@ -153,7 +153,7 @@ probe_of_two_parts word name k = elim (number_before_number (codes "rom") name k
 
 -- the probe of a word with two dots: `ramB.C.K` or a place of `poke`
 abbrev pub probe_of_three_parts : List ℕ → List ℕ → List ℕ → List ℕ → Result Probe LineFault
-probe_of_three_parts word name c k = elim (number_before_number (codes "ram") name k) [
+probe_of_three_parts word name c k = elim (number_after_prefix_if_number_follows (codes "ram") name k) [
   | Some b ↦ if is_number c then probe_or_bad_number (ram_line_probe b c k) else probe_of_poke word
   | None ↦ probe_of_poke word
 ]

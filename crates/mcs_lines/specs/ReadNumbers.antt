@@ -1,5 +1,5 @@
--- The request for the result of a parser. The parser returns `None` for a bad number. Only the
--- contracts of private functions cite this module.
+-- Converts the result of a parser to a request. The parser returns `None` for a bad number. Only
+-- the contracts of private functions cite this module.
 use Rattle.std.specs.Prelude.{Option, Some, None}
 use Rattle.mcs_lines.specs.declared.requests.Request.{Request}
 use Rattle.mcs_lines.specs.declared.requests.Request.TheVariants.{Refused}

@@ -163,8 +163,8 @@ two_argument_commands =
     ∷ (codes "list", λ a b. request_with_numbers 4095 a LISTING_LINES b listing)
     ∷ []
 
--- the request that a line makes, from its first word and the words after it; `trace` lines are not
--- included
+-- the request that a line makes, from its first word and the words after it; `request_of_words`
+-- (module `LineRequests`) handles `trace` lines
 abbrev pub request_of_word : List ℕ → List (List ℕ) → Request
 request_of_word word [] = elim (table_entry word one_word_commands) [ None ↦ Refused NotACommand | Some r ↦ r ]
 request_of_word word (a ∷ []) =

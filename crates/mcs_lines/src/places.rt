@@ -114,8 +114,8 @@ fn parse_four_part_poke(name: &[u8], b: &[u8], h: &[u8], k: &[u8], value: &[u8])
     }
 }
 
-/// Parses the arguments of `poke`: a place, and the value to write there. Returns a refusal if one of them is not
-/// valid.
+/// Parses the arguments of `poke`: a place, and the value to write there. Returns a refusal if the place or the value
+/// is not valid.
 pub fn parse_poke(place: &[u8], value: &[u8]) -> Request
     ensures { result ≡ poke_of place.now value.now }
 {

@@ -1,6 +1,6 @@
 //! Parses the places that a `trace` command lists.
 ghost use Rattle.std.specs.Prelude.{◌≡◌, Ok, Err, None, Some, MatchOption, MatchResult};
-ghost use Rattle.mcs_lines.specs.ProbeWords.{after_prefix, chain_probe, chain_line_probe, is_bad_number, number_after_prefix, number_before_number, probe_or_bad_number, probe_at, ram_port_or_place_probe, probe_named, probe_of, probe_of_command, probe_of_poke, probe_of_three_parts, probe_of_two_parts, probe_of_whole_word, probes_within, ram_line_probe, ram_port_probe, rom_line_probe, rom_port_probe};
+ghost use Rattle.mcs_lines.specs.ProbeWords.{after_prefix, chain_probe, chain_line_probe, is_bad_number, number_after_prefix, number_after_prefix_if_number_follows, probe_or_bad_number, probe_at, ram_port_or_place_probe, probe_named, probe_of, probe_of_command, probe_of_poke, probe_of_three_parts, probe_of_two_parts, probe_of_whole_word, probes_within, ram_line_probe, ram_port_probe, rom_line_probe, rom_port_probe};
 ghost use Rattle.mcs_model.specs.TextLines.{words_of};
 
 use crate::numbers::{bank, is_number, nibble, status};
@@ -138,9 +138,13 @@ fn number_after_prefix<'a>(start: &[u8], name: &'a [u8]) -> Option<&'a [u8]>
 
 /// Returns the number that follows the prefix `start` in `name`, if a later part of the word, `k`, is also a number.
 /// Returns `None` if `k` is not a number, or if `name` does not consist of that prefix and a number.
-fn number_before_number<'a>(start: &[u8], name: &'a [u8], k: &[u8]) -> Option<&'a [u8]>
-    ensures { MatchOption result (number_before_number start.now name.now k.now ≡ None)
-        (λ n. number_before_number start.now name.now k.now ≡ Some n.now) }
+fn number_after_prefix_if_number_follows<'a>(
+    start: &[u8],
+    name: &'a [u8],
+    k: &[u8],
+) -> Option<&'a [u8]>
+    ensures { MatchOption result (number_after_prefix_if_number_follows start.now name.now k.now ≡ None)
+        (λ n. number_after_prefix_if_number_follows start.now name.now k.now ≡ Some n.now) }
 {
     if is_number(k) {
         number_after_prefix(start, name)
@@ -183,7 +187,7 @@ fn parse_whole_probe(word: &[u8]) -> Result<Probe, LineFault>
 fn parse_ram_port_or_place(word: &[u8], name: &[u8], c: &[u8]) -> Result<Probe, LineFault>
     ensures { result ≡ ram_port_or_place_probe word.now name.now c.now }
 {
-    if let Some(b) = number_before_number(b"ram", name, c) {
+    if let Some(b) = number_after_prefix_if_number_follows(b"ram", name, c) {
         return or_bad_number(ram_port_probe(b, c));
     }
     parse_poke_place(word)
@@ -194,10 +198,10 @@ fn parse_ram_port_or_place(word: &[u8], name: &[u8], c: &[u8]) -> Result<Probe, 
 fn parse_two_part_probe(word: &[u8], name: &[u8], k: &[u8]) -> Result<Probe, LineFault>
     ensures { result ≡ probe_of_two_parts word.now name.now k.now }
 {
-    if let Some(c) = number_before_number(b"rom", name, k) {
+    if let Some(c) = number_after_prefix_if_number_follows(b"rom", name, k) {
         return or_bad_number(rom_line_probe(c, k));
     }
-    if let Some(n) = number_before_number(b"chain", name, k) {
+    if let Some(n) = number_after_prefix_if_number_follows(b"chain", name, k) {
         return or_bad_number(chain_line_probe(n, k));
     }
     parse_ram_port_or_place(word, name, k)
@@ -208,7 +212,7 @@ fn parse_two_part_probe(word: &[u8], name: &[u8], k: &[u8]) -> Result<Probe, Lin
 fn parse_three_part_probe(word: &[u8], name: &[u8], c: &[u8], k: &[u8]) -> Result<Probe, LineFault>
     ensures { result ≡ probe_of_three_parts word.now name.now c.now k.now }
 {
-    if let Some(b) = number_before_number(b"ram", name, k) {
+    if let Some(b) = number_after_prefix_if_number_follows(b"ram", name, k) {
         if is_number(c) {
             return or_bad_number(ram_line_probe(b, c, k));
         }
@@ -256,8 +260,8 @@ pub(crate) fn parse_probes(line: &[u8]) -> Result<ArrayVec<Probe, MAX_PROBES>, L
     let mut probes = ArrayVec::new();
     let mut room = MAX_PROBES;
     let mut has_bad_number = false;
-    let mut rest = line;
-    while let Some((word, others)) = next_word(rest) {
+    let mut unparsed = line;
+    while let Some((word, later_words)) = next_word(unparsed) {
         if room == 0 {
             return Err(LineFault::NotACommand);
         }
@@ -272,7 +276,7 @@ pub(crate) fn parse_probes(line: &[u8]) -> Result<ArrayVec<Probe, MAX_PROBES>, L
                 }
             }
         }
-        rest = others;
+        unparsed = later_words;
     }
     if has_bad_number {
         return Err(LineFault::BadNumber);

@@ -87,7 +87,7 @@ pub enum Request {
     /// Counting does not change the bench.
     Count(u32),
     /// A trace of a run of 1 to [`RUN_CYCLES`] cycles. The trace reports each instruction that would change one of the
-    /// places, or every instruction if there are no places. Tracing does not change the bench.
+    /// places, or every instruction if no places are given. Tracing does not change the bench.
     Trace(u32, ArrayVec<Probe, MAX_PROBES>),
     /// A command that changes the bench.
     Change(Command),
@@ -168,8 +168,8 @@ fn parse_trace(line: &[u8]) -> Request
     }
 }
 
-/// Parses a command with one argument. Returns `None` if the argument is not a number or is out of
-/// range, and the refusal `NotACommand` if no command with one argument has this word.
+/// Parses a command with one argument. Returns `None` if the argument is not a number or is out of range. Returns the
+/// refusal `NotACommand` if `word` is not a command with one argument.
 fn parse_one_argument(word: &[u8], a: &[u8]) -> Option<Request>
     ensures { or_bad_number result ≡ request_of_word word.now (a.now ∷ []) }
 {

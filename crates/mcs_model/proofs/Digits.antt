@@ -42,5 +42,5 @@ value_of_all_digits base value i (d ∷ ds) some all so_far =
     rw (rw cut at so_far.each, so_far.capped_value, cut) refl
 
 pub value_with_digit_read : (base value i : ℕ) (ds : List ℕ) (x d v : ℕ) → (base ≡ 10) ⊎ (base ≡ 16) → i < length ds → x ≡ get_or ds i 0 → digit_value x < base → d ≡ digit_value x → v ≡ min (value * base + d) 4294967296 → IsValueOfFirstDigits base value i ds → IsValueOfFirstDigits base v (i + 1) ds
-value_with_digit_read base value i ds x d v ten lt read small is made so_far =
-    rw (made, is, read) (value_with_next_digit base value i ds ten lt (subst (λ (k : ℕ). digit_value k < base) read small) so_far)
+value_with_digit_read base value i ds x d v ten lt read small is capped so_far =
+    rw (capped, is, read) (value_with_next_digit base value i ds ten lt (subst (λ (k : ℕ). digit_value k < base) read small) so_far)

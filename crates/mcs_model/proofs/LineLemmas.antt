@@ -39,9 +39,9 @@ lines_in-as_lines_after complete line (b ∷ text) =
       | false ↦ ap (lines_in complete) (prepend_to_first-onto_first line b ps f.0 f.1 f.2) ∙ lines_in-as_lines_after complete (line ++ b ∷ []) text
     ]
 
-pub byte_by_byte : (text : List ℕ) (complete : Bool) → lines text complete ≡ lines_after complete [] text
+pub lines-as_lines_after : (text : List ℕ) (complete : Bool) → lines text complete ≡ lines_after complete [] text
 unfolding lines
-byte_by_byte text complete =
+lines-as_lines_after text complete =
     let f = first_piece_of is_line_feed text in
     ap (lines_in complete) (sym (prepend_to_first-nil (slice_split is_line_feed text) f.0 f.1 f.2)) ∙ lines_in-as_lines_after complete [] text
 
@@ -56,16 +56,16 @@ lines_after-append complete line (b ∷ bytes) more none =
 pub lines-of_line_and_rest : (line bytes : List ℕ) (complete : Bool) → HasNoSeparator is_line_feed line → lines (line ++ 10 ∷ bytes) complete ≡ strip_carriage_return line ∷ lines bytes complete
 unfolding lines_after
 lines-of_line_and_rest line bytes complete none =
-    byte_by_byte (line ++ 10 ∷ bytes) complete ∙ lines_after-append complete [] line (10 ∷ bytes) none
-    ∙ ap (λ (ls : List (List ℕ)). strip_carriage_return line ∷ ls) (sym (byte_by_byte bytes complete))
+    lines-as_lines_after (line ++ 10 ∷ bytes) complete ∙ lines_after-append complete [] line (10 ∷ bytes) none
+    ∙ ap (λ (ls : List (List ℕ)). strip_carriage_return line ∷ ls) (sym (lines-as_lines_after bytes complete))
 
 -- if a text contains no line feed, all of it is the last line
 pub lines-without_line_feed : (line : List ℕ) (complete : Bool) → HasNoSeparator is_line_feed line → lines line complete ≡ last_line complete line
 unfolding lines_after
 lines-without_line_feed line complete none =
-    ap (λ (l : List ℕ). lines l complete) (sym (append-nil line)) ∙ byte_by_byte (line ++ []) complete ∙ lines_after-append complete [] line [] none
+    ap (λ (l : List ℕ). lines l complete) (sym (append-nil line)) ∙ lines-as_lines_after (line ++ []) complete ∙ lines_after-append complete [] line [] none
 
--- if the last line is not empty, `last_line` gives a list with this line
+-- if the last line is not empty, `last_line` gives a list with only this line
 pub last_line-nonempty : (line : List ℕ) → 0 < length line → last_line true line ≡ strip_carriage_return line ∷ []
 last_line-nonempty [] some = absurd (omega (arith, some))
 last_line-nonempty (b ∷ line) some = refl

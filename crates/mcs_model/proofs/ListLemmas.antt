@@ -9,7 +9,7 @@ use Rattle.std.proofs.lemmas.List.Folds.{list_any_at}
 pub test_false-if_list_any_false : {X : Type 0} (p : X → Bool) (xs : List X) (i : ℕ) (d : X) → list_any p xs ≡ false → i < length xs → p (get_or xs i d) ≡ false
 test_false-if_list_any_false p xs i d none l = elim (cases_Bool (p (get_or xs i d))) [ inl y ↦ absurd (let t = list_any_at p xs i d l y in cc) | inr n ↦ n ]
 
--- a range that is one number longer is the same range, followed by that number
+-- the range of `n + 1` numbers from `a` is the range of `n` numbers from `a`, followed by `a + n`
 pub range-one-more : (a n : ℕ) → range_with_len a (suc n) ≡ range_with_len a n ++ (a + n) ∷ []
 range-one-more a zero = ap (λ (k : ℕ). k ∷ []) (omega arith)
 range-one-more a (suc n) =
@@ -25,6 +25,7 @@ find_at p a (suc n) k l h before here =
       | inr ne ↦ (let t : p a ≡ false = before a (omega arith) in rw t (find_at p (a + 1) n k (omega arith) (omega arith) before here))
     ]
 
--- the slice `&list[at..]` is the list without its first `at` elements
+-- the slice `&xs[at..]`, which contracts write as `take (length xs - at) (drop at xs)`, is
+-- `drop at xs`
 pub take_rest-unchanged : {X : Type 0} (at : ℕ) (xs : List X) → take (length xs - at) (drop at xs) ≡ drop at xs
 take_rest-unchanged at xs = take_all (length xs - at) (drop at xs) (omega (arith, length-drop at xs))

@@ -13,7 +13,8 @@ no_fault false true c h = absurd (cc)
 no_fault false false true h = absurd (cc)
 no_fault false false false h = (refl, refl, refl)
 
--- holds if all numbers in the parts are in range, and a key matrix has at least one column
+-- holds if all numbers in the parts are in range, and the key matrix, if any, has at least one
+-- column
 pub record HasGoodValues (b : BoardParts) : Type 0 where
   pub banks : list_any (λ n. nat_lt 4 n) b.banks ≡ false
   pub chains : list_any (λ c. not (is_chain_size c)) b.chains.items ≡ false
@@ -28,8 +29,8 @@ pub record IsSound (b : BoardParts) : Type 0 where
   pub rows : lacks_rows b ≡ false
   pub directions : has_wrong_direction b ≡ false
 
-has_good_values : (b : BoardParts) → has_bad_value b ≡ false → HasGoodValues b
-has_good_values b h =
+good_values-if_no_bad_value : (b : BoardParts) → has_bad_value b ≡ false → HasGoodValues b
+good_values-if_no_bad_value b h =
     let banks = list_any (λ n. nat_lt 4 n) b.banks in
     let chains = list_any (λ c. not (is_chain_size c)) b.chains.items in
     let first = or_parts (banks || chains || has_bad_matrix b) (any_line (λ line. not (in_range line)) b) h in
@@ -41,4 +42,4 @@ pub sound : (b : BoardParts) → board_fault_of b ≡ None → IsSound b
 sound b h =
     let parts = no_fault (has_bad_value b) (lacks_line b) (has_wrong_direction b) h in
     let lines = or_parts (any_line (λ line. not (is_on_board b line)) b) (lacks_rows b) parts.1 in
-    record { values = has_good_values b parts.0; lines = lines.0; rows = lines.1; directions = parts.2 }
+    record { values = good_values-if_no_bad_value b parts.0; lines = lines.0; rows = lines.1; directions = parts.2 }

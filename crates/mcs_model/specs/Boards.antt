@@ -106,7 +106,7 @@ is_matrix_size m =
 abbrev pub has_bad_matrix : BoardParts → Bool
 has_bad_matrix b = elim b.keys [ Some m ↦ not (is_matrix_size m) | None ↦ false ]
 
--- true if any number in the parts is out of range
+-- true if any number in the parts is out of range, or a key matrix has no columns
 abbrev pub has_bad_value : BoardParts → Bool
 has_bad_value b =
     list_any (λ n. nat_lt BANK_CHIPS n) b.banks

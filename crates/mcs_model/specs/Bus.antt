@@ -7,8 +7,8 @@ use Rattle.std.specs.Prelude.{ℕ, ◌+◌, ◌*◌, ◌/◌, List, [], replicat
 use Rattle.mcs_model.specs.declared.board.BoardParts.{BoardParts}
 use Rattle.mcs_model.specs.Boards.{empty_parts}
 
--- The state of the bus. The comments give the length of each list in a valid state (`IsInRange` of
--- the module `Validity`), and the entries that are 0 because a part is absent
+-- The state of the bus. The comments give the fixed lengths of lists in a valid state (`IsInRange`
+-- of the module `Validity`), and the entries that are 0 because a part is absent
 -- (`AbsentPartsAreZero`). `fetch_of`, `ram_of` and `status_of` give 0 for absent chips only because
 -- these entries are 0.
 pub record BusState : Type 0 where

@@ -22,8 +22,8 @@ abbrev pub with_sum : Regs → ℕ → Regs
 with_sum s x = record s { acc = x % 16; cy = x / 16 }
 
 -- The address with the lower eight bits `w`, on the same page as `address`. JCN, ISZ, FIN and JIN
--- use the page of the address after the instruction (MCS-4 Users Manual: these instructions at the
--- end of a page).
+-- use the page of the address after the instruction (MCS-4 Users Manual, on these instructions at
+-- the end of a page).
 abbrev pub address_on_page_of : ℕ → ℕ → ℕ
 address_on_page_of address w = word_on_page (page_of address) w
 
@@ -32,9 +32,9 @@ address_on_page_of address w = word_on_page (page_of address) w
 abbrev pub with_pc_on_page : Regs → ℕ → Regs
 with_pc_on_page s w = record s { pc = address_on_page_of s.pc w }
 
--- JCN: true if the processor jumps. Condition bit 2 tests whether the accumulator is 0, bit 1
--- whether the carry is 1, and bit 0 whether TEST is 0. The processor jumps if at least one of the
--- selected tests is true. Condition bit 3 inverts the result.
+-- JCN: true if the processor jumps. Condition bit 2 selects the test whether the accumulator is 0,
+-- bit 1 whether the carry is 1, and bit 0 whether TEST is 0. The processor jumps if at least one of
+-- the selected tests is true. Condition bit 3 inverts the result.
 abbrev pub is_taken : ℕ → Regs → ℕ → Bool
 is_taken condition s test =
     let holds =

@@ -30,10 +30,10 @@ or_dash [] = codes "-"
 or_dash bytes = bytes
 
 -- the part of a list that begins at index `from`, with at most `count` numbers
-abbrev pub stretch : List ℕ → ℕ → ℕ → List ℕ
-stretch items from count = take count (drop from items)
+abbrev pub sublist : List ℕ → ℕ → ℕ → List ℕ
+sublist items from count = take count (drop from items)
 
--- the text for the registers of the processor except the return addresses, and for the level of the
+-- the text for the processor's registers, without the return addresses, and for the level of the
 -- TEST pin (`test`)
 abbrev pub registers_text : Regs → ℕ → List ℕ
 registers_text registers test =
@@ -68,14 +68,14 @@ lamps_text s =
 abbrev pub register_line : BusState → ℕ → ℕ → ℕ → List ℕ
 register_line s bank chip r =
     digit_text bank ++ codes "." ++ digit_text chip ++ codes "." ++ digit_text r
-    ++ codes " " ++ map hex_digit (stretch s.ram (bank * 256 + chip * 64 + r * 16) 16)
-    ++ codes " " ++ map hex_digit (stretch s.status (bank * 64 + chip * 16 + r * 4) 4)
+    ++ codes " " ++ map hex_digit (sublist s.ram (bank * 256 + chip * 64 + r * 16) 16)
+    ++ codes " " ++ map hex_digit (sublist s.status (bank * 64 + chip * 16 + r * 4) 4)
 
--- the text for the port of a RAM chip: the bank number, the chip number, the separator `out`, and
--- the contents of the port latch
+-- the text for the port of a RAM chip: the bank number, the chip number, a separator, and the
+-- contents of the port latch
 abbrev pub ram_port_text : List ℕ → BusState → ℕ → ℕ → List ℕ
-ram_port_text out s bank chip =
-    digit_text bank ++ codes "." ++ digit_text chip ++ out
+ram_port_text separator s bank chip =
+    digit_text bank ++ codes "." ++ digit_text chip ++ separator
     ++ digit_text (slice_index s.ram_ports (ram_port_index bank chip))
 
 -- the lines for a RAM chip: one for each of its four registers, and one for its port
@@ -106,7 +106,7 @@ watch_text w = digit_text (w / 256) ++ codes "." ++ two_hex_digits (w % 256)
 abbrev pub watches_text : List ℕ → List ℕ
 watches_text watches = codes "watches " ++ or_dash (join_by watch_text (codes " ") watches)
 
--- ---- the items of the state outside ROM and RAM
+-- ---- items of the lists in the answer to `state`
 
 -- a list with the item of a bank: the bank number, and the SRC byte that the bank stores; empty if
 -- the bank has no chips
@@ -158,8 +158,8 @@ abbrev pub comma_list : List (List ℕ) → List ℕ
 comma_list [] = codes "-"
 comma_list items = join_with_byte 44 items
 
--- the items of the RAM chips of a bank: for each chip, its numbers and the contents of its port
--- latch
+-- the items of the RAM chips of a bank: for each chip, the bank number, the chip number, and the
+-- contents of the port latch
 abbrev pub ram_items : BusState → ℕ → List (List ℕ)
 ram_items s bank = map (ram_port_text (codes ".") s bank) (range_with_len 0 (chips_of s bank))
 

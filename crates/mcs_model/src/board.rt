@@ -18,11 +18,11 @@ use thiserror::Error;
 /// A line, identified by its numbers. The numbers are not checked, so the line need not exist on any board.
 #[derive(Clone, Copy, Debug, PartialEq, Eq)]
 pub enum Line {
-    /// A port line of a ROM: the chip, 0 to 15, and the line, 0 to 3.
+    /// A port line of a ROM: the chip (0 to 15) and the line (0 to 3).
     Rom(u8, u8),
-    /// An output line of a RAM chip: the bank, 0 to 7, the chip, 0 to 3, and the line, 0 to 3.
+    /// An output line of a RAM chip: the bank (0 to 7), the chip (0 to 3) and the line (0 to 3).
     Ram(u8, u8, u8),
-    /// An output of a shift-register chain: the chain, 0 to 3, and the bit, 0 to 79.
+    /// An output of a shift-register chain: the chain (0 to 3) and the bit (0 to 79).
     Chain(u8, u8),
 }
 
@@ -295,7 +295,7 @@ impl BoardParts {
         has_line_out_of_range(self.lamps.as_slice())
     }
 
-    /// Returns true if any number in the parts is out of range.
+    /// Returns true if any number in the parts is out of range, or a key matrix has no columns.
     fn has_bad_value(&self) -> bool
         ensures { result ≡ has_bad_value self.now }
     {

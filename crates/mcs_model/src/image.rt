@@ -1,4 +1,4 @@
-//! Program images: the bytes that a program puts into ROM.
+//! Program images: the bytes of a program, with their addresses in ROM.
 ghost use Rattle.std.specs.Prelude.{◌≡◌, ◌<◌, ◌≤◌, ◌∷◌, ◌++◌, [], All, IfOk, OnOk, OnErr, length};
 ghost use Rattle.mcs_model.specs.Images.{IsImage};
 

@@ -42,7 +42,7 @@ pub const NO_SUCH_LINE: u8 = 25;
 /// line, a column is not an input line, or a lamp shows an input line.
 pub const WRONG_DIRECTION: u8 = 26;
 
-/// The refusal number for more parts of one kind than a board can have.
+/// The refusal number for more parts of one kind, or more key columns, than a board can have.
 pub const TOO_MANY_PARTS: u8 = 27;
 
 /// The refusal number for a line of a source text that is not a statement.
@@ -63,7 +63,7 @@ pub const WRONG_PAGE: u8 = 34;
 /// The refusal number for an address that an earlier line of the source text already fills.
 pub const OVERLAP: u8 = 35;
 
-/// The refusal number for a label at address 4096, or a byte at address 4096 or above.
+/// The refusal number for a label or a byte at address 4096 or above.
 pub const PAST_END: u8 = 36;
 
 /// The refusal number for more names than a source text can define.

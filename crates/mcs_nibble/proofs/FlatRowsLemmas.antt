@@ -1,4 +1,5 @@
--- The effect on `column` and `flat_rows` of replacing one element of a list.
+-- Lemmas about `column` and `flat_rows`: their lengths, their elements, and their change if one
+-- element of `xs` is replaced.
 use Rattle.std.proofs.Common.{◌≡◌, ◌≢◌, ℕ, ◌+◌, ◌*◌, ◌/◌, ◌%◌, ◌<◌, inl, inr, List, length, get_or, slice_set, slice_index, refl, sym, ap, ◌∙◌, arith, get_or-set_same, get_or-set_other, replicate}
 use Rattle.std.proofs.Math.Nat.{div-add-mod, mul-le-mul_right}
 use Rattle.std.proofs.lemmas.Nat.{div-mul-add, mod-mul-add}
@@ -6,10 +7,10 @@ use Rattle.std.proofs.lemmas.Grind.{get_or-set_at}
 use Rattle.std.proofs.lemmas.Bool.{cases_eq}
 use Rattle.std.proofs.lemmas.List.{get_or-replicate, length-replicate}
 use Rattle.mcs_nibble.specs.Tables.{column, flat_rows}
-use Rattle.mcs_nibble.proofs.TabledLemmas.{set-table_of, table_of-equal_functions, get_or-table_of, table_of-unique, length-table_of}
+use Rattle.mcs_nibble.proofs.TableLemmas.{set-table_of, table_of-equal_functions, get_or-table_of, table_of-unique, length-table_of}
 
--- if `f` gives the same value for `e` as for element `i`, the values of `f` for the elements of the
--- list do not change when `e` replaces element `i`
+-- if `f` has the same value for `e` and for element `i`, replacing element `i` by `e` changes no
+-- value of `f` on the list
 pub value_unchanged-by_set : {X Y : Type 0} (f : X → Y) (d : X) (xs : List X) (i j : ℕ) (e : X) → i < length xs → f e ≡ f (get_or xs i d) → f (get_or (slice_set xs i e) j d) ≡ f (get_or xs j d)
 value_unchanged-by_set f d xs i j e l same =
     elim (cases_eq j i) [

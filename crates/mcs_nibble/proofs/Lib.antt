@@ -1,3 +1,3 @@
-pub mod TabledLemmas
+pub mod TableLemmas
 pub mod FlatRowsLemmas
 pub mod PortLemmas

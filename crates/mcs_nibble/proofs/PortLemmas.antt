@@ -13,8 +13,8 @@ record Bits (n a b c d : ℕ) : Type 0 where
   at_2 : bit_of n 2 ≡ c
   at_3 : bit_of n 3 ≡ d
 
-bits : (a b c d : ℕ) → a < 2 → b < 2 → c < 2 → d < 2 → Bits (a + 2 * b + 4 * c + 8 * d) a b c d
-bits a b c d ha hb hc hd = record { at_0 = omega arith; at_1 = omega arith; at_2 = omega arith; at_3 = omega arith }
+bits-of_sum : (a b c d : ℕ) → a < 2 → b < 2 → c < 2 → d < 2 → Bits (a + 2 * b + 4 * c + 8 * d) a b c d
+bits-of_sum a b c d ha hb hc hd = record { at_0 = omega arith; at_1 = omega arith; at_2 = omega arith; at_3 = omega arith }
 
 latch_bit-below_2 : (mask : List LineMask) (n k : ℕ) → latch_bit mask n k < 2
 latch_bit-below_2 mask n k =
@@ -35,7 +35,7 @@ latch_bit-of_latch_bit mask n latch k =
 pub latch_value-of_latch_value : (mask : List LineMask) (n : ℕ) → latch_value mask (latch_value mask n) ≡ latch_value mask n
 unfolding latch_value
 latch_value-of_latch_value mask n =
-    let b = bits (latch_bit mask n 0) (latch_bit mask n 1) (latch_bit mask n 2) (latch_bit mask n 3) (latch_bit-below_2 mask n 0) (latch_bit-below_2 mask n 1) (latch_bit-below_2 mask n 2) (latch_bit-below_2 mask n 3) in
+    let b = bits-of_sum (latch_bit mask n 0) (latch_bit mask n 1) (latch_bit mask n 2) (latch_bit mask n 3) (latch_bit-below_2 mask n 0) (latch_bit-below_2 mask n 1) (latch_bit-below_2 mask n 2) (latch_bit-below_2 mask n 3) in
     let x = nibble_of (latch_bit mask n) in
     let e0 = latch_bit-of_latch_bit mask n x 0 b.at_0 in
     let e1 = latch_bit-of_latch_bit mask n x 1 b.at_1 in
@@ -55,7 +55,7 @@ pub latch_value-zero : (mask : List LineMask) → latch_value mask 0 ≡ 0
 unfolding latch_value
 latch_value-zero mask = rw (latch_bit-zero mask 0 refl, latch_bit-zero mask 1 refl, latch_bit-zero mask 2 refl, latch_bit-zero mask 3 refl) refl
 
--- `mask_of` of the character of a mask option is that mask option
+-- `mask_of` inverts `mask_character`
 pub mask_of-mask_character : (m : LineMask) → mask_of (mask_character m) ≡ Some m
 mask_of-mask_character Input = refl
 mask_of-mask_character Zero = refl

@@ -7,8 +7,8 @@ use Rattle.std.specs.List.{range_with_len}
 unfoldable pub table_of : {A : Type 0} → ℕ → (ℕ → A) → List A
 table_of n f = map f (range_with_len 0 n)
 
--- A list of `n` numbers. Number `i` is `f` of element `i` of `xs`, or `f` of the default `d` if
--- `xs` has no element `i`.
+-- A list of `n` numbers. Number `i` is the value of `f` for element `i` of `xs`, or for the default
+-- `d` if `xs` has no element `i`.
 unfoldable pub column : {X : Type 0} → ℕ → (X → ℕ) → X → List X → List ℕ
 column n f d xs = table_of n (λ i. f (slice_index_or xs i d))
 

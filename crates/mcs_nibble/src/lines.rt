@@ -3,7 +3,7 @@ ghost use Rattle.std.specs.Prelude.{◌≡◌};
 ghost use Rattle.mcs_nibble.specs.Ports.{mask_character, mask_of};
 
 /// The mask option of a ROM port line, fixed when the chip is made. The mask makes each line an input or an output
-/// (Intel MCS-4 Users Manual, 4001). Fethsaim, not Intel, defines that the mask also fixes the constant that the
+/// (Intel MCS-4 Users Manual, 4001). Fethsaim, not Intel, specifies that the mask also fixes the constant that the
 /// processor reads from an output line.
 #[derive(Clone, Copy, Debug, PartialEq, Eq)]
 pub enum LineMask {

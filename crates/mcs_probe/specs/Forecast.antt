@@ -25,7 +25,7 @@ cycle_at s k = record { cycles = k; before = after_cycles k s; after = after_cyc
 abbrev pub begins : BegunInstruction → Bool
 begins b = b.before.0.owed == 0
 
--- The instructions that begin in the first `k` cycles from the machine `s`, in order. This is
+-- The instructions that begin in the first `k` cycles from the machine `s`, in order. The list is
 -- correct only if a run from `s` reaches `k` cycles. After an opcode outside the opcode table, the
 -- list would contain each further cycle as an instruction.
 unfoldable pub instructions_begun_within : ℕ → Machine → List BegunInstruction
@@ -76,8 +76,8 @@ early_stop_reason stops s t = stop_reason_at stops 0 1 s t
 -- ---- a run in two parts
 
 -- the instruction `b` as part of a run that starts `k` cycles earlier
-abbrev pub later : ℕ → BegunInstruction → BegunInstruction
-later k b = record b { cycles = k + b.cycles }
+abbrev pub with_earlier_start : ℕ → BegunInstruction → BegunInstruction
+with_earlier_start k b = record b { cycles = k + b.cycles }
 
 -- If nothing stops a run of `m + n` cycles early, this run first begins the instructions of a run
 -- of `m` cycles. Then it begins the instructions of a run of `n` cycles from the machine after
@@ -86,4 +86,4 @@ abbrev pub InstructionsAddUp : Type 0
 InstructionsAddUp =
     (stops : StopConditions) (m n : ℕ) (s : Machine) → run_length stops (m + n) s ≡ m + n →
     instructions_begun_in stops (m + n) s
-    ≡ instructions_begun_in stops m s ++ map (later m) (instructions_begun_in stops n (after_run stops m s))
+    ≡ instructions_begun_in stops m s ++ map (with_earlier_start m) (instructions_begun_in stops n (after_run stops m s))

@@ -48,6 +48,7 @@ board-of_rig board program rig g =
 pub proved-for_equal_property : (limits : InputLimits) (w : Observer) (p q : TrackedMachine → Bool) (s : TrackedMachine) (found : Outcome) → ((t : TrackedMachine) → p t ≡ q t) → IsProved limits w p s found → IsProved limits w q s found
 proved-for_equal_property limits w p q s (outcome.Holds n) same h = λ f allowed k. sym (same _) ∙ h f allowed k
 proved-for_equal_property limits w p q s (outcome.MayFail values) same h = h
+proved-for_equal_property limits w p q s (outcome.MayFailWith levels) same h = h
 proved-for_equal_property limits w p q s outcome.TooMany same h = h
 proved-for_equal_property limits w p q s (outcome.NoMemory n) same h = h
 proved-for_equal_property limits w p q s outcome.GaveUp same h = h

@@ -8,16 +8,18 @@ use Rattle.mcs_prove.specs.declared.inputs.KeyPosition.{KeyPosition}
 -- The inputs that a question allows. If `is_restricted` is false, all keys may be pressed and TEST
 -- may be 1. If it is true, only the keys in `pressable` may be pressed, and TEST may be 1 only if
 -- `test_may_change` is true. `together` is the maximum number of keys that are down at a time; None
--- means any number.
+-- means any number. `wait` is the smallest number of cycles between two changes of the levels; 0
+-- means no limit.
 pub record AllowedInputs : Type 0 where
   pub is_restricted : Bool
   pub pressable : List KeyPosition
   pub test_may_change : Bool
   pub together : Option ℕ
+  pub wait : ℕ
 
 -- the inputs that a question without a line about inputs allows
 abbrev pub all_inputs : AllowedInputs
-all_inputs = record { is_restricted = false; pressable = []; test_may_change = false; together = None }
+all_inputs = record { is_restricted = false; pressable = []; test_may_change = false; together = None; wait = 0 }
 
 -- the highest levels of the keys of a board, changed to allow one more key to be pressed; unchanged
 -- if the board does not have the key
@@ -51,5 +53,5 @@ limits_of a b = record {
   keys = highest_key_levels a b;
   test = highest_test_level a;
   together = most_keys_down a b;
-  wait = 0;
+  wait = a.wait;
 }

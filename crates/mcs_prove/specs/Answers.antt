@@ -1,10 +1,11 @@
 -- The line and the exit status of an answer.
-use Rattle.std.specs.Prelude.{◌≡◌, ℕ, List, ◌++◌, codes, Result, Ok, Err, IfOk}
+use Rattle.std.specs.Prelude.{◌≡◌, ◌==◌, ◌+◌, ◌*◌, ◌/◌, ℕ, zero, suc, List, [], ◌++◌, codes, length, nat_lt, slice_index, Result, Ok, Err, IfOk, if◌then◌else◌}
 use Rattle.std.specs.Fmt.{decimal}
 use Rattle.std.specs.List.{flat_map}
 use Rattle.mcs_model.specs.declared.refusal_numbers.TheConstants.{NO_MEMORY, NO_ROM}
 use Rattle.mcs_source.specs.RefusalNumbers.{source_fault_number}
 use Rattle.mcs_wiring.specs.RefusalNumbers.{wiring_fault_number}
+use Rattle.mcs_drive.specs.DrivenRuns.{Levels}
 use Rattle.mcs_check.specs.declared.checking.Outcome.{Outcome}
 use Rattle.mcs_check.specs.declared.checking.Outcome.TheVariants as outcome
 use Rattle.mcs_prove.specs.declared.refusal.Refusal.{Refusal}
@@ -15,9 +16,43 @@ use Rattle.mcs_prove.specs.Questions.{IsAnswerTo}
 abbrev pub space_and_decimal : ℕ → List ℕ
 space_and_decimal n = codes " " ++ decimal n
 
+-- level `i` of the levels of all keys, row by row, and then of TEST; 0 beyond the last one
+abbrev pub level_at : Levels → ℕ → ℕ
+level_at l i = if nat_lt i (length l.keys) then slice_index l.keys i else if i == length l.keys then l.test else 0
+
+-- the number of digits for the levels of all keys and TEST. Each digit has four levels.
+abbrev pub digit_count : Levels → ℕ
+digit_count l = length l.keys / 4 + 1
+
+-- digit `d` for the levels of all keys and TEST. It has four levels, the first one in its lowest
+-- bit.
+abbrev pub digit_at : Levels → ℕ → ℕ
+digit_at l d = level_at l (4 * d) + 2 * level_at l (4 * d + 1) + 4 * level_at l (4 * d + 2) + 8 * level_at l (4 * d + 3)
+
+-- the hexadecimal digit for a number below 16
+abbrev pub hex_digit : ℕ → List ℕ
+hex_digit n =
+    if n == 10 then codes "a"
+    else if n == 11 then codes "b"
+    else if n == 12 then codes "c"
+    else if n == 13 then codes "d"
+    else if n == 14 then codes "e"
+    else if n == 15 then codes "f"
+    else decimal n
+
+-- the first digits for the levels of all keys and TEST, in lower-case hexadecimal
+abbrev pub first_digits : Levels → ℕ → List ℕ
+first_digits l zero = []
+first_digits l (suc n) = first_digits l n ++ hex_digit (digit_at l n)
+
+-- a space and a word with all digits for the levels of all keys and TEST
+abbrev pub space_and_word : Levels → List ℕ
+space_and_word l = codes " " ++ first_digits l (digit_count l)
+
 abbrev pub outcome_line : Outcome → List ℕ
 outcome_line (outcome.Holds states) = codes "holds" ++ space_and_decimal states
 outcome_line (outcome.MayFail values) = codes "may fail" ++ flat_map space_and_decimal values.items
+outcome_line (outcome.MayFailWith steps) = codes "may fail with" ++ flat_map space_and_word steps.items
 outcome_line outcome.TooMany = codes "too many"
 outcome_line (outcome.NoMemory states) = codes "no room" ++ space_and_decimal states
 outcome_line outcome.GaveUp = codes "gave up"

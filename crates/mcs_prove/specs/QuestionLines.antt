@@ -1,5 +1,5 @@
 -- The lines of a question and their meaning.
-use Rattle.std.specs.Prelude.{ℕ, Bool, true, false, List, [], ◌∷◌, codes, nat_lt, Option, Some, None, if◌then◌else◌}
+use Rattle.std.specs.Prelude.{ℕ, Bool, true, false, List, [], ◌∷◌, codes, nat_le, nat_lt, Option, Some, None, if◌then◌else◌}
 use Rattle.std.specs.Option.{option_map}
 use Rattle.mcs_model.specs.Options.{◌>>=◌}
 use Rattle.std.specs.Str.{bytes_eq}
@@ -18,9 +18,9 @@ use Rattle.mcs_check.specs.declared.conditions.Part.TheVariants.{Whole, Line}
 use Rattle.mcs_check.specs.Cells.{max_cell_count}
 use Rattle.mcs_prove.specs.declared.inputs.KeyPosition.{KeyPosition}
 use Rattle.mcs_prove.specs.declared.lines.QuestionLine.{QuestionLine}
-use Rattle.mcs_prove.specs.declared.lines.QuestionLine.TheVariants.{Blank, MaxStates, MaxEntries, MaxMemory, Pause, TimeLimit, BoardText, ProgramText, Conditions, OneCondition, NextMark, Together, Only, Pressable, TestMayChange, Prove}
+use Rattle.mcs_prove.specs.declared.lines.QuestionLine.TheVariants.{Blank, MaxStates, MaxEntries, MaxMemory, Pause, TimeLimit, BoardText, ProgramText, Conditions, OneCondition, NextMark, Together, Wait, Only, Pressable, TestMayChange, Prove}
 use Rattle.mcs_prove.specs.declared.lines.ListRole.TheVariants.{Never, Begin, End, Open}
-use Rattle.mcs_prove.specs.declared.lines.TheConstants.{LAST_INDEX, MAX_TIME_LIMIT, MAX_PAUSE, MAX_ENTRIES, MAX_MEMORY}
+use Rattle.mcs_prove.specs.declared.lines.TheConstants.{LAST_INDEX, MAX_TIME_LIMIT, MAX_PAUSE, MAX_ENTRIES, MAX_MEMORY, MAX_WAIT, MIN_WAIT}
 
 -- ---- a comparison: `in ramport 0 line1 1 1`
 
@@ -147,6 +147,10 @@ one_word_lines =
 abbrev pub pause_line : ℕ → Option QuestionLine
 pause_line n = if nat_lt 0 n then Some (Pause n) else None
 
+-- the line `wait` with the number that a word spells; None if the number is too small or too large
+abbrev pub wait_line : List ℕ → Option QuestionLine
+wait_line word = number_up_to MAX_WAIT word >>= λ n. if nat_le MIN_WAIT n then Some (Wait n) else None
+
 -- a line of two words: a name and a number
 abbrev pub number_line : List ℕ → List ℕ → Option QuestionLine
 number_line name word =
@@ -154,6 +158,7 @@ number_line name word =
     else if bytes_eq name (codes "sets") then option_map MaxEntries (number_up_to MAX_ENTRIES word)
     else if bytes_eq name (codes "memory") then option_map MaxMemory (number_up_to MAX_MEMORY word)
     else if bytes_eq name (codes "together") then option_map Together (number_up_to 255 word)
+    else if bytes_eq name (codes "wait") then wait_line word
     else if bytes_eq name (codes "within") then option_map TimeLimit (number_up_to MAX_TIME_LIMIT word)
     else if bytes_eq name (codes "pause") then number_up_to MAX_PAUSE word >>= pause_line
     else None

@@ -124,6 +124,7 @@ after_parsed_line a (line.Conditions role) = Some (record (with_list_ended a) { 
 after_parsed_line a (line.OneCondition c) = with_condition a c a.conditions
 after_parsed_line a (line.NextMark mark) = Some (record a { marks = a.marks ++ mark ∷ [] })
 after_parsed_line a (line.Together n) = Some (with_inputs a (record a.inputs { together = Some n }))
+after_parsed_line a (line.Wait n) = Some (with_inputs a (record a.inputs { wait = n }))
 after_parsed_line a line.Only = Some (with_inputs a (record a.inputs { is_restricted = true }))
 after_parsed_line a (line.Pressable key) =
     Some (with_inputs a (record a.inputs { pressable = a.inputs.pressable ++ key ∷ [] }))

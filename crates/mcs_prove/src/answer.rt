@@ -1,14 +1,15 @@
 //! The answer to a question: one line and an exit status.
-ghost use Rattle.std.specs.Prelude.{◌≡◌, ◌++◌, string_bytes, IfOk, OnOk};
+ghost use Rattle.std.specs.Prelude.{◌≡◌, ◌<◌, ◌≤◌, ◌^◌, ◌++◌, string_bytes, IfOk, OnOk};
 ghost use Rattle.std.specs.List.{flat_map};
-ghost use Rattle.mcs_prove.specs.Answers.{AnswersQuestion, line_of_answer, outcome_line, refusal_line, refusal_status, space_and_decimal, status_of_answer};
+ghost use Rattle.mcs_prove.specs.Answers.{AnswersQuestion, digit_at, digit_count, first_digits, hex_digit, level_at, line_of_answer, outcome_line, refusal_line, refusal_status, space_and_decimal, space_and_word, status_of_answer};
 ghost use Rattle.mcs_prove.specs.Questions.{IsAnswerTo};
 
 use crate::proving::{Goal, prove, prove_by_sets};
 use crate::question::{Question, question_of};
 use crate::refusal::Refusal;
-use mcs_check::{Marks, Outcome};
+use mcs_check::{Levels, Marks, Outcome};
 use mcs_model::refusal_numbers;
+use mcs_nibble::Bit;
 use mcs_search::MAX_STATES;
 use std::alloc::{AllocError, Global};
 
@@ -41,6 +42,84 @@ fn push_values(out: &mut String, values: &[u8]) -> Result<(), AllocError>
     Ok(())
 }
 
+/// Returns level `index` of the levels of all keys, row by row, and then of TEST. Returns 0 beyond the last one.
+fn level_at(levels: &Levels, index: usize) -> Bit
+    ensures { result ≡ level_at levels.now index }
+{
+    let keys = levels.keys();
+    if index < keys.len() {
+        keys[index]
+    } else if index == keys.len() {
+        levels.test()
+    } else {
+        Bit::ZERO
+    }
+}
+
+/// Returns the number of digits for the levels of all keys and TEST. Each digit has four levels.
+fn digit_count(levels: &Levels) -> usize
+    ensures value { result ≡ digit_count levels.now }
+    ensures few { result ≤ 2 ^ 61 }
+{
+    levels.keys().len() / 4 + 1
+}
+
+/// Returns one of the digits for the levels of all keys and TEST. It has four levels, the first one in its lowest bit.
+fn digit_at(levels: &Levels, index: usize) -> u8
+    requires { index < 2 ^ 61 }
+    ensures { result ≡ digit_at levels.now index }
+{
+    let first = 4 * index;
+    level_at(levels, first).get()
+        + 2 * level_at(levels, first + 1).get()
+        + 4 * level_at(levels, first + 2).get()
+        + 8 * level_at(levels, first + 3).get()
+}
+
+/// Appends a hexadecimal digit for a number below 16. Fails if memory runs out.
+fn push_digit(out: &mut String, number: u8) -> Result<(), AllocError>
+    ensures { OnOk result (string_bytes out.new ≡ string_bytes out.old ++ hex_digit number) }
+{
+    match number {
+        10 => out.push_str("a"),
+        11 => out.push_str("b"),
+        12 => out.push_str("c"),
+        13 => out.push_str("d"),
+        14 => out.push_str("e"),
+        15 => out.push_str("f"),
+        _ => write!(out, "{number}"),
+    }
+}
+
+/// Appends all digits for the levels of all keys and TEST, in hexadecimal. Fails if memory runs out.
+fn push_digits(out: &mut String, levels: &Levels) -> Result<(), AllocError>
+    ensures { OnOk result (string_bytes out.new
+        ≡ string_bytes out.old ++ first_digits levels.now (digit_count levels.now)) }
+{
+    for index in 0..digit_count(levels) {
+        push_digit(out, digit_at(levels, index))?;
+    }
+    Ok(())
+}
+
+/// Appends a space and the word for the levels of one step. Fails if memory runs out.
+fn push_word(out: &mut String, levels: &Levels) -> Result<(), AllocError>
+    ensures { OnOk result (string_bytes out.new ≡ string_bytes out.old ++ space_and_word levels.now) }
+{
+    out.push_str(" ")?;
+    push_digits(out, levels)
+}
+
+/// Appends the words for the levels of `MayFailWith`, with a space before each word. Fails if memory runs out.
+fn push_words(out: &mut String, steps: &[Levels]) -> Result<(), AllocError>
+    ensures { OnOk result (string_bytes out.new ≡ string_bytes out.old ++ flat_map space_and_word steps.now) }
+{
+    for levels in steps {
+        push_word(out, levels)?;
+    }
+    Ok(())
+}
+
 /// Appends the line for an outcome.
 fn push_outcome(out: &mut String, outcome: &Outcome) -> Result<(), AllocError>
     ensures { OnOk result (string_bytes out.new ≡ string_bytes out.old ++ outcome_line outcome.now) }
@@ -50,6 +129,10 @@ fn push_outcome(out: &mut String, outcome: &Outcome) -> Result<(), AllocError>
         Outcome::MayFail(values) => {
             out.push_str("may fail")?;
             push_values(out, values)
+        }
+        Outcome::MayFailWith(steps) => {
+            out.push_str("may fail with")?;
+            push_words(out, steps)
         }
         Outcome::TooMany => out.push_str("too many"),
         Outcome::NoMemory(states) => write!(out, "no room {states}"),

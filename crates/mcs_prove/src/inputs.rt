@@ -20,7 +20,8 @@ pub struct KeyPosition {
     pub column: u8,
 }
 
-/// The inputs that a question allows: which keys may be pressed, how many of them at a time, and whether TEST may be 1.
+/// The inputs that a question allows: which keys may be pressed, how many of them at a time, whether TEST may be 1, and
+/// how often the levels may change.
 #[derive(Drop)]
 pub struct AllowedInputs {
     /// True if only the keys in `pressable` may be pressed, and TEST may be 1 only if `test_may_change` is true. False
@@ -32,6 +33,8 @@ pub struct AllowedInputs {
     pub test_may_change: bool,
     /// The maximum number of keys that are down at a time, if there is a limit.
     pub together: Option<u8>,
+    /// The smallest number of cycles between two changes of the levels, or 0 if there is no limit.
+    pub wait: u32,
 }
 
 impl Model for AllowedInputs {
@@ -44,6 +47,7 @@ impl Model for AllowedInputs {
       pressable = a.pressable.items;
       test_may_change = a.test_may_change;
       together = a.together;
+      wait = a.wait;
     } };
 }
 
@@ -88,6 +92,7 @@ impl AllowedInputs {
             pressable: Vec::new(alloc),
             test_may_change: false,
             together: None,
+            wait: 0,
         }
     }
 
@@ -131,7 +136,7 @@ impl AllowedInputs {
             self.highest_key_levels(alloc, board)?,
             self.highest_test_level(),
             self.most_keys_down(board),
-            0,
+            self.wait,
         ))
     }
 }

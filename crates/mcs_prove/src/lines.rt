@@ -16,19 +16,21 @@
 //!     up 1 0                      mark: a read shows that the key at row 1, column 0 is up
 //!     down 1 0                    mark: a read shows that the key at row 1, column 0 is down
 //!     together 2                  at most 2 keys are down at a time
+//!     wait 1000                   the levels of keys and TEST change at moments that are at least 1000 cycles apart
 //!     only                        no key may be pressed and TEST stays at 0, except as `press` and `test` lines allow
 //!     press 1 0                   the key at row 1, column 0 may be pressed
 //!     test                        TEST may be 0 or 1
 //!     prove                       the question is complete; every question must end with this line
 //!
-//! Without a line `together`, any number of keys may be down at a time. Of several such lines, the last one counts.
+//! Without a line `together`, any number of keys may be down at a time. Without a line `wait`, the levels may change
+//! before each cycle. A `wait` is 2 to 100000. Of several lines `together` or `wait`, the last one of each counts.
 //! Without a line `only`, all keys may be pressed and TEST may be 0 or 1. `press` and `test` lines then have no effect.
 ghost use Rattle.std.specs.Prelude.{◌≡◌};
 ghost use Rattle.std.specs.Str.{bytes_eq};
 ghost use Rattle.mcs_model.specs.Numerals.{number_up_to};
 ghost use Rattle.mcs_model.specs.TextLines.{words_of};
 ghost use Rattle.mcs_model.specs.WordTables.{lookup_entry};
-ghost use Rattle.mcs_prove.specs.QuestionLines.{cell_lists, cell_of, cell_parts, comparison_kinds, comparison_line, comparison_of, key_levels, key_of, line_by_words, line_of, longer_line, mark_of, mistakes_of, no_mistakes, number_line, one_word_lines, three_word_line, with_mistake, with_mistakes};
+ghost use Rattle.mcs_prove.specs.QuestionLines.{cell_lists, cell_of, cell_parts, comparison_kinds, comparison_line, comparison_of, key_levels, key_of, line_by_words, line_of, longer_line, mark_of, mistakes_of, no_mistakes, number_line, one_word_lines, three_word_line, wait_line, with_mistake, with_mistakes};
 
 use crate::inputs::KeyPosition;
 use mcs_check::{Cell, CellList, Comparison, Condition, Mark, Mistakes, Part, StopwatchCycles};
@@ -47,6 +49,12 @@ pub(crate) const MAX_MEMORY: u32 = 1_000_000;
 
 /// The largest `pause` that a question can set, in cycles.
 const MAX_PAUSE: u32 = 1_000_000_000;
+
+/// The smallest `wait` that a question can set, in cycles. A smaller one limits nothing.
+const MIN_WAIT: u32 = 2;
+
+/// The largest `wait` that a question can set, in cycles.
+const MAX_WAIT: u32 = 100_000;
 
 /// The largest stopwatch limit that a question can set, in cycles: one less than a stopwatch can show.
 const MAX_TIME_LIMIT: u32 = 16_777_214;
@@ -91,6 +99,8 @@ pub(crate) enum QuestionLine {
     NextMark(Mark),
     /// The maximum number of keys that are down at a time.
     Together(u8),
+    /// The smallest number of cycles between two changes of the levels.
+    Wait(u32),
     /// Only the keys of the `press` lines may be pressed, and TEST may be 1 only if there is a `test` line.
     Only,
     /// A key that may be pressed.
@@ -285,6 +295,18 @@ fn one_word_line(word: &[u8]) -> Option<QuestionLine>
     }
 }
 
+/// Parses the number of a line `wait`. Returns `None` if the number is too small or too large.
+fn wait_line(word: &[u8]) -> Option<QuestionLine>
+    ensures { result ≡ wait_line word.now }
+{
+    let wait = number_within(word, MAX_WAIT)?;
+    if wait >= MIN_WAIT {
+        Some(QuestionLine::Wait(wait))
+    } else {
+        None
+    }
+}
+
 /// Parses a line that consists of a name and a number.
 fn number_line(name: &[u8], word: &[u8]) -> Option<QuestionLine>
     ensures { result ≡ number_line name.now word.now }
@@ -300,6 +322,9 @@ fn number_line(name: &[u8], word: &[u8]) -> Option<QuestionLine>
     }
     if equals(name, b"together") {
         return Some(QuestionLine::Together(byte_of(word)?));
+    }
+    if equals(name, b"wait") {
+        return wait_line(word);
     }
     if equals(name, b"within") {
         let limit = StopwatchCycles::of(number_within(word, MAX_TIME_LIMIT)?)?;

@@ -235,6 +235,7 @@ impl Question {
             QuestionLine::OneCondition(condition) => return self.add_condition(condition),
             QuestionLine::NextMark(mark) => self.marks.push(mark)?,
             QuestionLine::Together(together) => self.inputs.together = Some(together),
+            QuestionLine::Wait(wait) => self.inputs.wait = wait,
             QuestionLine::Only => self.inputs.is_restricted = true,
             QuestionLine::Pressable(key) => self.inputs.pressable.push(key)?,
             QuestionLine::TestMayChange => self.inputs.test_may_change = true,

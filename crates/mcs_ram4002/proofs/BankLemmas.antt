@@ -1,4 +1,5 @@
--- Reads and writes of one chip, and the flat lists of its bank.
+-- Reads and writes of one chip, and the flat lists of its bank. A cell is a main nibble or a status
+-- character.
 use Rattle.std.proofs.Common.{◌≡◌, ℕ, ◌+◌, ◌*◌, ◌/◌, ◌%◌, ◌<◌, ◌≤◌, inl, inr, List, [], length, get_or, slice_set, slice_index, take, refl, sym, ap, ◌∙◌, arith, replicate, subst}
 use Rattle.std.proofs.Math.Seq.{take-set-lt}
 use Rattle.std.proofs.lemmas.Grind.{common_steps}
@@ -18,8 +19,7 @@ use Rattle.mcs_ram4002.proofs.PackedNibbles.{unpacked_nibbles-below_16, unpacked
 length-present_chips : (chips : List Chip) (chip_count : ℕ) → chip_count ≤ length chips → length (take chip_count chips) ≡ chip_count
 length-present_chips chips chip_count l = grind (arith, common_steps)
 
--- The chip at index `i` of the bank is the chip at index `i` of the list if `i` is below
--- `chip_count`.
+-- If `i` is below `chip_count`, chip `i` of the bank is chip `i` of the list.
 present_chip-at_index : (chips : List Chip) (chip_count i : ℕ) (x : Chip) → i < chip_count → chip_count ≤ length chips → get_or (take chip_count chips) i absent_chip ≡ get_or chips i x
 present_chip-at_index chips chip_count i x h l = get_or-take chip_count chips i absent_chip h ∙ get_or_default chips i absent_chip x (omega arith)
 
@@ -29,66 +29,66 @@ absent_chip-at_index chips chip_count i h = grind (arith, common_steps)
 -- Cell `k` of chip `i` is at index `i * width + k` of the flat list. For an absent chip, the list
 -- has 0 at this index.
 pub present_cell-in_flat_list : (width : ℕ) (f : Chip → List ℕ) (chips : List Chip) (chip_count i k p : ℕ) (x : Chip) → i < 4 → k < width → p ≡ i * width + k → i < chip_count → chip_count ≤ length chips → slice_index (f (get_or chips i x)) k ≡ slice_index (flat_rows 4 width f absent_chip (take chip_count chips)) p
-present_cell-in_flat_list width f chips chip_count i k p x h l at there fits =
-    ap (λ c. slice_index (f c) k) (sym (present_chip-at_index chips chip_count i x there fits))
+present_cell-in_flat_list width f chips chip_count i k p x h l at present fits =
+    ap (λ c. slice_index (f c) k) (sym (present_chip-at_index chips chip_count i x present fits))
     ∙ sym (get-flat_rows 4 width f absent_chip (take chip_count chips) i k h l)
     ∙ ap (slice_index (flat_rows 4 width f absent_chip (take chip_count chips))) (sym at)
 
 pub absent_cell-in_flat_list : (width : ℕ) (f : Chip → List ℕ) (chips : List Chip) (chip_count i k p : ℕ) → slice_index (f absent_chip) k ≡ 0 → i < 4 → k < width → p ≡ i * width + k → chip_count ≤ i → 0 ≡ slice_index (flat_rows 4 width f absent_chip (take chip_count chips)) p
-absent_cell-in_flat_list width f chips chip_count i k p none h l at gone =
+absent_cell-in_flat_list width f chips chip_count i k p none h l at absent =
     sym (ap (slice_index (flat_rows 4 width f absent_chip (take chip_count chips))) at
     ∙ get-flat_rows 4 width f absent_chip (take chip_count chips) i k h l
-    ∙ ap (λ c. slice_index (f c) k) (absent_chip-at_index chips chip_count i gone)
+    ∙ ap (λ c. slice_index (f c) k) (absent_chip-at_index chips chip_count i absent)
     ∙ none)
 
 pub port-read : (chips : List Chip) (chip_count src i : ℕ) (x : Chip) → i < 4 → i < chip_count → chip_count ≤ length chips → (get_or chips i x).port ≡ slice_index (bank_of chips chip_count src).ports i
-port-read chips chip_count src i x h there fits =
-    ap (λ (c : Chip). c.port) (sym (present_chip-at_index chips chip_count i x there fits)) ∙ sym (get-column 4 (λ (c : Chip). c.port) absent_chip (take chip_count chips) i h)
+port-read chips chip_count src i x h present fits =
+    ap (λ (c : Chip). c.port) (sym (present_chip-at_index chips chip_count i x present fits)) ∙ sym (get-column 4 (λ (c : Chip). c.port) absent_chip (take chip_count chips) i h)
 
 pub port-of_absent_chip : (chips : List Chip) (chip_count src i : ℕ) → i < 4 → chip_count ≤ i → 0 ≡ slice_index (bank_of chips chip_count src).ports i
-port-of_absent_chip chips chip_count src i h gone =
-    sym (get-column 4 (λ (c : Chip). c.port) absent_chip (take chip_count chips) i h ∙ ap (λ (c : Chip). c.port) (absent_chip-at_index chips chip_count i gone))
+port-of_absent_chip chips chip_count src i h absent =
+    sym (get-column 4 (λ (c : Chip). c.port) absent_chip (take chip_count chips) i h ∙ ap (λ (c : Chip). c.port) (absent_chip-at_index chips chip_count i absent))
 
 -- A present chip is within the bank's list of chips.
 present_index-in_range : (chips : List Chip) (chip_count i : ℕ) → i < chip_count → chip_count ≤ length chips → i < length (take chip_count chips)
-present_index-in_range chips chip_count i there fits = let e = length-present_chips chips chip_count fits in omega arith
+present_index-in_range chips chip_count i present fits = let e = length-present_chips chips chip_count fits in omega arith
 
 -- If chip `d` replaces chip `i` and has the same cells, the flat list of these cells stays the
 -- same.
 cells-unchanged_by_set_chip : (width : ℕ) (f : Chip → List ℕ) (chips : List Chip) (chip_count i : ℕ) (x d : Chip) → i < chip_count → chip_count ≤ length chips → f d ≡ f (get_or chips i x) → flat_rows 4 width f absent_chip (take chip_count (slice_set chips i d)) ≡ flat_rows 4 width f absent_chip (take chip_count chips)
-cells-unchanged_by_set_chip width f chips chip_count i x d there fits same =
-    ap (flat_rows 4 width f absent_chip) (take-set-lt chip_count chips i d there)
-    ∙ flat_rows-unchanged 4 width f absent_chip (take chip_count chips) i d (present_index-in_range chips chip_count i there fits) (same ∙ ap f (sym (present_chip-at_index chips chip_count i x there fits)))
+cells-unchanged_by_set_chip width f chips chip_count i x d present fits same =
+    ap (flat_rows 4 width f absent_chip) (take-set-lt chip_count chips i d present)
+    ∙ flat_rows-unchanged 4 width f absent_chip (take chip_count chips) i d (present_index-in_range chips chip_count i present fits) (same ∙ ap f (sym (present_chip-at_index chips chip_count i x present fits)))
 
 ports-unchanged_by_set_chip : (chips : List Chip) (chip_count i : ℕ) (x d : Chip) → i < chip_count → chip_count ≤ length chips → d.port ≡ (get_or chips i x).port → column 4 (λ (c : Chip). c.port) absent_chip (take chip_count (slice_set chips i d)) ≡ column 4 (λ (c : Chip). c.port) absent_chip (take chip_count chips)
-ports-unchanged_by_set_chip chips chip_count i x d there fits same =
-    ap (column 4 (λ (c : Chip). c.port) absent_chip) (take-set-lt chip_count chips i d there)
-    ∙ column-unchanged 4 (λ (c : Chip). c.port) absent_chip (take chip_count chips) i d (present_index-in_range chips chip_count i there fits) (same ∙ ap (λ (c : Chip). c.port) (sym (present_chip-at_index chips chip_count i x there fits)))
+ports-unchanged_by_set_chip chips chip_count i x d present fits same =
+    ap (column 4 (λ (c : Chip). c.port) absent_chip) (take-set-lt chip_count chips i d present)
+    ∙ column-unchanged 4 (λ (c : Chip). c.port) absent_chip (take chip_count chips) i d (present_index-in_range chips chip_count i present fits) (same ∙ ap (λ (c : Chip). c.port) (sym (present_chip-at_index chips chip_count i x present fits)))
 
 -- If chip `d` replaces chip `i` and differs from it only in cell `k`, element `p` of the flat list
 -- becomes the new value `n` of this cell.
 cells-after_cell_write : (width : ℕ) (f : Chip → List ℕ) (chips : List Chip) (chip_count i k p n : ℕ) (x d : Chip) → i < 4 → k < width → p ≡ i * width + k → i < chip_count → chip_count ≤ length chips → length (f (get_or chips i x)) ≡ width → f d ≡ slice_set (f (get_or chips i x)) k n → flat_rows 4 width f absent_chip (take chip_count (slice_set chips i d)) ≡ slice_set (flat_rows 4 width f absent_chip (take chip_count chips)) p n
-cells-after_cell_write width f chips chip_count i k p n x d h l at there fits len new =
-    let old = present_chip-at_index chips chip_count i x there fits in
-    ap (flat_rows 4 width f absent_chip) (take-set-lt chip_count chips i d there)
-    ∙ set-flat_rows 4 width f absent_chip (take chip_count chips) i k d n h l (present_index-in_range chips chip_count i there fits) (rw old (omega arith)) (new ∙ ap (λ c. slice_set (f c) k n) (sym old))
+cells-after_cell_write width f chips chip_count i k p n x d h l at present fits len new =
+    let old = present_chip-at_index chips chip_count i x present fits in
+    ap (flat_rows 4 width f absent_chip) (take-set-lt chip_count chips i d present)
+    ∙ set-flat_rows 4 width f absent_chip (take chip_count chips) i k d n h l (present_index-in_range chips chip_count i present fits) (rw old (omega arith)) (new ∙ ap (λ c. slice_set (f c) k n) (sym old))
     ∙ ap (λ j. slice_set (flat_rows 4 width f absent_chip (take chip_count chips)) j n) (sym at)
 
 -- If `d` is chip `i` after a write to chip `i`, the bank with `d` in place of chip `i` is the bank
 -- after the write.
 pub bank_of-after_chip_write : (chips : List Chip) (chip_count src i : ℕ) (x d : Chip) (write : BankWrite) → IsInBank write → i ≡ target_chip write → i < 4 → i < chip_count → chip_count ≤ length chips → IsSizedChip (get_or chips i x) → contents_of_chip d ≡ chip_after (contents_of_chip (get_or chips i x)) write → bank_of (slice_set chips i d) chip_count (src_after write src) ≡ with_write (bank_of chips chip_count src) write
-bank_of-after_chip_write chips chip_count src i x d (Character at n) place is h there fits sized new =
-    rw (cells-after_cell_write 64 main_cells_of chips chip_count i (at % 64) at n x d h (omega arith) (omega arith) there fits sized.main (ap (λ (c : ChipState). c.main) new), cells-unchanged_by_set_chip 16 status_cells_of chips chip_count i x d there fits (ap (λ (c : ChipState). c.status) new), ports-unchanged_by_set_chip chips chip_count i x d there fits (ap (λ (c : ChipState). c.port) new)) refl
-bank_of-after_chip_write chips chip_count src i x d (Status high k n) place is h there fits sized new =
-    rw (cells-unchanged_by_set_chip 64 main_cells_of chips chip_count i x d there fits (ap (λ (c : ChipState). c.main) new), cells-after_cell_write 16 status_cells_of chips chip_count i (high % 4 * 4 + k) (status_cell_index high k) n x d h (omega arith) (omega arith) there fits sized.status (ap (λ (c : ChipState). c.status) new), ports-unchanged_by_set_chip chips chip_count i x d there fits (ap (λ (c : ChipState). c.port) new)) refl
-bank_of-after_chip_write chips chip_count src i x d (Port chip n) place is h there fits sized new =
+bank_of-after_chip_write chips chip_count src i x d (Character at n) place is h present fits sized new =
+    rw (cells-after_cell_write 64 main_cells_of chips chip_count i (at % 64) at n x d h (omega arith) (omega arith) present fits sized.main (ap (λ (c : ChipState). c.main) new), cells-unchanged_by_set_chip 16 status_cells_of chips chip_count i x d present fits (ap (λ (c : ChipState). c.status) new), ports-unchanged_by_set_chip chips chip_count i x d present fits (ap (λ (c : ChipState). c.port) new)) refl
+bank_of-after_chip_write chips chip_count src i x d (Status high k n) place is h present fits sized new =
+    rw (cells-unchanged_by_set_chip 64 main_cells_of chips chip_count i x d present fits (ap (λ (c : ChipState). c.main) new), cells-after_cell_write 16 status_cells_of chips chip_count i (high % 4 * 4 + k) (status_cell_index high k) n x d h (omega arith) (omega arith) present fits sized.status (ap (λ (c : ChipState). c.status) new), ports-unchanged_by_set_chip chips chip_count i x d present fits (ap (λ (c : ChipState). c.port) new)) refl
+bank_of-after_chip_write chips chip_count src i x d (Port chip n) place is h present fits sized new =
     let ports =
-    ap (column 4 (λ (c : Chip). c.port) absent_chip) (take-set-lt chip_count chips i d there)
-    ∙ set-column 4 (λ (c : Chip). c.port) absent_chip (take chip_count chips) i d n h (present_index-in_range chips chip_count i there fits) (ap (λ (c : ChipState). c.port) new)
+    ap (column 4 (λ (c : Chip). c.port) absent_chip) (take-set-lt chip_count chips i d present)
+    ∙ set-column 4 (λ (c : Chip). c.port) absent_chip (take chip_count chips) i d n h (present_index-in_range chips chip_count i present fits) (ap (λ (c : ChipState). c.port) new)
     ∙ ap (λ j. slice_set (column 4 (λ (c : Chip). c.port) absent_chip (take chip_count chips)) j n) is in
-    rw (cells-unchanged_by_set_chip 64 main_cells_of chips chip_count i x d there fits (ap (λ (c : ChipState). c.main) new), cells-unchanged_by_set_chip 16 status_cells_of chips chip_count i x d there fits (ap (λ (c : ChipState). c.status) new), ports) refl
-bank_of-after_chip_write chips chip_count src i x d (Src byte) place is h there fits sized new =
-    rw (cells-unchanged_by_set_chip 64 main_cells_of chips chip_count i x d there fits (ap (λ (c : ChipState). c.main) new), cells-unchanged_by_set_chip 16 status_cells_of chips chip_count i x d there fits (ap (λ (c : ChipState). c.status) new), ports-unchanged_by_set_chip chips chip_count i x d there fits (ap (λ (c : ChipState). c.port) new)) refl
+    rw (cells-unchanged_by_set_chip 64 main_cells_of chips chip_count i x d present fits (ap (λ (c : ChipState). c.main) new), cells-unchanged_by_set_chip 16 status_cells_of chips chip_count i x d present fits (ap (λ (c : ChipState). c.status) new), ports) refl
+bank_of-after_chip_write chips chip_count src i x d (Src byte) place is h present fits sized new =
+    rw (cells-unchanged_by_set_chip 64 main_cells_of chips chip_count i x d present fits (ap (λ (c : ChipState). c.main) new), cells-unchanged_by_set_chip 16 status_cells_of chips chip_count i x d present fits (ap (λ (c : ChipState). c.status) new), ports-unchanged_by_set_chip chips chip_count i x d present fits (ap (λ (c : ChipState). c.port) new)) refl
 
 -- ---- properties of every bank
 
@@ -103,21 +103,21 @@ each_chip-valid : (chips : List Chip) (chip_count i : ℕ) → All IsValidChip c
 each_chip-valid chips chip_count i valid =
     elim (cases_lt i (length (take chip_count chips))) [
       | inl l ↦ All-get_or IsValidChip (take chip_count chips) i absent_chip l (All-take IsValidChip chip_count chips valid)
-      | inr gone ↦ subst IsValidChip (sym (get_or_past (take chip_count chips) i absent_chip gone)) (record { main = unpacked_nibbles-below_16 []; status = unpacked_nibbles-below_16 []; port = omega arith })
+      | inr absent ↦ subst IsValidChip (sym (get_or_past (take chip_count chips) i absent_chip absent)) (record { main = unpacked_nibbles-below_16 []; status = unpacked_nibbles-below_16 []; port = omega arith })
     ]
 
-pub valid_of : (b : BankState) (chips : List Chip) (chip_count src : ℕ) → bank_of chips chip_count src ≡ b → src < 256 → (chip_count ≡ 0 → src ≡ 0) → All IsValidChip chips → IsValidBank b
-valid_of b chips chip_count src is small unwired valid =
+pub bank-is_valid : (b : BankState) (chips : List Chip) (chip_count src : ℕ) → bank_of chips chip_count src ≡ b → src < 256 → (chip_count ≡ 0 → src ≡ 0) → All IsValidChip chips → IsValidBank b
+bank-is_valid b chips chip_count src is small zero_src valid =
     let at : IsValidBank (bank_of chips chip_count src) = record {
       whole = bank_of-has_fixed_lengths chips chip_count src;
       main = flat_rows-below_limit 4 64 16 main_cells_of absent_chip (take chip_count chips) (λ i k. element-below_limit 16 _ k (omega arith) (each_chip-valid chips chip_count i valid).main);
       status = flat_rows-below_limit 4 16 16 status_cells_of absent_chip (take chip_count chips) (λ i k. element-below_limit 16 _ k (omega arith) (each_chip-valid chips chip_count i valid).status);
       ports = column-below_limit 4 16 (λ (c : Chip). c.port) absent_chip (take chip_count chips) (λ i. (each_chip-valid chips chip_count i valid).port);
       src = small;
-      absent_main = λ at l gone. sym (absent_cell-in_flat_list 64 main_cells_of chips chip_count (at / 64) (at % 64) at (unpacked_nibbles-of_empty_list (at % 64)) (omega arith) (omega arith) (omega arith) gone);
-      absent_status = λ high k h l gone. sym (absent_cell-in_flat_list 16 status_cells_of chips chip_count (high / 4) (high % 4 * 4 + k) (status_cell_index high k) (unpacked_nibbles-of_empty_list (high % 4 * 4 + k)) (omega arith) (omega arith) (omega arith) gone);
-      absent_port = λ chip l gone. sym (port-of_absent_chip chips chip_count src chip l gone);
-      absent_src = unwired;
+      absent_main = λ at l absent. sym (absent_cell-in_flat_list 64 main_cells_of chips chip_count (at / 64) (at % 64) at (unpacked_nibbles-of_empty_list (at % 64)) (omega arith) (omega arith) (omega arith) absent);
+      absent_status = λ high k h l absent. sym (absent_cell-in_flat_list 16 status_cells_of chips chip_count (high / 4) (high % 4 * 4 + k) (status_cell_index high k) (unpacked_nibbles-of_empty_list (high % 4 * 4 + k)) (omega arith) (omega arith) (omega arith) absent);
+      absent_port = λ chip l absent. sym (port-of_absent_chip chips chip_count src chip l absent);
+      absent_src = zero_src;
     } in
     subst IsValidBank is at
 

@@ -5,7 +5,7 @@ use Rattle.std.proofs.lemmas.Bool.{cases_lt}
 use Rattle.std.proofs.lemmas.List.{get_or_past}
 use Rattle.std.proofs.lemmas.List.Elements.{All-get_or, All-from_get_or}
 use Rattle.mcs_nibble.specs.Tables.{table_of, column, flat_rows}
-use Rattle.mcs_nibble.proofs.TabledLemmas.{get_or-table_of, length-table_of}
+use Rattle.mcs_nibble.proofs.TableLemmas.{get_or-table_of, length-table_of}
 
 -- If all numbers of a list are below `m`, a read at any index gives a number below `m`. Past the
 -- end, a read gives 0.

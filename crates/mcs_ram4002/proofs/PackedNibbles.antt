@@ -6,7 +6,7 @@ use Rattle.std.proofs.lemmas.Bool.{cases_eq}
 use Rattle.std.proofs.lemmas.List.{get_or-replicate, length-replicate, length-set}
 use Rattle.std.proofs.lemmas.List.Elements.{All-from_get_or}
 use Rattle.mcs_nibble.specs.Tables.{table_of}
-use Rattle.mcs_nibble.proofs.TabledLemmas.{get_or-table_of, set-table_of, length-table_of, table_of-unique}
+use Rattle.mcs_nibble.proofs.TableLemmas.{get_or-table_of, set-table_of, length-table_of, table_of-unique}
 use Rattle.mcs_ram4002.specs.declared.Chip.{Chip}
 use Rattle.mcs_ram4002.specs.RamBank.{half_of, unpacked_nibbles, IsSizedChip, IsValidChip}
 

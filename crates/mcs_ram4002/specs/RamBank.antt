@@ -10,7 +10,7 @@ use Rattle.mcs_ram4002.specs.declared.Chip.{Chip}
 pub record BankState : Type 0 where
   -- the number of chips that are present
   pub chip_count : ℕ
-  -- the last SRC byte
+  -- the SRC byte that the bank stores
   pub src : ℕ
   -- the 256 main nibbles, indexed by the SRC byte that selects them
   pub main : List ℕ

@@ -17,10 +17,10 @@ use std::marker::Model;
 pub enum BankWrite {
     /// A main nibble: the SRC byte that selects it, and its new value.
     Character(u8, Nibble),
-    /// A status character: the upper nibble of the SRC byte that selects its register, its number, 0 to 3, and its
-    /// new value.
+    /// A status character: the upper nibble of the SRC byte that selects its register, its number (0 to 3), and its new
+    /// value.
     Status(Nibble, u8, Nibble),
-    /// The output port latch of a chip: the number of the chip, 0 to 3, and the new value.
+    /// The output port latch of a chip: the number of the chip (0 to 3), and the new value.
     Port(u8, Nibble),
     /// The SRC byte that the bank stores. The write has no effect if the bank has no chips.
     Src(u8),
@@ -271,7 +271,7 @@ impl<const CHIPS: usize> Bank<CHIPS> {
     }
 
     /// Returns status character `k` (0 to 3) of the register that `high`, the upper nibble of an SRC byte, selects.
-    /// Returns 0 if its chip is absent.
+    /// Returns 0 if the chip of this register is absent.
     pub fn status_at(&self, high: Nibble, k: u8) -> Nibble
         requires { k < 4 }
         ensures { result ≡ slice_index self.now.status (status_cell_index high k) }
@@ -286,7 +286,7 @@ impl<const CHIPS: usize> Bank<CHIPS> {
     }
 
     /// Writes status character `k` (0 to 3) of the register that `high`, the upper nibble of an SRC byte, selects.
-    /// Has no effect if its chip is absent.
+    /// Has no effect if the chip of this register is absent.
     pub fn set_status_at(&mut self, high: Nibble, k: u8, n: Nibble)
         requires { k < 4 }
         ensures { self.new ≡ after_write self.old (BankWrite.Status high k n) }

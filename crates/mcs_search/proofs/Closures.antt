@@ -90,12 +90,12 @@ closure-if_all_followed r keys n some all u = record {
 
 -- ---- the first key of a search
 
-first_add-only_key : (start : List ℕ) (old new : List (List ℕ)) → old ≡ [] → (new ≡ old) ⊎ (new ≡ old ++ start ∷ []) → Contains new start → new ≡ start ∷ []
-first_add-only_key start old new e (inl same) at = absurd (let no_new_keys : length new ≡ 0 = ap length (same ∙ e) in let l = at.1 in omega arith)
-first_add-only_key start old new e (inr more) at = more ∙ ap (λ ks. ks ++ start ∷ []) e
+only_key-after_first_add : (start : List ℕ) (old new : List (List ℕ)) → old ≡ [] → (new ≡ old) ⊎ (new ≡ old ++ start ∷ []) → Contains new start → new ≡ start ∷ []
+only_key-after_first_add start old new e (inl same) at = absurd (let no_new_keys : length new ≡ 0 = ap length (same ∙ e) in let l = at.1 in omega arith)
+only_key-after_first_add start old new e (inr more) at = more ∙ ap (λ ks. ks ++ start ∷ []) e
 
 -- After a key is added to an empty store, it is the only key.
 pub keys-after_first_add : (start : List ℕ) (old new : KeyStore) (a : AddOutcome) → old.keys ≡ [] → Adds old start new → IsAddOutcome 1 old.keys new.keys start a → new.keys ≡ start ∷ []
-keys-after_first_add start old new added.New e adds was = first_add-only_key start old.keys new.keys e adds.keys was
-keys-after_first_add start old new added.Known e adds was = first_add-only_key start old.keys new.keys e adds.keys was
+keys-after_first_add start old new added.New e adds was = only_key-after_first_add start old.keys new.keys e adds.keys was
+keys-after_first_add start old new added.Known e adds was = only_key-after_first_add start old.keys new.keys e adds.keys was
 keys-after_first_add start old new added.Full e adds was = absurd (let no_old_keys : length old.keys ≡ 0 = ap length e in omega arith)

@@ -25,7 +25,7 @@ IsFollowed r keys key =
     (choices : List ℕ) × r.covers key choices × All (LeadsInto r keys key) choices
 
 -- A list of `n` keys that includes the start and is closed under all choices. Any sequence of
--- choices from the start reaches only these states, and the property holds at every step.
+-- choices from the start reaches only states with these keys, and the property holds at every step.
 pub record Closure (r : Rules) (start : List ℕ) (n : ℕ) : Type 0 where
   pub keys : List (List ℕ)
   pub count : length keys ≡ n

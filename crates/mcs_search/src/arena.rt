@@ -80,7 +80,7 @@ impl Arena {
         ensures err { OnErr result (self.new ≡ self.old) }
     {
         // If this key fills the last block, that block is moved to `full`. Space in `full` is reserved first, so that
-        // this push cannot fail.
+        // the move cannot fail.
         self.full.reserve(1)?;
         self.last.push(key, parent)?;
         self.len += 1;

@@ -10,7 +10,7 @@ use crate::visited::VisitedSet;
 use std::alloc::{AllocError, Global};
 use std::marker::Model;
 
-/// The largest limit on the number of states that a search accepts.
+/// The largest value that a search accepts as its limit on the number of states.
 pub const MAX_STATES: usize = 4_000_000_000;
 
 /// The result of a search.
@@ -101,9 +101,9 @@ impl Search {
         self.visited.key(i)
     }
 
-    /// Returns the verdict after `choice`, followed from the current state, broke the property. Replays the choices
-    /// from the start to the current state, and then `choice`. Returns `Broken` with these choices if the property
-    /// fails again, and otherwise `GaveUp`. Fails if memory cannot be allocated.
+    /// Returns the verdict on a `choice` that broke the property when it was followed from the current state. Replays
+    /// the choices from the start to the current state, and then `choice`. Returns `Broken` with these choices if the
+    /// property fails again, and otherwise `GaveUp`. Fails if memory cannot be allocated.
     fn counterexample<S: System>(
         &mut self,
         system: &mut S,

@@ -77,7 +77,7 @@ opened_store_keeps_contents old new snap records opened = subst (λ (f : List �
 leaves_old_images_if_none_added : (old new : DiskState) (s : BenchState) → AddsNoImage old new → LeavesOldImageOrState old new s
 leaves_old_images_if_none_added old new s adds_no_image = record {
   later = adds_no_image.later;
-  each = λ c left. inl ((disk_is_lawful old).only_now c (image_since_is_old_without_new_image old new adds_no_image (time_of old) c left));
+  each = λ c left. inl ((disk_is_lawful old).since_now_implies_now c (image_since_is_old_without_new_image old new adds_no_image (time_of old) c left));
 }
 
 -- a file of version 2 is opened in the state that it represents
@@ -120,8 +120,8 @@ replays_after_conversion version_1 (r ∷ rs) (c ∷ cs) h =
     )
 
 -- if the snapshot and the records of a file represent the state `s` in version 1, so does the file
-pub converted_from_records : (file snap : List ℕ) (records : List (List ℕ)) (s : BenchState) → Holds file snap records → RecordsRepresent One snap records s → RepresentsConverted file s
-converted_from_records file snap records s holds records_represent =
+pub represents_converted_from_records : (file snap : List ℕ) (records : List (List ℕ)) (s : BenchState) → Holds file snap records → RecordsRepresent One snap records s → RepresentsConverted file s
+represents_converted_from_records file snap records s holds records_represent =
     let both = replays_in_version_1 records_represent.start records_represent.snapshot.version_1 records records_represent.commands records_represent.snapshot.lifted records_represent.replays in
     record {
       snap = snap;
@@ -155,14 +155,14 @@ leaves_old_image_or_state_while_migrating : (old mid new : DiskState) (snap : Li
 leaves_old_image_or_state_while_migrating old mid new snap records s opened records_represent moments =
     leaves_only_in_two_stretches old mid new (SatisfiesEither (images_of old) (λ file. RepresentsInEitherVersion file s)) (leaves_old_images_if_none_added old mid s opened.adds_no_image)
     (leaves_only_weaker_property mid new (SatisfiesEither (λ c. Holds c snap records) (λ c. HoldsState c s)) (SatisfiesEither (images_of old) (λ file. RepresentsInEitherVersion file s))
-    (λ c. ⊎_elim (λ there. inr (inr (converted_from_records c snap records s there records_represent))) (λ here. inr (inl (held_state_is_represented c s here)))) moments)
+    (λ c. ⊎_elim (λ there. inr (inr (represents_converted_from_records c snap records s there records_represent))) (λ here. inr (inl (held_state_is_represented c s here)))) moments)
 
 -- a file of version 1 is opened in its converted state, once a durable snapshot of that state has
 -- replaced its contents
 opens_session_of_version_1 : (old mid new : DiskState) (snap : List ℕ) (records : List (List ℕ)) (cycles : ℕ) (s : BenchState) → OpensStore old mid snap records → IsReplayed One snap records cycles s
     → HoldsState (bytes_of new) s → IsDurable new → OpensSession old new s
 opens_session_of_version_1 old mid new snap records cycles s opened replayed held durable = record {
-  represented_before = inr (converted_from_records (bytes_of old) snap records s opened.holds replayed.records_represent);
+  represented_before = inr (represents_converted_from_records (bytes_of old) snap records s opened.holds replayed.records_represent);
   represents = durable_disk_represents new s durable (held_state_is_represented (bytes_of new) s held);
 }
 
@@ -178,11 +178,11 @@ migrates_session_of_version_1 old mid new snap records cycles s opened replayed 
     of_last : Represents (bytes_of old) s → ⊥
     of_last last = snapshot_has_only_one_version last.snap last.records_represent.start replayed.records_represent.snapshot.version_1 last.records_represent.snapshot (subst (λ (x : List ℕ). EncodesState1 x replayed.records_represent.snapshot.version_1) (sym (snapshot_is_unique _ _ _ _ _ last.holds opened.holds)) replayed.records_represent.snapshot.spells)
 
-pub fails_migrating : (old mid new : DiskState) (snap : List ℕ) (records : List (List ℕ)) (cycles : ℕ) (s : BenchState) → OpensStore old mid snap records → IsReplayed One snap records cycles s
+pub fails_during_migration : (old mid new : DiskState) (snap : List ℕ) (records : List (List ℕ)) (cycles : ℕ) (s : BenchState) → OpensStore old mid snap records → IsReplayed One snap records cycles s
     → LeavesOnly mid new (SatisfiesEither (λ c. Holds c snap records) (λ c. HoldsState c s)) → FailsDuringMigration old new
-fails_migrating old mid new snap records cycles s opened replayed moments = record {
+fails_during_migration old mid new snap records cycles s opened replayed moments = record {
   state = s;
-  represents = converted_from_records (bytes_of old) snap records s opened.holds replayed.records_represent;
+  represents = represents_converted_from_records (bytes_of old) snap records s opened.holds replayed.records_represent;
   leaves = leaves_old_image_or_state_while_migrating old mid new snap records s opened replayed.records_represent moments;
 }
 
@@ -206,8 +206,8 @@ version_2_state_is_unique file s t a (inl b) = state_of_records_is_unique Two a.
 version_2_state_is_unique file s t a (inr b) = absurd (snapshot_has_only_one_version a.snap a.records_represent.start b.records_represent.start a.records_represent.snapshot (subst (λ (x : List ℕ). EncodesState1 x b.records_represent.start) (snapshot_is_unique _ _ _ _ _ b.holds a.holds) b.records_represent.snapshot))
 
 -- a disk that holds a snapshot and records has the size and the first eight bytes of a session file
-pub is_session : (disk : DiskState) (snap : List ℕ) (records : List (List ℕ)) → Holds (bytes_of disk) snap records → IsNotSessionFile disk → ⊥
-is_session disk snap records holds other = elim other [
+pub is_session_file : (disk : DiskState) (snap : List ℕ) (records : List (List ℕ)) → Holds (bytes_of disk) snap records → IsNotSessionFile disk → ⊥
+is_session_file disk snap records holds other = elim other [
   | inl wrong ↦ wrong (sym (length-bytes_of disk) ∙ holds.size)
   | inr unnamed ↦ unnamed holds.name
 ]
@@ -217,7 +217,7 @@ is_session disk snap records holds other = elim other [
 pub damaged_if_no_state_is_represented : (old new : DiskState) (snap : List ℕ) (records : List (List ℕ)) → OpensStore old new snap records → ((v : Version) (s : BenchState) → RecordsRepresent v snap records s → ⊥) → SessionErrorImplies Damaged old × AddsNoImage old new
 damaged_if_no_state_is_represented old new snap records opened none = (
   (
-    is_session old snap records opened.holds,
+    is_session_file old snap records opened.holds,
     λ s. ⊎_elim (λ represents. none Two s (records_represent_state_of_file (bytes_of old) snap records s opened.holds represents)) (λ version_1. none One s (records_represent_converted_state (bytes_of old) snap records s opened.holds version_1)),
   ),
   opened.adds_no_image,
@@ -230,12 +230,12 @@ session_error_from_store_error Device disk h = tt
 session_error_from_store_error NoMemory disk h = tt
 session_error_from_store_error NotBlank disk h = h
 
-pub failed_open_leaves_if_no_image_added : (fault : StoreFault) (old new : DiskState) → AddsNoImage old new → FailedOpenEffect fault old new
-failed_open_leaves_if_no_image_added NotASession old new h = h
-failed_open_leaves_if_no_image_added Damaged old new h = h
-failed_open_leaves_if_no_image_added Device old new h = inl h
-failed_open_leaves_if_no_image_added NoMemory old new h = h
-failed_open_leaves_if_no_image_added NotBlank old new h = h
+pub failed_open_effect_if_no_image_added : (fault : StoreFault) (old new : DiskState) → AddsNoImage old new → FailedOpenEffect fault old new
+failed_open_effect_if_no_image_added NotASession old new h = h
+failed_open_effect_if_no_image_added Damaged old new h = h
+failed_open_effect_if_no_image_added Device old new h = inl h
+failed_open_effect_if_no_image_added NoMemory old new h = h
+failed_open_effect_if_no_image_added NotBlank old new h = h
 
 -- the session that `start_session` started has the state that the opened store represents
 pub opens_session_of_either_version : (v : Version) (old mid new : DiskState) (snap : List ℕ) (records : List (List ℕ)) (cycles : ℕ) (s : BenchState) → OpensStore old mid snap records → IsReplayed v snap records cycles s
@@ -250,10 +250,10 @@ migrates_session_of_either_version Two old mid new snap records cycles s opened 
 migrates_session_of_either_version One old mid new snap records cycles s opened replayed same replaced =
     let replaced_contents = replaced refl in migrates_session_of_version_1 old mid new snap records cycles s opened replayed replaced_contents.leaves replaced_contents.held
 
-pub fails_migrating_if_version_1 : (v : Version) (old mid new : DiskState) (snap : List ℕ) (records : List (List ℕ)) (cycles : ℕ) (s : BenchState) → v ≡ One → OpensStore old mid snap records → IsReplayed v snap records cycles s
+pub fails_during_migration_if_version_1 : (v : Version) (old mid new : DiskState) (snap : List ℕ) (records : List (List ℕ)) (cycles : ℕ) (s : BenchState) → v ≡ One → OpensStore old mid snap records → IsReplayed v snap records cycles s
     → MayReplaceContents mid new snap records s → FailsDuringMigration old new
-fails_migrating_if_version_1 Two old mid new snap records cycles s e opened replayed moments = absurd (cc)
-fails_migrating_if_version_1 One old mid new snap records cycles s e opened replayed moments = fails_migrating old mid new snap records cycles s opened replayed moments
+fails_during_migration_if_version_1 Two old mid new snap records cycles s e opened replayed moments = absurd (cc)
+fails_during_migration_if_version_1 One old mid new snap records cycles s e opened replayed moments = fails_during_migration old mid new snap records cycles s opened replayed moments
 
 pub device_error_if_migration_fails : (fault : StoreFault) (old new : DiskState) → fault ≡ Device → FailsDuringMigration old new → SessionErrorImplies fault old × FailedOpenEffect fault old new
 device_error_if_migration_fails fault old new e fails = rw e (tt, inr fails)
@@ -291,7 +291,7 @@ failed_migration_keeps_state old new s each fails =
 
 -- reads and syncs of a disk of version 1 leave only images that represent its converted state
 version_1_state_kept_if_no_image_added : (old new : DiskState) (s : BenchState) → DiskRepresentsConverted old s → AddsNoImage old new → DiskRepresentsSince (time_of old) new s
-version_1_state_kept_if_no_image_added old new s each adds_no_image image left = inr (each image ((disk_is_lawful old).only_now image (image_since_is_old_without_new_image old new adds_no_image (time_of old) image left)))
+version_1_state_kept_if_no_image_added old new s each adds_no_image image left = inr (each image ((disk_is_lawful old).since_now_implies_now image (image_since_is_old_without_new_image old new adds_no_image (time_of old) image left)))
 
 pub failed_open_keeps_version_1_state : (fault : StoreFault) (old new : DiskState) (s : BenchState) → DiskRepresentsConverted old s → FailedOpenEffect fault old new → DiskRepresentsSince (time_of old) new s
 failed_open_keeps_version_1_state NotASession old new s each adds_no_image = version_1_state_kept_if_no_image_added old new s each adds_no_image

@@ -34,8 +34,8 @@ acknowledgements_of_both_runs d e f s cs ds a b =
       within = omega (arith, last_moment_of_both, b.within);
     }
 
--- Each image that a power cut since the time `u` can leave represents the state after a prefix. The
--- prefix has every command of both runs that was acknowledged by `u`.
+-- Each image that a power cut since the time `u` can leave represents the state after a prefix of
+-- the commands. The prefix has every command of both runs that was acknowledged by `u`.
 image_represents_prefix_of_both_runs : (d e f : DiskState) (s t : BenchState) (cs done ds : List Command) (a : KeepsAllCommands d e s cs) → t ≡ fold s cs → (b : KeepsCommands e f t done ds)
     → (u : ℕ) (image : List ℕ) → time_of d ≤ u → images_since u f image → RepresentsPrefix s (cs ++ ds) (acknowledged_by u (a.kept.acknowledged.moments ++ b.acknowledged.moments)) image
 image_represents_prefix_of_both_runs d e f s t cs done ds a same b u image le now =
@@ -85,7 +85,7 @@ represented_after_run d e s t cs same a image now =
     let last = a.clock in
     let all_acknowledged = all_acknowledged_by_last_moment (time_of e) (time_of d) ms (omega (arith, last)) rising_moments in
     let count = one_moment_per_command d e cs a.kept.acknowledged in
-    rw same (represents_state_after_all_commands s cs (acknowledged_by (time_of e) ms) image (omega (arith, all_acknowledged, count)) (a.kept.each (time_of e) image (omega (arith, clock_not_later, last)) ((disk_is_lawful e).counts_now (time_of e) image now)))
+    rw same (represents_state_after_all_commands s cs (acknowledged_by (time_of e) ms) image (omega (arith, all_acknowledged, count)) (a.kept.each (time_of e) image (omega (arith, clock_not_later, last)) ((disk_is_lawful e).now_implies_since (time_of e) image now)))
 
 -- ---- runs without commands
 
@@ -113,7 +113,7 @@ keeps_empty_run_without_new_calls d e s start calls h =
     record {
       kept = record {
         acknowledged = acknowledgements_of_no_commands d e s represents (time_of_later_disk d e (is_later_without_new_calls d e start calls));
-        each = λ u image le now. represents_empty_prefix s [] image (h image ((disk_is_lawful d).only_now image ((disk_is_lawful d).longer (time_of d) u image le (subst (λ (x : List DiskCall). images_after_since d.start x u image) calls (subst (λ (x : List ℕ). images_after_since x e.calls u image) start now)))));
+        each = λ u image le now. represents_empty_prefix s [] image (h image ((disk_is_lawful d).since_now_implies_now image ((disk_is_lawful d).since_later_implies_since_earlier (time_of d) u image le (subst (λ (x : List DiskCall). images_after_since d.start x u image) calls (subst (λ (x : List ℕ). images_after_since x e.calls u image) start now)))));
         failed = [];
         reached_are = refl;
         later = is_later_without_new_calls d e start calls;
@@ -143,8 +143,8 @@ keeps_acknowledged_command d e s c a = record {
           ⊎_elim
           (λ (old : Represents image s). rw none_acknowledged (represents_empty_prefix s (c ∷ []) image old))
           (λ (new : Represents image (after s c)). represents_prefix_of_one_command s (after s c) c _ image refl (acknowledged_at_most_all u (time_of e ∷ [])) new)
-          (a.leaves.each image ((disk_is_lawful e).longer (time_of d) u image le now))
-      | inr late ↦ represents_prefix_of_one_command s (after s c) c _ image refl (acknowledged_at_most_all u (time_of e ∷ [])) (a.represents image ((disk_is_lawful e).only_now image ((disk_is_lawful e).longer (time_of e) u image late now)))
+          (a.leaves.each image ((disk_is_lawful e).since_later_implies_since_earlier (time_of d) u image le now))
+      | inr late ↦ represents_prefix_of_one_command s (after s c) c _ image refl (acknowledged_at_most_all u (time_of e ∷ [])) (a.represents image ((disk_is_lawful e).since_now_implies_now image ((disk_is_lawful e).since_later_implies_since_earlier (time_of e) u image late now)))
     ];
     failed = [];
     reached_are = refl;
@@ -162,7 +162,7 @@ keeps_state_at_failed_command d e s c h a = record {
       ⊎_elim
       (λ (old : Represents image s). represents_empty_prefix s (c ∷ []) image old)
       (λ (new : Represents image (after s c)). represents_prefix_of_one_command s (after s c) c 0 image refl (omega arith) new)
-      (a.each image ((disk_is_lawful e).longer (time_of d) u image le now));
+      (a.each image ((disk_is_lawful e).since_later_implies_since_earlier (time_of d) u image le now));
   failed = c ∷ [];
   reached_are = refl;
   later = a.later;

@@ -57,7 +57,8 @@ frames_length_is_log_bytes disk cycles s was = ap (λ (rs : List (List ℕ)). le
 log_cycles_of_appended_command : (log : List Command) (c : Command) → log_cycles (log ++ c ∷ []) ≡ log_cycles log + replay_cycles c
 log_cycles_of_appended_command log c = sum_by_push replay_cycles log c
 
--- holds if the journal has room for the command's record, and the log for the command's cycles
+-- holds if the journal has room for the command's record, and the command's cycles keep the cycle
+-- count of the log within its limit
 abbrev HasRoomFor : List Command → Command → Type 0
 HasRoomFor log c = HasRoom (log_bytes log) (length (command_bytes c)) × (log_cycles log + replay_cycles c ≤ REPLAY_CYCLES)
 

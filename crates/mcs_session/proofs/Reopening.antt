@@ -14,7 +14,7 @@ use Rattle.mcs_session.specs.KeptCommands.{IsAfterPrefix, KeepsCommands, Represe
 use Rattle.mcs_session.specs.Represents.{Represents}
 use Rattle.mcs_session.proofs.Prefixes.{all_acknowledged_by_last_moment, acknowledged_by_moment_at_index, represents_state_after_all_commands, represents_prefix_with_lower_minimum, clock_at_most_last_moment}
 use Rattle.mcs_session.proofs.LogCommands.{one_moment_per_command, acknowledged_moments_rise}
-use Rattle.mcs_session.proofs.Files.{is_session, version_2_state_is_unique}
+use Rattle.mcs_session.proofs.Files.{is_session_file, version_2_state_is_unique}
 
 pub reopened_state_is_after_prefix : (t : ℕ) (old new found opened : DiskState) (s u : BenchState) (done reached : List Command) (kept : KeepsCommands old new s done reached) → time_of old ≤ t
     → IsLeftByCut t new found → OpensSession found opened u → IsAfterPrefix s reached (acknowledged_by t kept.acknowledged.moments) u
@@ -23,7 +23,7 @@ reopened_state_is_after_prefix t old new found opened s u done reached kept le c
     subst (λ (v : BenchState). IsAfterPrefix s reached (acknowledged_by t kept.acknowledged.moments) v) (version_2_state_is_unique (bytes_of found) represented_prefix.state u represented_prefix.represents opens.represented_before) represented_prefix.after
 
 pub open_error_is_device_or_memory : (fault : StoreFault) (disk : DiskState) (s : BenchState) → Represents (bytes_of disk) s → SessionErrorImplies fault disk → (fault ≡ Device) ⊎ (fault ≡ NoMemory)
-open_error_is_device_or_memory NotASession disk s represents h = absurd (is_session disk represents.snap represents.records represents.holds h)
+open_error_is_device_or_memory NotASession disk s represents h = absurd (is_session_file disk represents.snap represents.records represents.holds h)
 open_error_is_device_or_memory Damaged disk s represents h = absurd (h.1 s (inl represents))
 open_error_is_device_or_memory Device disk s represents h = inl refl
 open_error_is_device_or_memory NoMemory disk s represents h = inr refl
@@ -48,7 +48,7 @@ image_at_end_represents_prefix old new s done reached image kept now =
     let count = one_moment_per_command old new done kept.acknowledged in
     let all_acknowledged = all_acknowledged_by_last_moment (time_of new) (time_of old) kept.acknowledged.moments within rising_moments in
     represents_prefix_with_lower_minimum s reached (length done) (acknowledged_by (time_of new) kept.acknowledged.moments) image (omega (arith, all_acknowledged, count))
-    (kept.each (time_of new) image (omega (arith, clock_not_later, within)) ((disk_is_lawful new).counts_now (time_of new) image now))
+    (kept.each (time_of new) image (omega (arith, clock_not_later, within)) ((disk_is_lawful new).now_implies_since (time_of new) image now))
 
 pub image_at_end_represents_final_state : (old new : DiskState) (s : BenchState) (cs : List Command) (image : List ℕ) → KeepsCommands old new s cs cs → images_of new image → Represents image (fold s cs)
 image_at_end_represents_final_state old new s cs image kept now = represents_state_after_all_commands s cs (length cs) image (omega arith) (image_at_end_represents_prefix old new s cs cs image kept now)

@@ -46,11 +46,11 @@ accepted_cycles_within_limit s (Unwatch bank src) h = omega arith
 
 -- ---- the log has room
 
--- without a call, each image of the disk still represents the same state
+-- if no call is made on the disk, each of its images still represents the same state
 pub leaves_state_without_calls : (disk : DiskState) (cycles : ℕ) (s : BenchState) → IsRecorded disk cycles s → LeavesOnly disk disk (λ file. Represents file s)
 leaves_state_without_calls disk cycles s was = record {
   later = is_later_than_itself disk;
-  each = λ image left. durable_disk_represents disk s was.durable was.represents image ((disk_is_lawful disk).only_now image left);
+  each = λ image left. durable_disk_represents disk s was.durable was.represents image ((disk_is_lawful disk).since_now_implies_now image left);
 }
 
 pub made_room_if_log_has_room : (disk : DiskState) (used bytes more cycles : ℕ) (s : BenchState) (c : Command) (was : IsRecorded disk cycles s) → used ≡ length (frames_of was.represents.records)

@@ -38,8 +38,8 @@ pub record KeepsCommands
   pub acknowledged : Acknowledgements old new done
   pub failed : List Command
   pub reached_are : reached ≡ done ++ failed
-  -- each image that a power cut since `time` can leave represents the state after a prefix; the
-  -- prefix has every command that was acknowledged by `time`
+  -- each image that a power cut since `time` can leave represents the state after a prefix of the
+  -- commands; the prefix has every command that was acknowledged by `time`
   pub each : (time : ℕ) (image : List ℕ) → time_of old ≤ time → images_since time new image
       → RepresentsPrefix s reached (acknowledged_by time acknowledged.moments) image
   pub later : IsLater old new

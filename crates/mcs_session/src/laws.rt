@@ -23,8 +23,8 @@ pub fn file_represents_one_state()
 {}
 
 /// Shows the state in which a session opens after a power cut during a run. The power is cut when
-/// the disk's clock is at `time` or later. The session has executed a prefix of the commands that may have reached the
-/// disk. The prefix includes each command that was acknowledged by `time`.
+/// the disk's clock is at `time` or later. The session then has the state after a prefix of the commands that may have
+/// reached the disk. The prefix includes each command that was acknowledged by `time`.
 pub fn reopened_session_has_acknowledged_commands<D: Disk, E: Disk>()
     ensures { (time : ℕ) (old new : D) (found opened : E) (s state : BenchState)
         (done reached : List Command)

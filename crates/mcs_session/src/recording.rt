@@ -116,7 +116,7 @@ impl<D: Disk + Drop> CommandLog<D> {
             → IsRecorded (D.state self.old.store.disk) self.old.cycles bench.now
             → LeavesOnly (D.state self.old.store.disk) (D.state self.new.store.disk)
             (λ file. Represents file bench.now) }
-        ensures made { (D.state self.old.store.disk).honest
+        ensures makes_room { (D.state self.old.store.disk).honest
             → IsRecorded (D.state self.old.store.disk) self.old.cycles bench.now
             → (c : Command) → count ≡ length (command_bytes c) → more ≡ replay_cycles c
             → OnOk result (HasMadeRoom (D.state self.old.store.disk) (D.state self.new.store.disk)

@@ -47,7 +47,8 @@ impl<D: Disk + Drop> Model for Session<D> {
 }
 
 impl<D: Disk + Drop> Session<D> {
-    /// Creates a session with a new bench on a blank disk. An error also returns the disk.
+    /// Creates a session with a new bench on a blank disk. If the call fails, the error contains the
+    /// disk.
     ///
     /// Fails if memory runs out (refusal 90), or if the disk is not blank (refusal 55). In both
     /// cases, nothing is written. Also fails if a call on the disk fails (refusal 53). In this
@@ -106,7 +107,7 @@ impl<D: Disk + Drop> Session<D> {
     ///
     /// Fails if memory runs out (refusal 90), or if the size or the first eight bytes are not those
     /// of a session file (refusal 50). Also fails if the file is damaged and represents no state
-    /// (refusal 51), or if a call on the disk fails (refusal 53). An error also returns the disk.
+    /// (refusal 51), or if a call on the disk fails (refusal 53). If the call fails, the error contains the disk.
     pub fn open(alloc: Global, disk: D) -> Result<Session<D>, (StoreFault, D)>
         // the next clauses hold on any disk
         ensures open { IfOk result (λ s. IsTrue s.live) }

@@ -8,7 +8,7 @@ use Rattle.mcs_sets.specs.declared.landing.Choice.{Choice}
 use Rattle.mcs_sets.specs.Covering.{IsChoiceCovered, choice_at}
 
 pub choice-covered-for-equal-program : (rom to_rom : List ℕ) (board to_board : BoardParts) (entries : List Entry) (e : Entry) (op : Op) (c : Choice) → rom ≡ to_rom → board ≡ to_board → IsChoiceCovered rom board entries e op c → IsChoiceCovered to_rom to_board entries e op c
-choice-covered-for-equal-program rom to_rom board to_board entries e op c same alike t = record { bus = t.bus; same_rom = t.same_rom ∙ same; same_board = t.same_board ∙ alike; bank_exists = t.bank_exists; covered = t.covered }
+choice-covered-for-equal-program rom to_rom board to_board entries e op c equal_roms equal_boards t = record { bus = t.bus; same_rom = t.same_rom ∙ equal_roms; same_board = t.same_board ∙ equal_boards; bank_exists = t.bank_exists; covered = t.covered }
 
 pub choice-is-choice_at : (acc cy bank v w flags first second : ℕ) → acc ≡ flags % 16 → cy ≡ flags / 16 % 2 → v ≡ first → w ≡ second → (let c : Choice = record { acc = acc; cy = cy; bank = bank; first_operand = v; second_operand = w } in c ≡ choice_at flags bank first second)
 choice-is-choice_at acc cy bank v w flags first second a c f s =

@@ -53,8 +53,8 @@ value_at-of-bank-src-byte s k bank e =
     let d : k - 18 ≡ bank = omega arith in
     rw (a, b, c, d) refl
 
-chip-below-from-upper-nibble : (n chips : ℕ) → n / 16 / 4 < chips → n / 64 < chips
-chip-below-from-upper-nibble n chips h = omega arith
+byte-selects-present-chip : (n chips : ℕ) → n / 16 / 4 < chips → n / 64 < chips
+byte-selects-present-chip n chips h = omega arith
 
 no-absent-ram-selected : (board : BoardParts) (e : Entry) (s : TrackedMachine) → s.1.board ≡ board → Covers e s → ForAllIn (slice_index e.sets 16) (HasChipsOfBank board e) → lacks_selected_ram s.0 s.1 ≡ false
 no-absent-ram-selected board e s same is all =
@@ -63,7 +63,7 @@ no-absent-ram-selected board e s same is all =
     let bank_exists = bank.bank_exists in
     let set = slice_index e.sets (18 + s.0.dcl) in
     let in_set : contains set (n / 16) ≡ true = subst (λ (x : ℕ). contains set x ≡ true) (value_at-of-bank-src-byte s (18 + s.0.dcl) s.0.dcl refl) (is.locations (18 + s.0.dcl) (omega arith)) in
-    let chip : n / 64 < slice_index board.banks s.0.dcl = chip-below-from-upper-nibble n (slice_index board.banks s.0.dcl) (bank.chips (n / 16) in_set) in
+    let chip : n / 64 < slice_index board.banks s.0.dcl = byte-selects-present-chip n (slice_index board.banks s.0.dcl) (bank.chips (n / 16) in_set) in
     let chip_present : n / 64 < slice_index s.1.board.banks s.0.dcl = subst (λ (b : BoardParts). n / 64 < slice_index b.banks s.0.dcl) (sym same) chip in
     not_from_true _ (lt-ltb (n / 64) (slice_index s.1.board.banks s.0.dcl) chip_present)
 
@@ -123,10 +123,10 @@ no-mistake-if-checks-pass board e op mistakes h = λ s same is.
     (no-port-mistake-if-checks-pass board e op mistakes s same is h)
 
 no-mistake-at-given-op : (b : Bool) (o : Option Op) (mistakes : Mistakes) (op : Op) (s : TrackedMachine) → o ≡ Some op → op_makes_mistake mistakes op s ≡ false → (b && elim o as (λ _. Bool) [ Some op ↦ op_makes_mistake mistakes op s | None ↦ mistakes.invalid_opcode ]) ≡ false
-no-mistake-at-given-op b o mistakes op s there none = rw there (and_right b _ none)
+no-mistake-at-given-op b o mistakes op s op_found none = rw op_found (and_right b _ none)
 
 pub cycle-makes-no-mistake : (mistakes : Mistakes) (op : Op) (s : TrackedMachine) → instruction_at s.0 s.1 ≡ Some op → op_makes_mistake mistakes op s ≡ false → cycle_makes_mistake mistakes s ≡ false
-cycle-makes-no-mistake mistakes op s there none = no-mistake-at-given-op (not (eqb s.0.owed 1)) (instruction_at s.0 s.1) mistakes op s there none
+cycle-makes-no-mistake mistakes op s op_found none = no-mistake-at-given-op (not (eqb s.0.owed 1)) (instruction_at s.0 s.1) mistakes op s op_found none
 
 -- ---- conditions
 

@@ -1,4 +1,4 @@
--- The law of one step: the landing of a machine's own choice leads to the machine after the
+-- The law of one step: the landing of a machine's own choice describes the machine after the
 -- instruction.
 use Rattle.std.proofs.Common.{◌≡◌, ◌≢◌, ◌<◌, ◌≤◌, ◌+◌, inl, inr, ◌-◌, ◌*◌, ◌/◌, ◌%◌, ◌||◌, ℕ, zero, suc, List, [], ◌∷◌, length, replicate, Bool, true, false, cond, Option, Some, None, slice_index, slice_set, nat_lt, refl, sym, ap, ◌∙◌, arith, eqb}
 use Rattle.std.proofs.lemmas.Bool.{cases_eq, cases_lt, eq-eqb, ne_eqb, lt-ltb, le-ltb}
@@ -22,30 +22,30 @@ use Rattle.mcs_sets.proofs.Locations.{AgreesWithLanding, HaveSameSrcBytes, landi
 
 -- ---- the SRC bytes
 
-src-bytes-of-cond : (b : Bool) (s m n : BusState) → m.rom_src ≡ s.rom_src → m.ram_src ≡ s.ram_src → n.rom_src ≡ s.rom_src → n.ram_src ≡ s.ram_src → ((cond b m n).rom_src ≡ s.rom_src) × ((cond b m n).ram_src ≡ s.ram_src)
-src-bytes-of-cond true s m n e f g h = (e, f)
-src-bytes-of-cond false s m n e f g h = (g, h)
+src-bytes-unchanged-in-either-case : (b : Bool) (s m n : BusState) → m.rom_src ≡ s.rom_src → m.ram_src ≡ s.ram_src → n.rom_src ≡ s.rom_src → n.ram_src ≡ s.ram_src → ((cond b m n).rom_src ≡ s.rom_src) × ((cond b m n).ram_src ≡ s.ram_src)
+src-bytes-unchanged-in-either-case true s m n e f g h = (e, f)
+src-bytes-unchanged-in-either-case false s m n e f g h = (g, h)
 
 src-bytes-unchanged-by-ram-write : (m : BusState) (bank src n : ℕ) → ((with_ram m bank src n).rom_src ≡ m.rom_src) × ((with_ram m bank src n).ram_src ≡ m.ram_src)
 unfolding with_ram
-src-bytes-unchanged-by-ram-write m bank src n = src-bytes-of-cond (has_chip m bank src) m _ m refl refl refl refl
+src-bytes-unchanged-by-ram-write m bank src n = src-bytes-unchanged-in-either-case (has_chip m bank src) m _ m refl refl refl refl
 
 src-bytes-unchanged-by-status-write : (m : BusState) (bank high k n : ℕ) → ((with_status m bank high k n).rom_src ≡ m.rom_src) × ((with_status m bank high k n).ram_src ≡ m.ram_src)
 unfolding with_status
-src-bytes-unchanged-by-status-write m bank high k n = src-bytes-of-cond (nat_lt (high / 4) (chips_of m bank)) m _ m refl refl refl refl
+src-bytes-unchanged-by-status-write m bank high k n = src-bytes-unchanged-in-either-case (nat_lt (high / 4) (chips_of m bank)) m _ m refl refl refl refl
 
 src-bytes-unchanged-by-ram_port-write : (m : BusState) (bank n : ℕ) → ((after_ram_port m bank n).rom_src ≡ m.rom_src) × ((after_ram_port m bank n).ram_src ≡ m.ram_src)
 unfolding after_ram_port after_chain_clocks
-src-bytes-unchanged-by-ram_port-write m bank n = src-bytes-of-cond (has_chip m bank (src_of m bank)) m _ m refl refl refl refl
+src-bytes-unchanged-by-ram_port-write m bank n = src-bytes-unchanged-in-either-case (has_chip m bank (src_of m bank)) m _ m refl refl refl refl
 
-src-bytes-unchanged-for-masks : (m : BusState) (n : ℕ) (o : Option (List LineMask)) → ((elim o as (λ _. BusState) [ Some mask ↦ after_chain_clocks (clock_levels m) (with_rom_ports_at m (m.rom_src / 16) (latch_value mask n)) | None ↦ m ]).rom_src ≡ m.rom_src) × ((elim o as (λ _. BusState) [ Some mask ↦ after_chain_clocks (clock_levels m) (with_rom_ports_at m (m.rom_src / 16) (latch_value mask n)) | None ↦ m ]).ram_src ≡ m.ram_src)
+src-bytes-unchanged-by-masked-write : (m : BusState) (n : ℕ) (o : Option (List LineMask)) → ((elim o as (λ _. BusState) [ Some mask ↦ after_chain_clocks (clock_levels m) (with_rom_ports_at m (m.rom_src / 16) (latch_value mask n)) | None ↦ m ]).rom_src ≡ m.rom_src) × ((elim o as (λ _. BusState) [ Some mask ↦ after_chain_clocks (clock_levels m) (with_rom_ports_at m (m.rom_src / 16) (latch_value mask n)) | None ↦ m ]).ram_src ≡ m.ram_src)
 unfolding after_chain_clocks
-src-bytes-unchanged-for-masks m n (Some mask) = (refl, refl)
-src-bytes-unchanged-for-masks m n None = (refl, refl)
+src-bytes-unchanged-by-masked-write m n (Some mask) = (refl, refl)
+src-bytes-unchanged-by-masked-write m n None = (refl, refl)
 
 src-bytes-unchanged-by-rom_port-write : (m : BusState) (n : ℕ) → ((after_rom_port m n).rom_src ≡ m.rom_src) × ((after_rom_port m n).ram_src ≡ m.ram_src)
 unfolding after_rom_port
-src-bytes-unchanged-by-rom_port-write m n = src-bytes-unchanged-for-masks m n (rom_masks m.board (m.rom_src / 16))
+src-bytes-unchanged-by-rom_port-write m n = src-bytes-unchanged-by-masked-write m n (rom_masks m.board (m.rom_src / 16))
 
 src-bytes-unchanged-by-after_ram : (m : BusState) (bank n : ℕ) → ((after_ram m bank n).rom_src ≡ m.rom_src) × ((after_ram m bank n).ram_src ≡ m.ram_src)
 unfolding after_ram
@@ -57,17 +57,19 @@ src-bytes-unchanged-by-after_status m bank k n = src-bytes-unchanged-by-status-w
 
 -- ---- the registers
 
--- a conditional jump keeps all registers except the program counter and `owed`
+-- a conditional jump sets the program counter, and changes neither the accumulator, the carry, the
+-- bank, the index registers nor the return addresses
 registers-after-conditional-jump : (b : Bool) (s : Regs) (w : ℕ) → ((cond b (with_pc_on_page s w) s).acc ≡ s.acc) × ((cond b (with_pc_on_page s w) s).cy ≡ s.cy) × ((cond b (with_pc_on_page s w) s).dcl ≡ s.dcl) × ((cond b (with_pc_on_page s w) s).r ≡ s.r) × ((cond b (with_pc_on_page s w) s).ret ≡ s.ret) × ((cond b (with_pc_on_page s w) s).pc ≡ cond b (address_on_page_of s.pc w) s.pc)
 registers-after-conditional-jump true s w = (refl, refl, refl, refl, refl, refl)
 registers-after-conditional-jump false s w = (refl, refl, refl, refl, refl, refl)
 
--- the jump of an ISZ keeps all registers except the program counter and `owed`
+-- the jump of an ISZ sets the program counter, and changes neither the accumulator, the carry, the
+-- bank, the index registers nor the return addresses
 registers-after-isz-jump : (b : Bool) (s : Regs) (w : ℕ) → ((cond b s (with_pc_on_page s w)).acc ≡ s.acc) × ((cond b s (with_pc_on_page s w)).cy ≡ s.cy) × ((cond b s (with_pc_on_page s w)).dcl ≡ s.dcl) × ((cond b s (with_pc_on_page s w)).r ≡ s.r) × ((cond b s (with_pc_on_page s w)).ret ≡ s.ret) × ((cond b s (with_pc_on_page s w)).pc ≡ cond b s.pc (address_on_page_of s.pc w))
 registers-after-isz-jump true s w = (refl, refl, refl, refl, refl, refl)
 registers-after-isz-jump false s w = (refl, refl, refl, refl, refl, refl)
 
--- the accumulator after DAA, if the accumulator is `a` and the carry is `c` before it
+-- the accumulator after DAA, if it was `a` and the carry was `c` before DAA
 abbrev daa_acc : ℕ → ℕ → ℕ
 daa_acc a c = cond (eqb c 1 || nat_lt 9 a) ((a + 6) % 16) a
 
@@ -130,7 +132,7 @@ pair-write-equals-stand-in-write l q k a b x y len small e f =
 
 -- ---- SRC
 
--- the bus after an SRC instruction sends `byte` to the chips; `b` is true if the bank has a chip
+-- the bus after an SRC that sends `byte` to the chips; `b` is true if the bank has a chip
 abbrev bus_with_src_byte : Bool → BusState → ℕ → ℕ → BusState
 bus_with_src_byte b m bank byte = cond b (record m { rom_src = byte; ram_src = slice_set m.ram_src bank byte }) (record m { rom_src = byte })
 
@@ -218,7 +220,7 @@ landing-of-src-is-correct k s m ret fit =
       banks = ram_src-length-after-src b s.1 s.0.dcl (v * 16 + w) ∙ fit.banks;
     }
 
--- ---- instructions that change no register
+-- ---- instructions that change no index register
 
 landing-correct-if-no-register-changes : (op : Op) (s : TrackedMachine) (m : BusState) (ret : List ℕ) → StandInFits op s m ret → HaveSameSrcBytes s (machine_after op s) →
     AgreesWithLanding (machine_after op s) (landing op s.0.pc ret s.2.calls m (choice_of op s)) →

@@ -94,7 +94,7 @@ locations-agree-if-pair-changes s t o i small len bank src srcs r first second =
     ])
     (λ k up below. (λ e. omega arith, λ e. omega arith))
 
--- ---- the landings of these instructions
+-- ---- a landing describes the machine after the instruction
 
 -- holds if a machine has the addresses, open calls, accumulator, carry and bank of a landing
 pub record AgreesWithLanding (t : TrackedMachine) (o : Landing) : Type 0 where

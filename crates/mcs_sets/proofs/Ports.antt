@@ -1,4 +1,4 @@
--- A port reads a value below 16.
+-- The value that is read from a port is below 16.
 use Rattle.std.proofs.Common.{◌<◌, ◌/◌, ℕ, Bool, true, false, List, Option, Some, None, arith}
 use Rattle.mcs_nibble.specs.declared.lines.LineMask.{LineMask}
 use Rattle.mcs_nibble.specs.declared.lines.LineMask.TheVariants.{Input, Zero, One}
@@ -29,6 +29,6 @@ masked-port-below-16 : (f : ℕ → Bool) (o : Option (List LineMask)) → elim 
 masked-port-below-16 f (Some mask) = read_lines-below-16 f mask
 masked-port-below-16 f None = omega arith
 
-pub port-lt : (s : BusState) → port_of s < 16
+pub port-below-16 : (s : BusState) → port_of s < 16
 unfolding port_at
-port-lt s = masked-port-below-16 (λ k. is_pulled s (s.rom_src / 16) k) (rom_masks s.board (s.rom_src / 16))
+port-below-16 s = masked-port-below-16 (λ k. is_pulled s (s.rom_src / 16) k) (rom_masks s.board (s.rom_src / 16))

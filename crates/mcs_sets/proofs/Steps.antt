@@ -12,7 +12,7 @@ use Rattle.mcs_model.specs.Effect.{effect, cycle_of, instruction_at}
 use Rattle.mcs_model.specs.Levels.{port_of}
 use Rattle.mcs_model.specs.Registers.{register_of}
 use Rattle.mcs_drive.specs.TrackedMachine.{TrackedMachine, machine_in, cycled, calls_after, elapsed_after, seen_after, counts_after, no_observer}
-use Rattle.mcs_sets.proofs.Ports.{port-lt}
+use Rattle.mcs_sets.proofs.Ports.{port-below-16}
 use Rattle.mcs_sets.specs.declared.entries.Entry.{Entry}
 use Rattle.mcs_sets.specs.declared.landing.Choice.{Choice}
 use Rattle.mcs_sets.specs.declared.landing.Landing.{Landing}
@@ -24,7 +24,7 @@ use Rattle.mcs_sets.proofs.Memory.{member-below-16}
 use Rattle.mcs_sets.proofs.Running.{instruction_at-is-op_at}
 use Rattle.mcs_sets.proofs.Lands.{landing-is-correct}
 
--- ---- an entry that covers a landing covers the machine after it
+-- ---- an entry that covers a landing covers the machine that the landing describes
 
 pub covers-machine-after-landing : (e to : Entry) (s t : TrackedMachine) (o : Landing) → Covers e s → LandingDescribes s t o → CoversLanding e to o → Covers to t
 covers-machine-after-landing e to s t o is l k = record {
@@ -82,7 +82,7 @@ first-operand-allowed board rom (Xch r) e s small of is = register-value-allowed
 first-operand-allowed board rom Sbm e s small of is = full-set-has-each-nibble (ram_of s.1 s.0.dcl) (ram_of-below-16 s.1 s.0.dcl of.ram)
 first-operand-allowed board rom Rdm e s small of is = full-set-has-each-nibble (ram_of s.1 s.0.dcl) (ram_of-below-16 s.1 s.0.dcl of.ram)
 first-operand-allowed board rom Adm e s small of is = full-set-has-each-nibble (ram_of s.1 s.0.dcl) (ram_of-below-16 s.1 s.0.dcl of.ram)
-first-operand-allowed board rom Rdr e s small of is = full-set-has-each-nibble (port_of s.1) (port-lt s.1)
+first-operand-allowed board rom Rdr e s small of is = full-set-has-each-nibble (port_of s.1) (port-below-16 s.1)
 first-operand-allowed board rom Rd0 e s small of is = full-set-has-each-nibble (status_of s.1 s.0.dcl 0) (status_of-below-16 s.1 s.0.dcl 0 of.status)
 first-operand-allowed board rom Rd1 e s small of is = full-set-has-each-nibble (status_of s.1 s.0.dcl 1) (status_of-below-16 s.1 s.0.dcl 1 of.status)
 first-operand-allowed board rom Rd2 e s small of is = full-set-has-each-nibble (status_of s.1 s.0.dcl 2) (status_of-below-16 s.1 s.0.dcl 2 of.status)
@@ -120,7 +120,7 @@ cycled-is-machine_after op s free next =
     ap (λ (m : Regs × BusState). (m.0, m.1, counts_after no_observer s)) cycle_result
     ∙ ap (λ (n : ℕ). ((effect op s.0 s.1).0, (effect op s.0 s.1).1, record s.2 { calls = n; elapsed = elapsed_after no_observer s; seen = seen_after no_observer s })) opened
 
--- a machine after the second cycle of an instruction, which does no work
+-- a machine after a second cycle, which does no work
 abbrev after_second_cycle : TrackedMachine → TrackedMachine
 after_second_cycle s = (record s.0 { owed = 0 }, s.1, record s.2 { elapsed = elapsed_after no_observer s; seen = seen_after no_observer s })
 
@@ -178,9 +178,9 @@ stand-in-fits-machine board rom op e s bus valid calls of is few same_rom same_b
 }
 
 pub covered-after-instruction : (board : BoardParts) (rom : List ℕ) (entries : List Entry) (op : Op) (e : Entry) (s : TrackedMachine) → IsValidOp op → CallsAllow op e.calls → op_at rom e.at ≡ Some op → IsBusOf board rom s.1 → Covers e s → eqb s.0.owed 1 ≡ false → AllChoicesCovered rom board entries e op → IsCovered entries (cycled no_observer s)
-covered-after-instruction board rom entries op e s valid calls there of is free all =
+covered-after-instruction board rom entries op e s valid calls op_in_rom of is free all =
     let covered_choice = own-choice-covered board rom entries op e s valid of is all in
-    let next : instruction_at s.0 s.1 ≡ Some op = instruction_at-is-op_at s.0 s.1 ∙ ap (λ (l : List ℕ). op_at l s.0.pc) of.rom ∙ ap (op_at rom) is.at ∙ there in
+    let next : instruction_at s.0 s.1 ≡ Some op = instruction_at-is-op_at s.0 s.1 ∙ ap (λ (l : List ℕ). op_at l s.0.pc) of.rom ∙ ap (op_at rom) is.at ∙ op_in_rom in
     let fit = stand-in-fits-machine board rom op e s covered_choice.bus valid calls of is covered_choice.bank_exists covered_choice.same_rom covered_choice.same_board in
     let l : LandingDescribes s (machine_after op s) (landing op e.at e.ret e.calls covered_choice.bus (choice_of op s)) =
     subst (λ (n : ℕ). LandingDescribes s (machine_after op s) (landing op e.at e.ret n covered_choice.bus (choice_of op s))) is.calls
@@ -189,8 +189,8 @@ covered-after-instruction board rom entries op e s valid calls there of is free 
     (covered_choice.covered.target, covered_choice.covered.target_is_entry, covers-machine-after-landing e covered_choice.covered.target s (machine_after op s) (landing op e.at e.ret e.calls covered_choice.bus (choice_of op s)) is l covered_choice.covered.covers_landing)
 
 pub landings-suffice : LandingsSuffice
-landings-suffice board rom entries op e valid calls there all = λ s of is among.
+landings-suffice board rom entries op e valid calls op_in_rom all = λ s of is among.
     elim (cases_Bool (eqb s.0.owed 1)) [
       | inl owed ↦ subst (IsCovered entries) (sym (cycled-is-after_second_cycle s owed)) (e, among, covered-after-second-cycle e s is)
-      | inr free ↦ covered-after-instruction board rom entries op e s valid calls there of is free all
+      | inr free ↦ covered-after-instruction board rom entries op e s valid calls op_in_rom of is free all
     ]

@@ -1,5 +1,5 @@
 -- Closure of a certificate: if the certificate covers a machine, it also covers the machine after
--- one cycle. It therefore covers every machine that can be reached.
+-- one cycle. It therefore covers every machine that a covered machine can reach.
 use Rattle.std.specs.Prelude.{◌≡◌, ◌<◌, ℕ, List, All}
 use Rattle.std.specs.List.{Contains}
 use Rattle.mcs_model.specs.declared.board.BoardParts.{BoardParts}

@@ -29,7 +29,8 @@ value_at s k =
     else if k == 17 then s.1.rom_src / 16
     else slice_index s.1.ram_src (k - 18) / 16
 
--- holds if an entry covers a machine
+-- holds if an entry covers a machine: it has the machine's address and open calls, and allows the
+-- machine's values
 pub record Covers (e : Entry) (s : TrackedMachine) : Type 0 where
   pub at : s.0.pc ≡ e.at
   pub calls : s.2.calls ≡ e.calls

@@ -133,14 +133,14 @@ stand_in_after op at ret m c =
 abbrev pub landing : Op → ℕ → List ℕ → ℕ → BusState → Choice → Landing
 landing op at ret calls m c =
     let t = stand_in_after op at ret m c in
-    let low = second_location_written op (slice_index m.board.banks c.bank) c.bank in
+    let second = second_location_written op (slice_index m.board.banks c.bank) c.bank in
     record {
       regs = t;
       calls = calls_after (Some op) calls;
       first_location = first_location_written op;
       first_value = value_written op c.first_operand t (first_location_written op);
-      second_location = low;
-      second_value = value_written op c.first_operand t low;
+      second_location = second;
+      second_value = value_written op c.first_operand t second;
     }
 
 -- ---- the machines that a landing describes
@@ -215,7 +215,7 @@ pub record CoversLanding (source target : Entry) (o : Landing) : Type 0 where
 -- ---- the laws
 
 -- holds if the premises of `LandingIsCorrect` are met: the bus `m` and the return addresses `rets`
--- of the stand-in processor fit the machine `s`
+-- of the stand-in processor agree with the machine `s`
 pub record StandInFits (op : Op) (s : TrackedMachine) (m : BusState) (rets : List ℕ) : Type 0 where
   pub valid : IsValidOp op
   pub calls : CallsAllow op s.2.calls

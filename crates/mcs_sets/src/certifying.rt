@@ -6,7 +6,7 @@ ghost use Rattle.mcs_sets.specs.Closure.{IsBusOf, StaysCovered, StaysCoveredOneC
 ghost use Rattle.mcs_sets.specs.Entries.{Covers, IsAtEntry, IsCovered, acc_values_of, contains, value_at};
 ghost use Rattle.mcs_sets.specs.Landing.{CallsAllow, IsValidOp};
 
-use crate::covering::are_all_covered;
+use crate::covering::are_all_choices_covered;
 use crate::entries::{Entry, contains};
 use crate::sampling::singleton;
 use mcs_board::BenchRig;
@@ -56,7 +56,8 @@ fn stays_covered_one_cycle(
         None => false,
         Some(op) => {
             op_is_valid(&op);
-            calls_allow(&op, entry.calls) && are_all_covered(rig, entries, links, entry, &op)
+            calls_allow(&op, entry.calls)
+                && are_all_choices_covered(rig, entries, links, entry, &op)
         }
     }
 }
@@ -109,7 +110,7 @@ fn allows_value(entry: &Entry, cpu: &Cpu, rig: &BenchRig, location: u8) -> bool
     )
 }
 
-/// Returns whether an entry allows the values that a machine holds at all locations.
+/// Returns whether an entry allows, at each location, the value that a machine holds there.
 fn allows_all_values(entry: &Entry, cpu: &Cpu, rig: &BenchRig) -> bool
     ensures { IsTrue result → (k : ℕ) → k < 26 → contains (slice_index entry.now.sets k) (value_at (with_zero_counts (cpu.now, rig.now)) k) ≡ true }
 {
@@ -122,7 +123,7 @@ fn allows_all_values(entry: &Entry, cpu: &Cpu, rig: &BenchRig) -> bool
 }
 
 /// Proves that a machine has 16 index registers, 8 banks and a carry of 0 or 1.
-fn machine_is_sized(cpu: &Cpu, rig: &BenchRig)
+fn machine_is_well_formed(cpu: &Cpu, rig: &BenchRig)
     ensures registers { length cpu.now.r ≡ 16 }
     ensures banks { length rig.now.ram_src ≡ 8 }
     ensures carry { cpu.now.cy < 2 }
@@ -151,7 +152,7 @@ fn allows_acc(entry: &Entry, cpu: &Cpu) -> bool
 fn covers(entry: &Entry, cpu: &Cpu, rig: &BenchRig) -> bool
     ensures { IsTrue result → Covers entry.now (with_zero_counts (cpu.now, rig.now)) }
 {
-    machine_is_sized(cpu, rig);
+    machine_is_well_formed(cpu, rig);
     if !is_at_entry(entry, cpu) {
         return false;
     }
@@ -162,7 +163,7 @@ fn covers(entry: &Entry, cpu: &Cpu, rig: &BenchRig) -> bool
 }
 
 /// Returns true only if the certificate's first entry covers this machine, which has no open calls.
-fn first_covers(cpu: &Cpu, rig: &BenchRig, entries: &[Entry]) -> bool
+fn first_entry_covers(cpu: &Cpu, rig: &BenchRig, entries: &[Entry]) -> bool
     ensures { IsTrue result → IsCovered entries.now (with_zero_counts (cpu.now, rig.now)) }
 {
     !entries.is_empty() && covers(&entries[0], cpu, rig)
@@ -197,7 +198,7 @@ pub fn stays_covered(cpu: &Cpu, rig: &mut BenchRig, entries: &[Entry], links: &[
     ensures { IsTrue result → StaysCovered entries.now (with_zero_counts (cpu.now, rig.old)) }
 {
     rig_is_valid(rig);
-    if !first_covers(cpu, rig, entries) {
+    if !first_entry_covers(cpu, rig, entries) {
         return false;
     }
     for i in 0..entries.len() {

@@ -176,7 +176,7 @@ fn are_covered_with_flags(
 }
 
 /// Returns whether the certificate covers the landings of all choices that an entry allows.
-pub(crate) fn are_all_covered(
+pub(crate) fn are_all_choices_covered(
     rig: &mut BenchRig,
     entries: &[Entry],
     links: &[usize],

@@ -21,7 +21,8 @@ pub struct Entry {
     /// A set of values for each other location: the 16 index registers, the bank number, and the upper nibble of each
     /// SRC byte that the ROMs or a bank stores.
     pub sets: [u16; 26],
-    /// The index of this entry's first link. A link is the index of an entry that may follow this entry.
+    /// The index of this entry's first link in the list of links. A link is the index of an entry that may follow this
+    /// entry.
     pub first_link: usize,
     /// The index after the last of this entry's links.
     pub end_link: usize,

@@ -169,8 +169,8 @@ fn has_outputs(board: &Board, set: u16) -> bool
     true
 }
 
-/// Returns whether a board has the ROM of each word that an instruction reads.
-fn has_roms_of_words(board: &Board, at: Addr, op: &Op) -> bool
+/// Returns whether a board has the ROM of each byte that an instruction at `at` reads, including its own bytes.
+fn has_roms_read_by(board: &Board, at: Addr, op: &Op) -> bool
     ensures own_rom { IsTrue result → lacks_rom board.now at ≡ false }
     ensures next_rom { IsTrue result → reads_next_address op.now ≡ true → lacks_rom board.now ((at + 1) % 4096) ≡ false }
 {
@@ -191,7 +191,7 @@ fn avoids_absent_rom(board: &Board, entry: &Entry, op: &Op, mistakes: &Mistakes)
     ensures next_rom { IsTrue result → mistakes.now.absent_rom ≡ true → reads_next_address op.now ≡ true →
         lacks_rom board.now ((entry.now.at + 1) % 4096) ≡ false }
 {
-    !mistakes.absent_rom || has_roms_of_words(board, entry.at, op)
+    !mistakes.absent_rom || has_roms_read_by(board, entry.at, op)
 }
 
 /// Returns true only if no machine of an entry reads a port without input lines, or `mistakes` does not include that

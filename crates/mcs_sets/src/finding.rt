@@ -1,8 +1,9 @@
 //! Finds a certificate. Nothing is proved about the result; `stays_covered` checks it.
 //!
 //! A search begins with the entry for the machine's current state. The search follows each entry to find the entry's
-//! successors. It joins each successor into the stored entry with the same address, return addresses and exact
-//! registers. The search ends when no entry grows, or at an entry whose machines may meet the conditions.
+//! successors. It joins each successor into the stored entry with the same address, the same return addresses and the
+//! same values in the exact registers. The search ends when no entry grows, or at an entry whose machines may meet the
+//! forbidden conditions.
 ghost use Rattle.std.specs.Prelude.{◌≡◌};
 
 use crate::entries::{Entry, contains};
@@ -17,8 +18,9 @@ use mcs_nibble::{Addr, Bit, Nibble};
 use std::alloc::{AllocError, Global};
 use std::collections::HashMap;
 
-/// The maximum number of times that an entry can grow, plus 1. An entry has 28 sets of at most 16 numbers.
-const MAX_SWEEPS: usize = 449;
+/// The maximum number of times that a search follows an entry: once when the entry is new, and once each time that the
+/// entry has grown. An entry has 28 sets of at most 16 numbers.
+const MAX_FOLLOWS_PER_ENTRY: usize = 449;
 
 /// A certificate: its entries, and the links that they refer to.
 #[derive(Drop)]
@@ -27,7 +29,7 @@ pub(crate) struct Certificate {
     pub(crate) links: Vec<usize>,
 }
 
-/// The values that all machines of an entry share. Each exact register takes four bits of `exact`.
+/// The values that all machines of an entry share. Each exact register (see `precision`) takes four bits of `exact`.
 #[derive(Clone, Copy, PartialEq, Eq, Hash)]
 struct Key {
     at: u16,
@@ -36,21 +38,21 @@ struct Key {
     exact: u64,
 }
 
-/// Returns the key of an entry: the values that all of its machines share. `exact` has the exact registers. Each of
-/// them has a single value in the entry.
+/// Returns the key of an entry: the values that all of its machines share. `exact` is the set of exact registers. Each
+/// exact register has a single value in the entry.
 fn key_of(entry: &Entry, exact: u16) -> Key {
-    let mut values = 0u64;
+    let mut exact_values = 0u64;
     for r in 0..16u8 {
         if (exact >> r) % 2 == 1 {
             let set = entry.sets[usize::from(r)];
-            values |= u64::from(set.trailing_zeros() % 16) << (4 * r);
+            exact_values |= u64::from(set.trailing_zeros() % 16) << (4 * r);
         }
     }
     Key {
         at: entry.at.get(),
         calls: entry.calls,
         returns: (entry.ret[0].get(), entry.ret[1].get(), entry.ret[2].get()),
-        exact: values,
+        exact: exact_values,
     }
 }
 
@@ -134,7 +136,7 @@ impl Finder {
     }
 
     /// Adds an entry and returns its index. Fails if the limit on entries is reached or memory runs out.
-    fn add(&mut self, key: Key, entry: &Entry) -> Result<usize, Stop> {
+    fn push_within_limit(&mut self, key: Key, entry: &Entry) -> Result<usize, Stop> {
         if self.entries.len() >= self.max_entries {
             return Err(Stop::TooMany);
         }
@@ -146,7 +148,7 @@ impl Finder {
     fn store(&mut self, entry: &Entry) -> Result<usize, Stop> {
         let key = key_of(entry, self.exact_at(entry.at));
         let Some(i) = self.index.get(&key).copied() else {
-            return self.add(key, entry);
+            return self.push_within_limit(key, entry);
         };
         if i < self.entries.len() && i < self.pending.len() && join(&mut self.entries[i], entry) {
             self.pending[i] = true;
@@ -162,7 +164,7 @@ impl Finder {
         Ok(())
     }
 
-    /// Follows one choice of an entry: stores the entry to which the choice leads, and records this entry as a
+    /// Follows one choice of an entry: stores the entry to which the choice leads, and records the stored entry as a
     /// successor.
     fn follow_choice(
         &mut self,
@@ -224,7 +226,12 @@ impl Finder {
 
     /// Returns true only if no machine that entry `i` covers meets all conditions of a list in `never_lists`, or if
     /// there is no entry `i`.
-    fn avoids_all_at(&self, rig: &BenchRig, never_lists: &[Vec<Condition>], i: usize) -> bool {
+    fn avoids_all_lists_at(
+        &self,
+        rig: &BenchRig,
+        never_lists: &[Vec<Condition>],
+        i: usize,
+    ) -> bool {
         i >= self.entries.len() || avoids_all_lists(rig, &self.entries[i], never_lists)
     }
 
@@ -248,21 +255,21 @@ impl Finder {
         rig: &mut BenchRig,
         never_lists: &[Vec<Condition>],
     ) -> Result<bool, Stop> {
-        let mut found = false;
+        let mut had_pending = false;
         for i in 0..self.max_entries {
             if i >= self.pending.len() {
                 break;
             }
             if self.pending[i] {
-                if !self.avoids_all_at(rig, never_lists, i) {
+                if !self.avoids_all_lists_at(rig, never_lists, i) {
                     return Err(Stop::MayMeet);
                 }
                 self.pending[i] = false;
                 self.follow(rig, i)?;
-                found = true;
+                had_pending = true;
             }
         }
-        Ok(found)
+        Ok(had_pending)
     }
 
     /// Follows pending entries until no entry grows.
@@ -271,7 +278,7 @@ impl Finder {
         rig: &mut BenchRig,
         never_lists: &[Vec<Condition>],
     ) -> Result<(), Stop> {
-        for _ in 0..self.max_entries.saturating_mul(MAX_SWEEPS) {
+        for _ in 0..self.max_entries.saturating_mul(MAX_FOLLOWS_PER_ENTRY) {
             if !self.follow_pending(rig, never_lists)? {
                 return Ok(());
             }
@@ -299,28 +306,28 @@ impl Finder {
         &mut self,
         alloc: Global,
         rig: &mut BenchRig,
-        begin: &Entry,
+        start: &Entry,
         never_lists: &[Vec<Condition>],
     ) -> Result<Vec<usize>, Stop> {
-        self.store(begin)?;
+        self.store(start)?;
         self.follow_until_stable(rig, never_lists)?;
         self.collect_links(alloc, rig)
     }
 }
 
-/// Finds a certificate of at most `max_entries` entries that covers the machines of the entry `begin`. No machine that
+/// Finds a certificate of at most `max_entries` entries that covers the machines of the entry `start`. No machine that
 /// the certificate covers meets all conditions of a list in `never_lists`. `exact` has the exact registers at each
-/// address: bit `r` is 1 if register `r` is exact. Each exact register must have a single value in `begin`.
+/// address: bit `r` is 1 if register `r` is exact. Each exact register must have a single value in `start`.
 pub(crate) fn find_certificate(
     alloc: Global,
     rig: &mut BenchRig,
-    begin: &Entry,
+    start: &Entry,
     never_lists: &[Vec<Condition>],
     exact: Vec<u16>,
     max_entries: usize,
 ) -> Result<Certificate, Stop> {
     let mut finder = Finder::new(alloc, exact, max_entries);
-    match finder.search(alloc, rig, begin, never_lists) {
+    match finder.search(alloc, rig, start, never_lists) {
         Ok(links) => Ok(Certificate {
             entries: finder.entries,
             links,

@@ -2,7 +2,7 @@
 //!
 //! A certificate is a list of entries, one or more for each address and stack of return addresses that a program can
 //! reach. An entry lists the nibbles that each register may hold there. `stays_covered` checks each entry once and
-//! trusts nothing in the certificate. If `stays_covered` returns true, some entry covers the machine at every moment,
+//! trusts nothing in the certificate. If `stays_covered` returns true, some entry covers the machine at each moment,
 //! for all levels of its keys and its TEST pin.
 #![tactic(auto)]
 

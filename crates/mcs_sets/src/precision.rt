@@ -45,7 +45,7 @@ pub(crate) fn pair_bits(k: PairNo) -> u32 {
 }
 
 /// Returns the registers that must be exact at an instruction, at the given level of precision.
-pub(crate) fn needs_exact(level: Level, op: &Op) -> u32 {
+pub(crate) fn exact_registers_needed(level: Level, op: &Op) -> u32 {
     match (op, level) {
         (_, Level::None) => 0,
         (Op::Fin(_), _) => pair_bits(PairNo::ZERO),

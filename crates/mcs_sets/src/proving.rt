@@ -23,7 +23,7 @@ use std::alloc::Global;
 const ENTRY_BYTES: usize = 256;
 
 /// Returns true only if no machine that entry `i` covers meets all conditions of a list in `never_lists`.
-fn avoids_all_at(
+fn avoids_all_lists_at(
     rig: &BenchRig,
     entries: &[Entry],
     never_lists: &[Vec<Condition>],
@@ -42,7 +42,7 @@ fn all_entries_avoid(rig: &BenchRig, entries: &[Entry], never_lists: &[Vec<Condi
         HoldsInEntry rig.now.board rig.now.rom (meets_none (map (λ n. n.items) never_lists.now)) (slice_index_or entries.now k d) }
 {
     for i in 0..entries.len() {
-        if !avoids_all_at(rig, entries, never_lists, i) {
+        if !avoids_all_lists_at(rig, entries, never_lists, i) {
             return false;
         }
     }
@@ -51,7 +51,7 @@ fn all_entries_avoid(rig: &BenchRig, entries: &[Entry], never_lists: &[Vec<Condi
 
 /// Checks a certificate for this machine, which has no open calls. Returns `Holds` if the check succeeds, otherwise
 /// `GaveUp`.
-fn outcome_of(
+fn check_certificate(
     cpu: &Cpu,
     rig: &mut BenchRig,
     entries: &[Entry],
@@ -84,15 +84,15 @@ fn find_at_level(
     level: Level,
     exact_before: &mut Vec<u16>,
 ) -> Result<Option<Certificate>, Stop> {
-    let begin = entry_of(cpu, rig);
-    let exact = exact_registers(alloc, rig, begin.at, level)?;
+    let start = entry_of(cpu, rig);
+    let exact = exact_registers(alloc, rig, start.at, level)?;
     if exact.as_slice() == exact_before.as_slice() {
         return Ok(None);
     }
     exact_before.clear();
     exact_before.extend_from_slice(exact.as_slice())?;
-    let found = find_certificate(alloc, search_rig, &begin, never_lists, exact, max_entries)?;
-    Ok(Some(found))
+    let certificate = find_certificate(alloc, search_rig, &start, never_lists, exact, max_entries)?;
+    Ok(Some(certificate))
 }
 
 /// Searches, level by level, for a certificate in which no covered machine meets all conditions of a list in
@@ -105,7 +105,7 @@ fn find_at_any_level(
     never_lists: &[Vec<Condition>],
     max_entries: usize,
 ) -> Result<Certificate, Stop> {
-    let mut last = Stop::TooMany;
+    let mut last_stop = Stop::TooMany;
     let mut exact_before = Vec::new(alloc);
     for i in 0..LEVELS.len() {
         match find_at_level(
@@ -118,14 +118,14 @@ fn find_at_any_level(
             LEVELS[i],
             &mut exact_before,
         ) {
-            Ok(Some(found)) => return Ok(found),
+            Ok(Some(certificate)) => return Ok(certificate),
             Ok(None) => {}
             Err(Stop::NoMemory(entries)) => return Err(Stop::NoMemory(entries)),
-            Err(Stop::MayMeet) => last = Stop::MayMeet,
+            Err(Stop::MayMeet) => last_stop = Stop::MayMeet,
             Err(Stop::TooMany) => {}
         }
     }
-    Err(last)
+    Err(last_stop)
 }
 
 /// Tries to prove, with a certificate, that a machine without open calls never meets all conditions of a list in
@@ -147,11 +147,11 @@ pub fn check_by_sets(
     }
     let limit = max_entries.min(memory / ENTRY_BYTES);
     match find_at_any_level(alloc, cpu, rig, search_rig, never_lists, limit) {
-        Ok(found) => outcome_of(
+        Ok(certificate) => check_certificate(
             cpu,
             rig,
-            found.entries.as_slice(),
-            found.links.as_slice(),
+            certificate.entries.as_slice(),
+            certificate.links.as_slice(),
             never_lists,
         ),
         Err(Stop::NoMemory(entries)) => Outcome::NoMemory(entries),

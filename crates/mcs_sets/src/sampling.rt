@@ -10,7 +10,7 @@ pub(crate) fn singleton(n: u8) -> u16 {
 }
 
 /// Returns the set that contains only the smallest number of a set, or the empty set if the set is empty.
-fn smallest_of(set: u16) -> u16 {
+fn set_of_smallest(set: u16) -> u16 {
     if set == 0 {
         return 0;
     }
@@ -59,19 +59,19 @@ fn selects_bank(op: &Op) -> bool {
 pub(crate) fn sample(source: &Entry, op: &Op) -> Entry {
     let mut entry = *source;
     if ignores_flags(op) {
-        entry.acc_if_carry_0 = smallest_of(source.acc_if_carry_0);
+        entry.acc_if_carry_0 = set_of_smallest(source.acc_if_carry_0);
         entry.acc_if_carry_1 = if source.acc_if_carry_0 == 0 {
-            smallest_of(source.acc_if_carry_1)
+            set_of_smallest(source.acc_if_carry_1)
         } else {
             0
         };
     }
     if replaces_acc(op) {
-        entry.acc_if_carry_0 = smallest_of(source.acc_if_carry_0);
-        entry.acc_if_carry_1 = smallest_of(source.acc_if_carry_1);
+        entry.acc_if_carry_0 = set_of_smallest(source.acc_if_carry_0);
+        entry.acc_if_carry_1 = set_of_smallest(source.acc_if_carry_1);
     }
     if !uses_bank(op) {
-        entry.sets[16] = smallest_of(source.sets[16]);
+        entry.sets[16] = set_of_smallest(source.sets[16]);
     }
     entry
 }

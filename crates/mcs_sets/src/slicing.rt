@@ -5,7 +5,7 @@
 //! register. The relevant registers form a backward slice of the program. The counter of a loop is also relevant if
 //! the loop changes a register that is relevant at the loop's first instruction. Nothing is proved about a slice,
 //! because the slice only affects which certificate the search finds.
-use crate::precision::{ACC, CARRY, Level, needs_exact, pair_bits, register_bit};
+use crate::precision::{ACC, CARRY, Level, exact_registers_needed, pair_bits, register_bit};
 use mcs_board::BenchRig;
 use mcs_cpu4004::Cpu;
 use mcs_model::op::Op;
@@ -63,7 +63,7 @@ fn callee(op: &Op) -> Option<Addr> {
 }
 
 /// Returns the first address of the page to which a JIN jumps, or `None` for any other instruction.
-fn jump_page(op: &Op, at: Addr) -> Option<Addr> {
+fn jump_page_start(op: &Op, at: Addr) -> Option<Addr> {
     match op {
         Op::Jin(_) => Some(Addr::on_page(at.plus(1).page(), 0)),
         _ => None,
@@ -116,7 +116,7 @@ impl Table {
     }
 
     /// Returns the union of the sets of an instruction's successors in the same routine.
-    fn successors(&self, op: &Op, at: Addr) -> u32 {
+    fn union_of_successors(&self, op: &Op, at: Addr) -> u32 {
         let mut members = 0;
         if falls_through(op) {
             members |= self.get(next_address(op, at));
@@ -124,7 +124,7 @@ impl Table {
         if let Some(target) = jump_target(op, at) {
             members |= self.get(target);
         }
-        if let Some(page) = jump_page(op, at) {
+        if let Some(page) = jump_page_start(op, at) {
             for word in 0..256u16 {
                 members |= self.get(page.plus(word));
             }
@@ -142,7 +142,7 @@ impl Table {
         if let Some(target) = jump_target(op, at) {
             grew |= self.add(target, more);
         }
-        if let Some(page) = jump_page(op, at) {
+        if let Some(page) = jump_page_start(op, at) {
             for word in 0..256u16 {
                 grew |= self.add(page.plus(word), more);
             }
@@ -217,7 +217,7 @@ impl Slice {
     }
 
     /// Returns the instruction at an address, or `None` if the address is not known to be reached.
-    fn op_reached(&self, rig: &BenchRig, at: Addr) -> Option<Op> {
+    fn op_if_reached(&self, rig: &BenchRig, at: Addr) -> Option<Op> {
         if self.reached.get(at) == 0 {
             return None;
         }
@@ -230,7 +230,7 @@ impl Slice {
         let mut grew = false;
         for n in 0..ADDRESSES {
             let at = Addr::ZERO.plus(n);
-            if let Some(op) = self.op_reached(rig, at) {
+            if let Some(op) = self.op_if_reached(rig, at) {
                 grew |= self.reached.add_to_successors(&op, at, 1);
                 if let Some(routine) = callee(&op) {
                     grew |= self.reached.add(routine, 1);
@@ -240,9 +240,9 @@ impl Slice {
         grew
     }
 
-    /// Marks all addresses that may be reached from `begin`.
-    fn mark_reached(&mut self, rig: &BenchRig, begin: Addr) {
-        self.reached.add(begin, 1);
+    /// Marks all addresses that may be reached from `start`.
+    fn mark_reached(&mut self, rig: &BenchRig, start: Addr) {
+        self.reached.add(start, 1);
         for _ in 0..MAX_PASSES {
             if !self.mark_reached_once(rig) {
                 break;
@@ -261,12 +261,12 @@ impl Slice {
 
     /// Makes one pass over all addresses. Adds to `may_write` the registers that the instruction at each address and
     /// its successors may write. Returns whether a set grew.
-    fn add_may_write(&mut self, rig: &BenchRig) -> bool {
+    fn extend_may_write(&mut self, rig: &BenchRig) -> bool {
         let mut grew = false;
         for n in 0..ADDRESSES {
             let at = Addr::MAX.plus(ADDRESSES - n);
-            if let Some(op) = self.op_reached(rig, at) {
-                let written_later = self.may_write.successors(&op, at);
+            if let Some(op) = self.op_if_reached(rig, at) {
+                let written_later = self.may_write.union_of_successors(&op, at);
                 let set = written_later | self.writes_of(&op);
                 grew |= self.may_write.add(at, set);
             }
@@ -275,9 +275,9 @@ impl Slice {
     }
 
     /// Computes `may_write` for each address.
-    fn find_written(&mut self, rig: &BenchRig) {
+    fn compute_may_write(&mut self, rig: &BenchRig) {
         for _ in 0..MAX_PASSES {
-            if !self.add_may_write(rig) {
+            if !self.extend_may_write(rig) {
                 break;
             }
         }
@@ -290,9 +290,9 @@ impl Slice {
         for n in 0..ADDRESSES {
             let at = Addr::MAX.plus(ADDRESSES - n);
             if head < at && at < last {
-                if let Some(op) = self.op_reached(rig, at) {
-                    let successors = body.successors(&op, at);
-                    grew |= body.add(at, successors);
+                if let Some(op) = self.op_if_reached(rig, at) {
+                    let members = body.union_of_successors(&op, at);
+                    grew |= body.add(at, members);
                 }
             }
         }
@@ -305,7 +305,7 @@ impl Slice {
         for n in head.get()..last.get() {
             let at = Addr::ZERO.plus(n);
             if at == head || body.get(at) != 0 {
-                if let Some(op) = self.op_reached(rig, at) {
+                if let Some(op) = self.op_if_reached(rig, at) {
                     written |= self.writes_of(&op);
                 }
             }
@@ -331,7 +331,7 @@ impl Slice {
     fn find_loops(&mut self, rig: &BenchRig, body: &mut Table) {
         for n in 0..ADDRESSES {
             let at = Addr::ZERO.plus(n);
-            if let Some(Op::Isz(_, word)) = self.op_reached(rig, at) {
+            if let Some(Op::Isz(_, word)) = self.op_if_reached(rig, at) {
                 let head = Addr::on_page(at.plus(2).page(), word);
                 if head < at {
                     let set = self.writes_of_loop(rig, body, head, at);
@@ -363,7 +363,7 @@ impl Slice {
             Op::Bbl(_) => self.relevant_on_return.get(at),
             _ => match callee(op) {
                 Some(routine) => self.relevant.get(routine),
-                None => self.relevant.successors(op, at),
+                None => self.relevant.union_of_successors(op, at),
             },
         }
     }
@@ -374,10 +374,10 @@ impl Slice {
         let mut grew = false;
         for n in 0..ADDRESSES {
             let at = Addr::MAX.plus(ADDRESSES - n);
-            if let Some(op) = self.op_reached(rig, at) {
+            if let Some(op) = self.op_if_reached(rig, at) {
                 let after = self.relevant_after(&op, at);
                 let set = relevant_before(&op, after)
-                    | needs_exact(level, &op)
+                    | exact_registers_needed(level, &op)
                     | self.loop_counter(&op, at);
                 grew |= self.relevant.add(at, set);
             }
@@ -391,7 +391,7 @@ impl Slice {
         let mut grew = false;
         for n in 0..ADDRESSES {
             let at = Addr::ZERO.plus(n);
-            if let Some(op) = self.op_reached(rig, at) {
+            if let Some(op) = self.op_if_reached(rig, at) {
                 let set = self.relevant_on_return.get(at);
                 grew |= self.relevant_on_return.add_to_successors(&op, at, set);
                 if let Some(routine) = callee(&op) {
@@ -423,19 +423,19 @@ fn relevant_somewhere(slice: &Slice) -> u32 {
     members
 }
 
-/// Returns the exact registers at each address, for a program that begins at `begin`. Bit `r` of a mask is 1 if
+/// Returns the exact registers at each address, for a program that begins at `start`. Bit `r` of a mask is 1 if
 /// register `r` is exact.
 pub(crate) fn exact_registers(
     alloc: Global,
     rig: &BenchRig,
-    begin: Addr,
+    start: Addr,
     level: Level,
 ) -> Result<Vec<u16>, AllocError> {
     let mut slice = Slice::new(alloc)?;
     if level != Level::None {
         let mut body = Table::new(alloc)?;
-        slice.mark_reached(rig, begin);
-        slice.find_written(rig);
+        slice.mark_reached(rig, start);
+        slice.compute_may_write(rig);
         slice.find_loops(rig, &mut body);
         slice.find_relevant(rig, level);
     }

@@ -168,8 +168,8 @@ answered_with_allocation (Err x) a i o text response none takes is k refused = r
 
 -- ---- a text
 
-pub input_of_text_with_fault : (kind : TextKind) (text : List ℕ) (f : Option TextFault) → text_fault_of text ≡ f → input_of_text kind text ≡ text_or_fault kind text f
-input_of_text_with_fault kind text f e = ap (text_or_fault kind text) e
+pub input_of_text_by_fault : (kind : TextKind) (text : List ℕ) (f : Option TextFault) → text_fault_of text ≡ f → input_of_text kind text ≡ text_or_fault kind text f
+input_of_text_by_fault kind text f e = ap (text_or_fault kind text) e
 
 -- A text whose meaning is a command is answered like the command itself.
 pub answered_text_with_command : (a b : SessionState) (kind : TextKind) (text : List ℕ) (c : Command) (o : Outcome) (response : List ℕ)

@@ -162,8 +162,8 @@ pub record ServedPart (a b : ShellState) (p q : UnfinishedInputView) (rest chunk
   pub split : chunk ≡ done ++ rest
   pub fed : ServesBytes a b p q done None
 
-pub served_part_start : (a : ShellState) (p : UnfinishedInputView) (chunk : List ℕ) → HasNoFeed p.line → ServedPart a a p p chunk chunk
-served_part_start a p chunk f = record { done = []; split = refl; fed = serves_no_bytes a p f }
+pub served_part_at_start : (a : ShellState) (p : UnfinishedInputView) (chunk : List ℕ) → HasNoFeed p.line → ServedPart a a p p chunk chunk
+served_part_at_start a p chunk f = record { done = []; split = refl; fed = serves_no_bytes a p f }
 
 -- Appending bytes without a line feed to the unfinished line serves these bytes.
 pub serves_part_and_bytes_without_feed : (a b : ShellState) (p q r : UnfinishedInputView) (front rest chunk : List ℕ) (x : ServedPart a b p q rest chunk) → HasNoFeed front → r ≡ record { mode = q.mode; line = take 16386 (q.line ++ front) } → ServesBytes a b p r (x.done ++ front) None

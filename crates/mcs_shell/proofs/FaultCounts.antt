@@ -16,7 +16,7 @@ use Rattle.mcs_shell.specs.Shell.{RanShell, ShellRun}
 use Rattle.mcs_shell.specs.ShellState.{ShellState, shell_state}
 use Rattle.mcs_shell.specs.Transcript.{Exchange, acknowledged_commands, end_caused_by_exchanges, end_caused_by, results_in_order, inputs_in, is_device_fault, reached_commands}
 use Rattle.mcs_shell.proofs.RunAnswers.{answers_of_run}
-use Rattle.mcs_shell.proofs.ShellLoop.{either_is_some_if_option_or_is}
+use Rattle.mcs_shell.proofs.ShellLoop.{either_is_some_if_option_or_is_some}
 use Rattle.mcs_shell.proofs.ExchangeLists.{has_device_fault}
 
 -- ---- no exchange ends the shell because of a failed read
@@ -28,21 +28,21 @@ no_read_fault_by_exchange true o end faults e = absurd (cc e)
 
 pub no_read_fault_by_exchanges : (xs : List Exchange) (end : ShellEnd) (faults : KnownFaults) → end_caused_by_exchanges xs ≡ Some end → read_faults_after end faults ≡ faults
 no_read_fault_by_exchanges [] end faults e = absurd (cc e)
-no_read_fault_by_exchanges (x ∷ xs) end faults e = elim (either_is_some_if_option_or_is (end_caused_by x.whole x.outcome) (end_caused_by_exchanges xs) end e) [
+no_read_fault_by_exchanges (x ∷ xs) end faults e = elim (either_is_some_if_option_or_is_some (end_caused_by x.whole x.outcome) (end_caused_by_exchanges xs) end e) [
   | inl h ↦ no_read_fault_by_exchange x.whole x.outcome end faults h
   | inr h ↦ no_read_fault_by_exchanges xs end faults h
 ]
 
 -- ---- a run without a failed call
 
-not_one_more_without_fault : (old new : KnownFaults) → HasNotFailed old new → new ≡ one_more_fault old → ⊥
-not_one_more_without_fault None new h e = h
-not_one_more_without_fault (Some n) new h e = let count_unchanged : n ≡ min (n + 1) max_fault_count = cc (sym h.0 ∙ e) in omega (arith, count_unchanged, h.1)
+count_not_raised_without_fault : (old new : KnownFaults) → HasNotFailed old new → new ≡ one_more_fault old → ⊥
+count_not_raised_without_fault None new h e = h
+count_not_raised_without_fault (Some n) new h e = let count_unchanged : n ≡ min (n + 1) max_fault_count = cc (sym h.0 ∙ e) in omega (arith, count_unchanged, h.1)
 
-is_device_fault_if_end_is : (whole : Bool) (o : Outcome) → end_caused_by whole o ≡ Some DeviceFault → is_device_fault o ≡ true
-is_device_fault_if_end_is false o e = absurd (cc e)
-is_device_fault_if_end_is true Device e = refl
-is_device_fault_if_end_is true o e = absurd (cc e)
+is_device_fault_if_end_is_device_fault : (whole : Bool) (o : Outcome) → end_caused_by whole o ≡ Some DeviceFault → is_device_fault o ≡ true
+is_device_fault_if_end_is_device_fault false o e = absurd (cc e)
+is_device_fault_if_end_is_device_fault true Device e = refl
+is_device_fault_if_end_is_device_fault true o e = absurd (cc e)
 
 or_true_left : (b c : Bool) → b ≡ true → (b || c) ≡ true
 or_true_left true c e = refl
@@ -52,11 +52,11 @@ or_true_right : (b c : Bool) → c ≡ true → (b || c) ≡ true
 or_true_right true c e = refl
 or_true_right false c e = e
 
-has_device_fault_if_end_is : (xs : List Exchange) → end_caused_by_exchanges xs ≡ Some DeviceFault → has_device_fault xs ≡ true
-has_device_fault_if_end_is [] e = absurd (cc e)
-has_device_fault_if_end_is (x ∷ xs) e = elim (either_is_some_if_option_or_is (end_caused_by x.whole x.outcome) (end_caused_by_exchanges xs) DeviceFault e) [
-  | inl h ↦ or_true_left (is_device_fault x.outcome) (has_device_fault xs) (is_device_fault_if_end_is x.whole x.outcome h)
-  | inr h ↦ or_true_right (is_device_fault x.outcome) (has_device_fault xs) (has_device_fault_if_end_is xs h)
+has_device_fault_if_end_is_device_fault : (xs : List Exchange) → end_caused_by_exchanges xs ≡ Some DeviceFault → has_device_fault xs ≡ true
+has_device_fault_if_end_is_device_fault [] e = absurd (cc e)
+has_device_fault_if_end_is_device_fault (x ∷ xs) e = elim (either_is_some_if_option_or_is_some (end_caused_by x.whole x.outcome) (end_caused_by_exchanges xs) DeviceFault e) [
+  | inl h ↦ or_true_left (is_device_fault x.outcome) (has_device_fault xs) (is_device_fault_if_end_is_device_fault x.whole x.outcome h)
+  | inr h ↦ or_true_right (is_device_fault x.outcome) (has_device_fault xs) (has_device_fault_if_end_is_device_fault xs h)
 ]
 
 device_fault_counted : (failed : Bool) (a b : SessionState) (cs rs : List Command) → failed ≡ true → LeavesSession IsOpenOnHonestDisk failed a b cs rs → Some b.disk.faults ≡ one_more_fault (Some a.disk.faults)
@@ -69,12 +69,12 @@ ends_without_fault : (end : ShellEnd) (r r' : Option (List ℕ)) (a b : ShellSta
     → HasNotFailed read read' → HasNotFailed written written' → HasNotFailed (Some a.session.disk.faults) (Some b.session.disk.faults) → end ≢ NoMemory → (end ≡ End) ⊎ (end ≡ InputLimit)
 ends_without_fault End r r' a b ran read read' written written' counts_match_end no_read no_write no_call memory = inl refl
 ends_without_fault InputLimit r r' a b ran read read' written written' counts_match_end no_read no_write no_call memory = inr refl
-ends_without_fault ReadFault r r' a b ran read read' written written' counts_match_end no_read no_write no_call memory = absurd (not_one_more_without_fault read read' no_read counts_match_end.reader)
-ends_without_fault WriteFault r r' a b ran read read' written written' counts_match_end no_read no_write no_call memory = absurd (not_one_more_without_fault written written' no_write counts_match_end.writer)
+ends_without_fault ReadFault r r' a b ran read read' written written' counts_match_end no_read no_write no_call memory = absurd (count_not_raised_without_fault read read' no_read counts_match_end.reader)
+ends_without_fault WriteFault r r' a b ran read read' written written' counts_match_end no_read no_write no_call memory = absurd (count_not_raised_without_fault written written' no_write counts_match_end.writer)
 ends_without_fault DeviceFault r r' a b ran read read' written written' counts_match_end no_read no_write no_call memory =
     let s = a.session.state in
-    let failed : has_device_fault ran.served.exchanges ≡ true = has_device_fault_if_end_is ran.served.exchanges (ran.served.halts ∙ ran.ends.1) in
-    absurd (not_one_more_without_fault (Some a.session.disk.faults) (Some b.session.disk.faults) no_call
+    let failed : has_device_fault ran.served.exchanges ≡ true = has_device_fault_if_end_is_device_fault ran.served.exchanges (ran.served.halts ∙ ran.ends.1) in
+    absurd (count_not_raised_without_fault (Some a.session.disk.faults) (Some b.session.disk.faults) no_call
     (device_fault_counted (has_device_fault ran.served.exchanges) a.session b.session (results_in_order acknowledged_commands s ran.served.exchanges) (results_in_order reached_commands s ran.served.exchanges) failed ran.served.serves.leaves))
 ends_without_fault NoMemory r r' a b ran read read' written written' counts_match_end no_read no_write no_call memory = absurd (memory refl)
 

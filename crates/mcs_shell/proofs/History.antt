@@ -18,7 +18,7 @@ use Rattle.mcs_session.specs.SessionCalls.{FailsDuringMigration, MigratesSession
 use Rattle.mcs_session.specs.Opening.{SessionErrorImplies}
 use Rattle.mcs_session.specs.SessionState.{session_state}
 use Rattle.mcs_session.specs.Represents.{RepresentsInEitherVersion, Represents}
-use Rattle.mcs_session.proofs.Files.{is_session, represented_state_is_unique}
+use Rattle.mcs_session.proofs.Files.{is_session_file, represented_state_is_unique}
 use Rattle.mcs_session.proofs.Folds.{fold-append}
 use Rattle.mcs_session.proofs.Prefixes.{none_acknowledged_before_run}
 use Rattle.mcs_session.proofs.LogCommands.{acknowledged_moments_rise}
@@ -36,7 +36,7 @@ record DurablyRepresents (disk : DiskState) (s : BenchState) : Type 0 where
   pub durable : IsDurable disk
   pub represents : RepresentsInEitherVersion (bytes_of disk) s
 
--- Holds if every disk that `IsFound` allows after a stop is a possible disk after a power cut.
+-- Holds if each disk that `IsFound` allows after a stop can also be left by a power cut.
 abbrev AllowsOnlyPowerCuts : {D : Type 0} → (D → DiskState) → (ℕ → D → D → Type 0) → Type 0
 AllowsOnlyPowerCuts {D = D} state_of IsFound = (t : ℕ) (left found : D) → (state_of left).honest → IsFound t left found → IsLeftByCut t (state_of left) (state_of found)
 
@@ -68,8 +68,8 @@ prefix_kept_from_run state_of run t u s same given a fewer found honest durable 
       record { honest = honest; durable = durable; represents = inl (subst (Represents (bytes_of found)) state_is h.represents) },
     )
 
--- A run that was stopped after its session had opened: some commands are kept, and the disk found
--- represents the state after these commands.
+-- If a run was stopped after its session had opened, some of its commands (perhaps none) are kept,
+-- and the disk found represents the state after these commands.
 kept_if_stopped_after_opening : {D : Type 0} (state_of : D → DiskState) → (run : ShellRun state_of) (t : ℕ) (s : BenchState) (found : D) → run.before.state ≡ s → IsOpenOnHonestDisk (session_state state_of run.before)
     → time_of (state_of run.before.disk) ≤ t → IsLeftByCut t (state_of run.after.disk) (state_of found)
     → (kept : List Command) × AreKeptFromRun state_of run t s kept × DurablyRepresents (state_of found) (fold s kept)
@@ -77,8 +77,9 @@ kept_if_stopped_after_opening state_of run t s found same given late cut =
     let kept_commands = keeps_commands_of_run state_of run given in
     prefix_kept_from_run state_of run t t s same given (answers_and_acknowledges_run state_of run kept_commands) (omega arith) (state_of found) cut.honest cut.durable (kept_commands.each t (bytes_of (state_of found)) late cut.found)
 
--- A run that was stopped while its session was being opened, or at the end of the opening. Some
--- commands (perhaps none) are kept, and the disk found represents the state after these commands.
+-- A run can also be stopped while its session is being opened, or at the end of the opening. Some
+-- of its commands (perhaps none) are then kept, and the disk found represents the state after these
+-- commands.
 kept_if_stopped_while_opening : {D : Type 0} (state_of : D → DiskState) → (disk : D) (run : ShellRun state_of) (t : ℕ) (s : BenchState) (found : D) → DurablyRepresents (state_of disk) s → run.before.state ≡ s → IsOpenOnHonestDisk (session_state state_of run.before)
     → MigratesSession (state_of disk) (state_of run.before.disk) run.before.state → time_of (state_of disk) ≤ t → t ≤ time_of (state_of run.before.disk) → IsLeftByCut t (state_of run.after.disk) (state_of found)
     → (kept : List Command) × AreKeptFromRun state_of run t s kept × DurablyRepresents (state_of found) (fold s kept)
@@ -93,7 +94,7 @@ kept_if_stopped_while_opening state_of disk run t s found here same given migrat
           let image_represents : RepresentsInEitherVersion image s = ⊎_elim
           (λ (old : images_of (state_of disk) image). subst (λ (file : List ℕ). RepresentsInEitherVersion file s) (sym (here.durable image old)) here.represents)
           (λ (new : RepresentsInEitherVersion image run.before.state). subst (RepresentsInEitherVersion image) same new)
-          (migrates.leaves.each image ((disk_is_lawful before).longer (time_of (state_of disk)) t image late left)) in (
+          (migrates.leaves.each image ((disk_is_lawful before).since_later_implies_since_earlier (time_of (state_of disk)) t image late left)) in (
             [],
             record { begins_in_state = same; answered = answers_and_acknowledges_run state_of run kept_commands; not_kept = reached_commands_of_run run; parts = refl; keeps_acknowledged = omega (arith, none_acknowledged) },
             record { honest = cut.honest; durable = cut.durable; represents = image_represents },
@@ -118,8 +119,8 @@ kept_from_served_run state_of disk run t s found here opened_on_disk late cut =
 -- ---- an `open` that began no session
 
 not_a_session_impossible : (disk : DiskState) (s : BenchState) → RepresentsInEitherVersion (bytes_of disk) s → SessionErrorImplies NotASession disk → ⊥
-not_a_session_impossible disk s (inl represents) none = is_session disk represents.snap represents.records represents.holds none
-not_a_session_impossible disk s (inr represents) none = is_session disk represents.snap represents.records represents.holds none
+not_a_session_impossible disk s (inl represents) none = is_session_file disk represents.snap represents.records represents.holds none
+not_a_session_impossible disk s (inr represents) none = is_session_file disk represents.snap represents.records represents.holds none
 
 fault_number_is_53_or_90 : (fault : StoreFault) (disk : DiskState) (s : BenchState) → DurablyRepresents disk s → SessionErrorImplies fault disk → (store_fault_number fault ≡ 53) ⊎ (store_fault_number fault ≡ 90)
 fault_number_is_53_or_90 NotASession disk s here h = absurd (not_a_session_impossible disk s here.represents h)
@@ -160,7 +161,7 @@ durably_represented_after_refusal state_of disk left found number t s here refus
     record {
       honest = left_by_cut.honest;
       durable = left_by_cut.durable;
-      represents = represented_after_failed_open refused.fault (state_of disk) (state_of left) image s here (refused.refuses here.honest).1 ((disk_is_lawful (state_of left)).longer (time_of (state_of disk)) t image late left_by_cut.found);
+      represents = represented_after_failed_open refused.fault (state_of disk) (state_of left) image s here (refused.refuses here.honest).1 ((disk_is_lawful (state_of left)).since_later_implies_since_earlier (time_of (state_of disk)) t image late left_by_cut.found);
     }
 
 -- ---- all sittings

@@ -15,7 +15,7 @@ pub reopened_file_left_by_cut : (t : ℕ) (file reopened_file : FileDisk) → (a
 reopened_file_left_by_cut t file reopened_file honest h =
     let start = file.inner_disk.history.start in
     let calls = calls_in file.inner_disk.history.notes in
-    let found = found_image_is_image_since start calls h.left.never_made h.left.made (calls_in file.inner_disk.end.notes) t (bytes_found_in file) h.left.all h.left.calls_before_end h.left.clock_reached honest in
+    let found = found_image_is_image_since start calls h.left.calls_not_made h.left.calls_made (calls_in file.inner_disk.end.notes) t (bytes_found_in file) h.left.all h.left.calls_before_end h.left.clock_reached honest in
     record {
       honest = h.honest;
       found = subst (λ (bytes : List ℕ). images_after_since start calls t bytes) (sym h.bytes) found;

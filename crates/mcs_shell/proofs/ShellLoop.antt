@@ -37,8 +37,8 @@ use Rattle.mcs_shell.proofs.Exchanges.{serves_bytes_append, serves_no_bytes, ser
 abbrev pub serves_equal_inputs : (Given : Premise) (xs ys : List Input) (a b : ShellState) (halted : Option ShellEnd) → xs ≡ ys → ServesInputs Given ys a b halted → ServesInputs Given xs a b halted
 serves_equal_inputs Given xs ys a b halted e m = record { exchanges = m.exchanges; serves = m.serves; halts = m.halts; not_served = m.not_served; inputs_split = e ∙ m.inputs_split; all_served = m.all_served }
 
--- Serves all inputs that the unfinished input `l` and the bytes after `l` form. First the bytes are
--- served, and then the unfinished input `k` that remains.
+-- Serving the bytes after the unfinished input `l`, and then the unfinished input `k` that remains,
+-- serves all inputs that `l` and the bytes form.
 abbrev pub serves_bytes_and_rest : (whole : Bool) (a b c : ShellState) (l k : UnfinishedInputView) (bytes : List ℕ) (halted : Option ShellEnd) → ServesBytes a b l k bytes None → ServesInputs IsIntact (inputs_after k [] whole) b c halted
     → ServesInputs IsIntact (inputs_after l (bytes ++ []) whole) a c halted
 serves_bytes_and_rest whole a b c l k bytes halted x y = record {
@@ -143,8 +143,8 @@ false_is_not_true e = absurd (cc e)
 abbrev input_read_until_cut : (r r' : KnownBytes) (bytes : List ℕ) → Consumes r r' bytes → length bytes ≤ INPUT_BYTES → ReadInput r r'
 input_read_until_cut r r' bytes consumed within = record { bytes = bytes; consumed = consumed; within = within; ended = false; input_ended = λ e. absurd (false_is_not_true e) }
 
--- Serves all inputs that the bytes form. First the bytes are served from the start of the input,
--- and then the unfinished input `line` that remains.
+-- Serving the bytes from the start of the input, and then the unfinished input `line` that remains,
+-- serves all inputs that the bytes form.
 abbrev serves_all_inputs : (whole : Bool) (a b c : ShellState) (line : UnfinishedInputView) (bytes : List ℕ) (halted : Option ShellEnd) → ServesBytes a b no_unfinished_input line bytes None → ServesInputs IsIntact (inputs_after line [] whole) b c halted → ServesInputs IsIntact (inputs bytes whole) a c halted
 serves_all_inputs whole a b c line bytes halted x y = serves_equal_inputs IsIntact (inputs bytes whole) (inputs_after no_unfinished_input (bytes ++ []) whole) a c halted (inputs_from_start bytes whole) (serves_bytes_and_rest whole a b c no_unfinished_input line bytes halted x y)
 
@@ -179,14 +179,14 @@ ends_by_exchange false o end bytes whole exchanges e = let end_is : WriteFault �
 ends_by_exchange true Device end bytes whole exchanges e = let end_is : DeviceFault ≡ end = cc e in subst (λ (v : ShellEnd). EndsBy v true bytes whole exchanges (Some v)) end_is (refl, refl)
 ends_by_exchange true o end bytes whole exchanges e = absurd (cc e)
 
-pub either_is_some_if_option_or_is : (h k : Option ShellEnd) (end : ShellEnd) → option_or h k ≡ Some end → (h ≡ Some end) ⊎ (k ≡ Some end)
-either_is_some_if_option_or_is None k end e = inr e
-either_is_some_if_option_or_is (Some x) k end e = inl e
+pub either_is_some_if_option_or_is_some : (h k : Option ShellEnd) (end : ShellEnd) → option_or h k ≡ Some end → (h ≡ Some end) ⊎ (k ≡ Some end)
+either_is_some_if_option_or_is_some None k end e = inr e
+either_is_some_if_option_or_is_some (Some x) k end e = inl e
 
 -- Exchanges halt the shell only if a write or the device failed.
 ends_by_exchanges : (xs : List Exchange) (end : ShellEnd) (bytes : List ℕ) (whole : Bool) (exchanges : List Exchange) → end_caused_by_exchanges xs ≡ Some end → EndsBy end true bytes whole exchanges (Some end)
 ends_by_exchanges [] end bytes whole exchanges e = absurd (cc e)
-ends_by_exchanges (x ∷ xs) end bytes whole exchanges e = elim (either_is_some_if_option_or_is (end_caused_by x.whole x.outcome) (end_caused_by_exchanges xs) end e) [
+ends_by_exchanges (x ∷ xs) end bytes whole exchanges e = elim (either_is_some_if_option_or_is_some (end_caused_by x.whole x.outcome) (end_caused_by_exchanges xs) end e) [
   | inl h ↦ ends_by_exchange x.whole x.outcome end bytes whole exchanges h
   | inr h ↦ ends_by_exchanges xs end bytes whole exchanges h
 ]
@@ -195,7 +195,7 @@ pub ran_shell_halted_at_end_of_input : (end : ShellEnd) (r r' r'' : KnownBytes) 
     → ServesInputs IsIntact (inputs_after line [] true) b c (Some end) → RanShellGiven IsIntact [] end r r'' a c
 ran_shell_halted_at_end_of_input end r r' r'' a b c line chunk total max_count x small y m = ran_shell_until_end_of_input end r r' r'' a b c line chunk total max_count (Some end) x small y m (ends_by_exchanges m.exchanges end x.bytes true (x.fed.exchanges ++ m.exchanges) m.halts)
 
--- The run of the loop if the shell served all bytes before a chunk and halted within the chunk.
+-- Serving all bytes before a chunk, and halting within the chunk, is a run of the loop.
 pub ran_shell_halted_in_chunk : (end : ShellEnd) (r r' r'' : KnownBytes) (a b c : ShellState) (line new_line : UnfinishedInputView) (chunk : List ℕ) (total n max_count : ℕ)
     → LoopProgress r r' a b line total → total + max_count ≤ INPUT_BYTES → max_count ≤ CHUNK_BYTES → ReadBytes n max_count r' r'' chunk → ServesBytes b c line new_line chunk (Some end) → RanShellGiven IsIntact [] end r r'' a c
 ran_shell_halted_in_chunk end r r' r'' a b c line new_line chunk total n max_count x small little y z =
@@ -230,7 +230,7 @@ whole_if_no_bytes_to_write : (begun : Bool) (old new : KnownBytes) → WroteByte
 whole_if_no_bytes_to_write true old new h = refl
 whole_if_no_bytes_to_write false old new h = absurd (omega (arith, h.fewer))
 
--- the run of a shell that wrote its first line completely, and then ran the loop
+-- Writing the first line completely, and then running the loop, is a run of the shell.
 pub ran_shell_after_first_line : (end : ShellEnd) (r r' : KnownBytes) (a b : ShellState) (started : KnownBytes) (first_line : List ℕ) → (IsOpenOnHonestDisk a.session → IsIntact a.session) → Appends a.out started first_line
     → RanShellGiven IsIntact [] end r r' (with_output a started) b → RanShellGiven IsOpenOnHonestDisk first_line end r r' a b
 ran_shell_after_first_line end r r' a b started first_line settle wrote x =
@@ -251,7 +251,8 @@ ran_shell_after_first_line end r r' a b started first_line settle wrote x =
 no_inputs_from_no_bytes : inputs [] false ≡ []
 no_inputs_from_no_bytes = inputs_from_start [] false ∙ inputs_after-cut_off no_unfinished_input tt
 
--- the run of a shell that did not write its first line completely, and read and executed nothing
+-- Writing only a proper prefix of the first line, and reading and executing nothing, is also a run
+-- of the shell.
 pub ran_shell_without_first_line : (end : ShellEnd) (r : KnownBytes) (a : ShellState) (out : KnownBytes) (first_line : List ℕ) → (IsOpenOnHonestDisk a.session → IsIntact a.session) → ReceivedProperPrefix a.out out first_line
     → (end ≡ NoMemory → out ≡ a.out) → EndsBy end false [] false [] None → RanShellGiven IsOpenOnHonestDisk first_line end r r a (with_output a out)
 ran_shell_without_first_line end r a out first_line settle some unwritten ends = record {

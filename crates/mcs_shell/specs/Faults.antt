@@ -25,13 +25,13 @@ one_more_fault faults = option_map (λ n. min (n + 1) max_fault_count) faults
 abbrev pub CountsKnownFault : {T E : Type 0} → KnownFaults → KnownFaults → Result T E → Type 0
 CountsKnownFault old new result = MatchResult result (λ x. new ≡ old) (λ e. new ≡ one_more_fault old)
 
--- the count of failed reads after a shell has ended for the given reason, from the count before
+-- the count of failed reads after a shell has ended for this reason, given the count before
 abbrev pub read_faults_after : ShellEnd → KnownFaults → KnownFaults
 read_faults_after ReadFault faults = one_more_fault faults
 read_faults_after end faults = faults
 
--- the count of failed writes after a shell has ended for the given reason, or while the shell
--- continues (`None`), from the count before
+-- the count of failed writes after a shell has ended for this reason, or while the shell
+-- continues (`None`), given the count before
 abbrev pub write_faults_after : Option ShellEnd → KnownFaults → KnownFaults
 write_faults_after (Some WriteFault) faults = one_more_fault faults
 write_faults_after halted faults = faults

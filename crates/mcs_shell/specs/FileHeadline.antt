@@ -22,7 +22,7 @@ pub record IsReopenedFile (time : ℕ) (file reopened_file : FileDisk) : Type 0 
   pub honest : (as_disk reopened_file).honest
 
 -- Holds if a run on a file of the host answered its inputs in order, and its commands survive every
--- stop. A close, a kill or a power cut can stop the run at any moment since it began. The program's
+-- stop. A close, a kill or a power cut can stop the run at any moment after it began. The program's
 -- `open` then begins a session on the contents found in the file. This session has executed a
 -- prefix of `reached_commands_of_run`: the commands answered `ok`, followed by the one answered
 -- `no 53` (device failed), if there is one. The prefix includes each command that was acknowledged

@@ -6,8 +6,8 @@ use Rattle.mcs_model.specs.declared.limits.TheConstants.{TEXT_BYTES}
 use Rattle.mcs_model.specs.TextLines.{as_line}
 use Rattle.mcs_shell.specs.UnfinishedInputView.{LineMode, OutsideText, InText, UnfinishedInputView}
 
--- the mode of the unfinished line, given the kind of the open text, if one is open, and its stored
--- bytes
+-- the mode of the unfinished line, given the kind of the open text (`None` if no text is open) and
+-- the text's stored bytes
 abbrev pub mode_of : Option TextKind → List ℕ → LineMode
 mode_of None text = OutsideText
 mode_of (Some kind) text = InText kind text

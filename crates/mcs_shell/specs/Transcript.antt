@@ -55,7 +55,7 @@ needs_allocation i = false
 
 -- Holds if the outcome is possible for the input. The Bool is true if the session is open.
 -- `Answered` is possible for an input without a command, and for a command if the session is open.
--- `Device` is possible for a command that the state accepts if the session is open. `Closed` is
+-- `Device` is possible if the session is open, for a command that the state accepts. `Closed` is
 -- possible for a command if the session is closed. `NoMemory` is possible for an input that needs
 -- an allocation.
 unfoldable pub IsPossibleOutcome : Bool → BenchState → Input → Outcome → Type 0
@@ -78,7 +78,7 @@ reached_commands s i Answered = accepted_commands s (requested_command i)
 reached_commands s i Device = accepted_commands s (requested_command i)
 reached_commands s i o = []
 
--- the answer to a command that the session records or rejects, from the state before the command
+-- the answer to a command that the session records or rejects, given the state before the command
 abbrev pub change_answer : BenchState → Command → List ℕ
 change_answer s c =
     elim (refusal s c) [
@@ -86,14 +86,14 @@ change_answer s c =
       | Some fault ↦ no_text (bench_fault_number fault)
     ]
 
--- The answer to a text with this meaning, from the state before the text. It is the answer to the
+-- The answer to a text with this meaning, given the state before the text. It is the answer to the
 -- text's command, the lines of the text's report, or the refusal for the text's error.
 abbrev pub meaning_answer : BenchState → Result TextMeaning TextRefusal → List ℕ
 meaning_answer s (Ok (Executes c)) = change_answer s c
 meaning_answer s (Ok (Reports lines)) = lines
 meaning_answer s (Err why) = text_refusal_answer why
 
--- the answer to an input whose outcome is `Answered`, from the state before the input
+-- the answer to an input whose outcome is `Answered`, given the state before the input
 abbrev pub answer_from_state : BenchState → Input → List ℕ
 answer_from_state s (Line Nothing) = []
 answer_from_state s (Line (Begin kind)) = []
@@ -107,7 +107,7 @@ answer_from_state s (Line (Change c)) = change_answer s c
 answer_from_state s (Text kind text) = meaning_answer s (meaning_of_text kind text)
 answer_from_state s (BadText fault) = no_text (text_fault_number fault)
 
--- the answer to an input with the given outcome, from the state before the input
+-- the answer to an input with this outcome, given the state before the input
 unfoldable pub answer : BenchState → Input → Outcome → List ℕ
 answer s i Answered = answer_from_state s i
 answer s i Device = no_text DEVICE

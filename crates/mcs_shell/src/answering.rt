@@ -19,7 +19,7 @@ use mcs_session::fault::SessionFault;
 use mcs_session::session::Session;
 use std::alloc::{AllocError, Global};
 
-/// Returns the outcome of an input whose command was not recorded, from the error of the session.
+/// Returns the outcome of an input whose command was not recorded, given the session's error.
 fn outcome_of(fault: SessionFault) -> Outcome
     ensures { result ≡ outcome_of fault }
 {
@@ -52,14 +52,14 @@ fn answer_change<D: Disk + Drop>(
     }
 }
 
-/// Returns the outcome of a request whose answer needs memory. `put` is the result of the call that
+/// Returns the outcome of a request whose answer needs memory. `set_result` is the result of the call that
 /// stored `answer`. If an allocation failed in that call, stores the refusal `NO_MEMORY` (90) as
 /// the answer.
-fn outcome_of_allocation(put: Result<(), AllocError>, answer: &mut Answer) -> Outcome
-    ensures put { OnOk put ((result ≡ Outcome.Answered) × (answer.new ≡ answer.old)) }
-    ensures refused { OnErr put ((result ≡ Outcome.NoMemory) × (answer.new ≡ no_text NO_MEMORY)) }
+fn outcome_of_allocation(set_result: Result<(), AllocError>, answer: &mut Answer) -> Outcome
+    ensures answered { OnOk set_result ((result ≡ Outcome.Answered) × (answer.new ≡ answer.old)) }
+    ensures refused { OnErr set_result ((result ≡ Outcome.NoMemory) × (answer.new ≡ no_text NO_MEMORY)) }
 {
-    match put {
+    match set_result {
         Ok(()) => Outcome::Answered,
         Err(_) => {
             answer.set_refusal(refusal_numbers::NO_MEMORY);
@@ -92,20 +92,20 @@ pub(crate) fn answer_request<D: Disk + Drop>(
             Outcome::Answered
         }
         Request::Listing(from, lines) => {
-            let put = answer.set_listing(alloc, *from, *lines, session.bench());
-            outcome_of_allocation(put, answer)
+            let set_result = answer.set_listing(alloc, *from, *lines, session.bench());
+            outcome_of_allocation(set_result, answer)
         }
         Request::Board => {
-            let put = answer.set_board(alloc, session.bench());
-            outcome_of_allocation(put, answer)
+            let set_result = answer.set_board(alloc, session.bench());
+            outcome_of_allocation(set_result, answer)
         }
         Request::Count(n) => {
-            let put = answer.set_count(alloc, *n, session.bench());
-            outcome_of_allocation(put, answer)
+            let set_result = answer.set_count(alloc, *n, session.bench());
+            outcome_of_allocation(set_result, answer)
         }
         Request::Trace(n, probes) => {
-            let put = answer.set_trace(alloc, *n, probes.as_slice(), session.bench());
-            outcome_of_allocation(put, answer)
+            let set_result = answer.set_trace(alloc, *n, probes.as_slice(), session.bench());
+            outcome_of_allocation(set_result, answer)
         }
         Request::Change(command) => answer_change(command, session, answer),
         Request::Begin(_) => Outcome::Answered,

@@ -15,7 +15,7 @@ use mcs_disk::Disk;
 
 /// Proves the headline for a run on an open session with an honest disk, for every end of the run. The run wrote the
 /// answers to the inputs that it served, in order. Each answer follows from the state after the commands that were
-/// answered `ok` before that answer. The power can be cut at any moment since the run began. A session opened after the
+/// answered `ok` before that answer. The power can be cut at any moment after the run began. A session opened after the
 /// cut has executed a prefix of a list: the commands answered `ok`, followed by the one answered `no 53` (device
 /// failed), if there is one. The prefix includes each command that was acknowledged by the moment of the cut.
 pub fn a_run_answers_and_survives_power_cuts<D: Disk, E: Disk>()

@@ -7,7 +7,7 @@ use mcs_host::{Choice, FileDisk, FileFault, StreamsError, StreamsFault};
 use mcs_journal::StoreFault;
 use std::path::Path;
 
-/// The reason why no session began, and the facts about its file that the message needs.
+/// The reason why no session began, and the facts about the file that the message needs.
 #[derive(Clone, Copy)]
 pub struct Refusal {
     /// The reason why no session began.
@@ -29,11 +29,11 @@ pub fn print_usage(rt: &HostRuntime) {
 
 /// Prints why the program cannot run with its standard streams. Prints nothing if standard error
 /// may be a session file.
-pub fn print_streams_refusal(rt: &HostRuntime, refused: StreamsError) {
-    if refused.unusable.errors {
+pub fn print_streams_refusal(rt: &HostRuntime, error: StreamsError) {
+    if error.unusable.errors {
         return;
     }
-    let reason = match refused.fault {
+    let reason = match error.fault {
         StreamsFault::IntoSession => {
             "standard output goes into a session file; send it elsewhere"
         }
@@ -49,8 +49,8 @@ pub fn print_streams_refusal(rt: &HostRuntime, refused: StreamsError) {
 
 /// Prints a warning if a file was opened but its folder was not synced. A power cut can then remove the name of a new
 /// file. Otherwise prints nothing.
-pub fn print_name_warning(rt: &HostRuntime, file: &str, opened: &Result<FileDisk, FileFault>) {
-    if let Ok(disk) = opened {
+pub fn print_name_warning(rt: &HostRuntime, file: &str, open_result: &Result<FileDisk, FileFault>) {
+    if let Ok(disk) = open_result {
         if !disk.is_name_stable() {
             let _ = eprintln!(rt;
                 "mcs4: {file}: its folder cannot be synced; a power cut may undo a name that it was only just given"
@@ -78,8 +78,8 @@ pub fn print_session_refusal(rt: &HostRuntime, choice: &Choice, refused: Option<
             eprintln!(rt; "mcs4: {file}: already a session file; go on with it: mcs4 open {file}")
         }
         (_, fault) => {
-            let words = begin_message(fault, refusal.is_full);
-            eprintln!(rt; "mcs4: {file}: {words}")
+            let message = begin_message(fault, refusal.is_full);
+            eprintln!(rt; "mcs4: {file}: {message}")
         }
     };
 }
@@ -158,10 +158,10 @@ fn has_folder(rt: &HostRuntime, file: &str) -> bool {
     }
 }
 
-/// Prints why a session ended. `ended` has the reason for the end of the shell, and a Bool that is true if the
-/// session's device is full. Prints nothing if the session reached the end of its input, or if `ended` is `None`.
-pub fn print_end_reason(rt: &HostRuntime, file: &str, ended: Option<(ShellEnd, bool)>) {
-    let Some((end, is_full)) = ended else {
+/// Prints why a session ended. `shell_end` has the reason for the end of the shell, and a Bool that is true if the
+/// session's device is full. Prints nothing if the session reached the end of its input, or if `shell_end` is `None`.
+pub fn print_end_reason(rt: &HostRuntime, file: &str, shell_end: Option<(ShellEnd, bool)>) {
+    let Some((end, is_full)) = shell_end else {
         return;
     };
     let reason = match end {

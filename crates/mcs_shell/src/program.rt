@@ -40,7 +40,7 @@ const REFUSED_STATUS: u8 = 3;
 
 /// Returns the command-line arguments, with the program's name first. An argument that is not valid UTF-8 is a usage
 /// error.
-fn given_arguments(rt: &HostRuntime) -> Result<Vec<String>, ArgumentsFault> {
+fn command_line_arguments(rt: &HostRuntime) -> Result<Vec<String>, ArgumentsFault> {
     match env::args(rt) {
         Ok(arguments) => Ok(arguments.collect(rt.alloc())?),
         Err(error) if error.kind() == ErrorKind::InvalidData => Err(ArgumentsFault::Usage),
@@ -71,11 +71,11 @@ fn refuse_on_usable_output(rt: &HostRuntime, number: u8, unusable: Streams) -> E
 
 /// Prints `no NN` and the reason why the program cannot run with these standard streams, and returns exit status 3.
 /// Writes nothing to a stream that may be a session file.
-pub fn refuse_streams(rt: &HostRuntime, refused: StreamsError) -> ExitCode
+pub fn refuse_streams(rt: &HostRuntime, error: StreamsError) -> ExitCode
     ensures { exit_status result ≡ 3 }
 {
-    let status = refuse_on_usable_output(rt, refusal_numbers::DEVICE, refused.unusable);
-    print_streams_refusal(rt, refused);
+    let status = refuse_on_usable_output(rt, refusal_numbers::DEVICE, error.unusable);
+    print_streams_refusal(rt, error);
     status
 }
 
@@ -92,9 +92,9 @@ pub fn refuse_arguments(rt: &HostRuntime, fault: ArgumentsFault) -> ExitCode
             ExitCode::from(WRONG_ARGUMENTS_STATUS)
         }
         ArgumentsFault::NoMemory => {
-            let refused = refuse(rt, refusal_numbers::NO_MEMORY);
+            let status = refuse(rt, refusal_numbers::NO_MEMORY);
             print_no_memory(rt);
-            refused
+            status
         }
     }
 }
@@ -109,22 +109,22 @@ pub struct BeginFailure<D: Disk + Drop> {
     pub disk: Option<D>,
 }
 
-/// Creates or opens a session, as `choice` requests. `opened` is the disk that was opened for the chosen file, or the
-/// error of opening it. Fails with the reason if no session began.
+/// Creates or opens a session, as `choice` requests. `open_result` is the disk that was opened for the chosen file, or
+/// the error if no disk was opened. Fails with the reason if no session began.
 pub fn begin_session_on<D: Disk + Drop>(
     alloc: Global,
     choice: &Choice,
-    opened: Result<D, FileFault>,
+    open_result: Result<D, FileFault>,
 ) -> Result<Session<D>, BeginFailure<D>>
-    ensures begun { IfOk opened (λ disk. IfOk result (λ session.
+    ensures begun { IfOk open_result (λ disk. IfOk result (λ session.
         IsBegunOn D.state choice.now disk session)) }
-    ensures refused { IfOk opened (λ disk. IfErr result (λ refused.
+    ensures refused { IfOk open_result (λ disk. IfErr result (λ refused.
         IsSomeAnd refused.disk (λ left. IsChoiceRefused choice.now (D.state disk) (D.state left)
         (begin_fault_number refused.fault)))) }
-    ensures unopened { IfErr opened (λ fault.
+    ensures unopened { IfErr open_result (λ fault.
         IsErrAnd result (λ refused. refused.fault ≡ BeginFault.File fault)) }
 {
-    let disk = match opened {
+    let disk = match open_result {
         Ok(disk) => disk,
         Err(fault) => {
             return Err(BeginFailure {
@@ -167,9 +167,9 @@ pub fn begin_session_in(
 {
     let alloc = rt.alloc();
     let creates_file = matches!(choice, Choice::New(_));
-    let opened = FileDisk::open_at(rt, alloc, choice.file(), creates_file);
-    print_name_warning(rt, choice.file(), &opened);
-    begin_session_on(alloc, choice, opened)
+    let open_result = FileDisk::open_at(rt, alloc, choice.file(), creates_file);
+    print_name_warning(rt, choice.file(), &open_result);
+    begin_session_on(alloc, choice, open_result)
 }
 
 /// Serves a session with a reader and a writer. Returns the reason for the end of the shell, and the exit status.
@@ -210,19 +210,19 @@ pub fn serve_if_begun<R: InputSource, W: AnswerSink, D: Disk + Drop>(
     rt: &HostRuntime,
     reader: &mut R,
     writer: &mut W,
-    begun: Result<Session<D>, BeginFailure<D>>,
+    begin_result: Result<Session<D>, BeginFailure<D>>,
 ) -> ProgramResult<D>
-    ensures served { IfOk begun (λ before. IsSomeAnd result.session (λ after.
+    ensures served { IfOk begin_result (λ before. IsSomeAnd result.session (λ after.
         ServedSession D.state (exit_status result.status)
         (streams_view R.remaining R.faults W.contents W.faults reader.old writer.old)
         (streams_view R.remaining R.faults W.contents W.faults reader.new writer.new)
         before after)) }
-    ensures refused { OnErr begun (exit_status result.status ≡ 3) }
-    ensures unserved { OnErr begun (result.session ≡ None) }
-    ensures unread { OnErr begun (R.remaining reader.new ≡ R.remaining reader.old) }
-    ensures unwritten { OnErr begun (W.contents writer.new ≡ W.contents writer.old) }
+    ensures refused { OnErr begin_result (exit_status result.status ≡ 3) }
+    ensures unserved { OnErr begin_result (result.session ≡ None) }
+    ensures unread { OnErr begin_result (R.remaining reader.new ≡ R.remaining reader.old) }
+    ensures unwritten { OnErr begin_result (W.contents writer.new ≡ W.contents writer.old) }
 {
-    match begun {
+    match begin_result {
         Ok(mut session) => {
             let (end, status) = serve(rt, reader, writer, &mut session);
             ProgramResult {
@@ -231,8 +231,8 @@ pub fn serve_if_begun<R: InputSource, W: AnswerSink, D: Disk + Drop>(
                 end: Some(end),
             }
         }
-        Err(refused) => {
-            let fault = refused.fault;
+        Err(failure) => {
+            let fault = failure.fault;
             ProgramResult {
                 status: refuse_on_usable_output(rt, fault.number(), fault.streams()),
                 session: None,
@@ -244,16 +244,16 @@ pub fn serve_if_begun<R: InputSource, W: AnswerSink, D: Disk + Drop>(
 
 /// Returns the reason why no session began, with the facts that the message needs, or `None` if a
 /// session began.
-fn refusal_of(begun: &Result<Session<FileDisk>, BeginFailure<FileDisk>>) -> Option<Refusal> {
-    match begun {
+fn refusal_of(begin_result: &Result<Session<FileDisk>, BeginFailure<FileDisk>>) -> Option<Refusal> {
+    match begin_result {
         Ok(_) => None,
-        Err(refused) => Some(Refusal {
-            fault: refused.fault,
-            is_full: match &refused.disk {
+        Err(failure) => Some(Refusal {
+            fault: failure.fault,
+            is_full: match &failure.disk {
                 Some(disk) => disk.is_full(),
                 None => false,
             },
-            is_named_session: match &refused.disk {
+            is_named_session: match &failure.disk {
                 Some(disk) => disk.is_named_session(),
                 None => false,
             },
@@ -263,8 +263,8 @@ fn refusal_of(begun: &Result<Session<FileDisk>, BeginFailure<FileDisk>>) -> Opti
 
 /// Returns the reason for the end of the shell, and a Bool that is true if the session's device is full. Returns `None`
 /// if no shell ran.
-fn shell_end_of(ended: &ProgramResult<FileDisk>) -> Option<(ShellEnd, bool)> {
-    match (ended.end, &ended.session) {
+fn shell_end_of(program_result: &ProgramResult<FileDisk>) -> Option<(ShellEnd, bool)> {
+    match (program_result.end, &program_result.session) {
         (Some(end), Some(session)) => Some((end, session.disk().is_full())),
         _ => None,
     }
@@ -304,22 +304,22 @@ pub fn run_arguments<S: AsStr, R: InputSource, W: AnswerSink>(
             };
         }
     };
-    let begun = begin_session_in(rt, &choice);
-    let refusal = refusal_of(&begun);
-    let ended = serve_if_begun(rt, reader, writer, begun);
+    let begin_result = begin_session_in(rt, &choice);
+    let refusal = refusal_of(&begin_result);
+    let program_result = serve_if_begun(rt, reader, writer, begin_result);
     print_session_refusal(rt, &choice, refusal);
-    print_end_reason(rt, choice.file(), shell_end_of(&ended));
-    ended
+    print_end_reason(rt, choice.file(), shell_end_of(&program_result));
+    program_result
 }
 
 /// Runs the program with the command-line arguments, standard input and standard output.
-fn run_given_arguments(rt: &HostRuntime) -> ProgramResult<FileDisk>
+fn run_command_line(rt: &HostRuntime) -> ProgramResult<FileDisk>
     ensures served { IfSome result.session (λ after.
         ServedBySomeArguments as_disk (exit_status result.status) after) }
     ensures unserved { IfNone result.session
         ((exit_status result.status ≡ 2) ⊎ (exit_status result.status ≡ 3)) }
 {
-    match given_arguments(rt) {
+    match command_line_arguments(rt) {
         Ok(arguments) => {
             let (input, output) = (&mut rt.stdin(), &mut rt.stdout());
             run_arguments(rt, arguments.as_slice(), input, output)
@@ -345,13 +345,13 @@ pub fn run_program(rt: &HostRuntime) -> ProgramResult<FileDisk>
     // The stand-ins (`/dev/null`) for closed standard streams stay open until this function returns.
     let _stand_ins = match StandIns::open(rt) {
         Ok(stand_ins) => stand_ins,
-        Err(refused) => {
+        Err(error) => {
             return ProgramResult {
-                status: refuse_streams(rt, refused),
+                status: refuse_streams(rt, error),
                 session: None,
                 end: None,
             };
         }
     };
-    run_given_arguments(rt)
+    run_command_line(rt)
 }

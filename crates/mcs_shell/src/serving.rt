@@ -91,7 +91,7 @@ fn serve_text<W: AnswerSink, D: Disk + Drop>(
 
 /// Answers an open text with refusal 15, because input ended inside the text. Fails with the reason why the shell ends,
 /// if the write fails.
-pub(crate) fn serve_unended_text<W: AnswerSink, D: Disk + Drop>(
+pub(crate) fn serve_unfinished_text<W: AnswerSink, D: Disk + Drop>(
     writer: &mut W,
     session: &mut Session<D>,
 ) -> Result<(), ShellEnd>

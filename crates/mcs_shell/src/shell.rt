@@ -13,7 +13,7 @@ ghost use Rattle.mcs_shell.specs.UnfinishedInputView.{inputs_after};
 use crate::answer::Answer;
 use crate::ends::ShellEnd;
 use crate::sending::WriteStopped;
-use crate::serving::{end_line, serve_chunk, serve_unended_text};
+use crate::serving::{end_line, serve_chunk, serve_unfinished_text};
 use crate::streams::{AnswerSink, InputSource, ReadFailed};
 use crate::unfinished::UnfinishedInput;
 use mcs_disk::Disk;
@@ -56,7 +56,7 @@ fn finish_text<W: AnswerSink, D: Disk + Drop>(
 {
     match unfinished.text() {
         None => Ok(()),
-        Some(_) => serve_unended_text(writer, session),
+        Some(_) => serve_unfinished_text(writer, session),
     }
 }
 
@@ -126,10 +126,10 @@ fn run_loop<R: InputSource, W: AnswerSink, D: Disk + Drop>(
     ShellEnd::InputLimit
 }
 
-/// Serves the lines of a reader on a session until input ends, a call fails, or the input limit is reached. Returns the
-/// reason for the end of the shell.
+/// Serves the lines of a reader on a session until input ends, a read, a write or the device fails, or the input limit
+/// is reached. Returns the reason for the end of the shell.
 ///
-/// The shell records each accepted command before it writes the command's answer. The machine can stop at any moment.
+/// The shell records each accepted command before it writes the command's answer. The computer can stop at any moment.
 /// If the session was open on an honest disk, a session that is opened afterwards has executed a prefix of the accepted
 /// commands. The prefix includes each acknowledged command.
 pub fn run_shell<R: InputSource, W: AnswerSink, D: Disk + Drop>(
@@ -148,9 +148,9 @@ pub fn run_shell<R: InputSource, W: AnswerSink, D: Disk + Drop>(
     let Ok(mut buffer) = vec![in alloc; 0u8; CHUNK_BYTES] else {
         return ShellEnd::NoMemory;
     };
-    let mut first = Answer::new();
-    first.set_number(b"session ", seq);
-    match first.send(session, writer) {
+    let mut first_line = Answer::new();
+    first_line.set_number(b"session ", seq);
+    match first_line.send(session, writer) {
         Err(WriteStopped) => ShellEnd::WriteFault,
         Ok(()) => run_loop(alloc, buffer.as_mut_slice(), reader, writer, session),
     }

@@ -78,7 +78,7 @@ fn has_short_lines(text: &[u8]) -> bool
     true
 }
 
-fn has_text_bytes(text: &[u8]) -> bool
+fn has_only_text_bytes(text: &[u8]) -> bool
     ensures { result ≡ list_all is_text_byte text.now }
 {
     text.iter().all(|b| *b == b'\n' || is_allowed_byte(*b))
@@ -94,7 +94,7 @@ pub fn text_fault(text: &[u8]) -> Option<TextFault>
         Some(TextFault::TextTooLong)
     } else if !has_short_lines(text) {
         Some(TextFault::LineTooLong)
-    } else if !has_text_bytes(text) {
+    } else if !has_only_text_bytes(text) {
         Some(TextFault::NotAscii)
     } else {
         None

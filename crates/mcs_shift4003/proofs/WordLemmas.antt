@@ -14,7 +14,7 @@ use Rattle.std.specs.List.{refill}
 use Rattle.std.proofs.lemmas.Nat.Bits.{bit_at_lowest, bit_at-suc, bit_at-zero, bit_at-lt, bit_at_cat_low, bit_at_cat_high, shr_and_one}
 use Rattle.std.proofs.lemmas.Option.{slice_get-get_or, slice_get_past}
 use Rattle.mcs_nibble.specs.Bits.{bit_of}
-use Rattle.mcs_nibble.proofs.TabledLemmas.{length-table_of, get_or-table_of, table_of-unique, set-table_of}
+use Rattle.mcs_nibble.proofs.TableLemmas.{length-table_of, get_or-table_of, table_of-unique, set-table_of}
 use Rattle.mcs_shift4003.specs.Packing.{packed_bit, bit_after_shift, chain_bits_of, IsPacked}
 
 -- ---- one word
@@ -53,22 +53,22 @@ words-below_1024_after_set words at new h ten_bits k =
       | inl e ↦
           elim (cases_lt at (length words)) [
             | inl l ↦ subst (λ m. m < 1024) (sym (get_or-set_at words at k new 0 e l)) h
-            | inr gone ↦ subst (λ m. m < 1024) (sym (get_or_past (slice_set words at new) k 0 (let e2 = length-set words at new in omega arith))) (omega arith)
+            | inr past_end ↦ subst (λ m. m < 1024) (sym (get_or_past (slice_set words at new) k 0 (let e2 = length-set words at new in omega arith))) (omega arith)
           ]
       | inr ne ↦ subst (λ m. m < 1024) (sym (get_or-set_other words at k new 0 ne)) (ten_bits k)
     ]
 
 -- ---- a shift, word by word
 
--- holds if `new` is the list `old` after its first `k` words were shifted, and `level_next` is the
+-- holds if `new` is the list `old` after its first `k` words were shifted, and `next_level` is the
 -- bit to shift into the next word
-pub record IsShifted (level : ℕ) (old new : List ℕ) (k level_next : ℕ) : Type 0 where
+pub record IsShifted (level : ℕ) (old new : List ℕ) (k next_level : ℕ) : Type 0 where
   pub len : length new ≡ length old
   pub ten_bits : (m : ℕ) → slice_index new m < 1024
   pub bits : (i : ℕ) → i < 10 * k → packed_bit new i ≡ bit_after_shift level old i
-  pub rest : (m : ℕ) → k ≤ m → slice_index new m ≡ slice_index old m
-  pub carry : level_next ≡ bit_after_shift level old (10 * k)
-  pub small : level_next < 2
+  pub unchanged : (m : ℕ) → k ≤ m → slice_index new m ≡ slice_index old m
+  pub carry : next_level ≡ bit_after_shift level old (10 * k)
+  pub small : next_level < 2
 
 bit_after_shift-of_next_bit : (level : ℕ) (words : List ℕ) (i k : ℕ) → i ≡ k + 1 → bit_after_shift level words i ≡ packed_bit words k
 bit_after_shift-of_next_bit level words zero k e = absurd (omega arith)
@@ -86,7 +86,7 @@ bits-after_word_shift level old k carry i (suc j) word is small here at h =
 
 pub shifted-next_word : (level : ℕ) (old new : List ℕ) (k carry word last : ℕ) → IsShifted level old new k carry → k < length old → word ≡ (2 * slice_index new k + carry) % 1024 → last ≡ slice_index new k / 512 → IsShifted level old (slice_set new k word) (k + 1) last
 shifted-next_word level old new k carry word last m k_in_words is shifted_out-is =
-    let word_unchanged : slice_index new k ≡ slice_index old k = m.rest k (omega arith) in
+    let word_unchanged : slice_index new k ≡ slice_index old k = m.unchanged k (omega arith) in
     let within : k < length new = let e = m.len in omega arith in
     let word_below_1024 = m.ten_bits k in
     let at : slice_index (slice_set new k word) k ≡ word = get_or-set_at new k k word 0 refl within in
@@ -104,7 +104,7 @@ shifted-next_word level old new k carry word last m k_in_words is shifted_out-is
                 ∙ ap (λ w. bit_of w (i % 10)) (at ∙ is)
                 ∙ bits-after_word_shift level old k carry i (i % 10) (slice_index new k) m.carry m.small word_unchanged (omega arith) (omega arith)
           ];
-      rest = λ n l. get_or-set_other new k n word 0 (λ e. omega arith) ∙ m.rest n (omega arith);
+      unchanged = λ n l. get_or-set_other new k n word 0 (λ e. omega arith) ∙ m.unchanged n (omega arith);
       carry =
           let p : (10 * k + 9) / 10 ≡ k = omega arith in
           let q : (10 * k + 9) % 10 ≡ 9 = omega arith in
@@ -116,24 +116,24 @@ shifted-next_word level old new k carry word last m k_in_words is shifted_out-is
 
 -- A bit past the last word is 0.
 packed_bit-past_last_word : (words : List ℕ) (i : ℕ) → 10 * length words ≤ i → packed_bit words i ≡ 0
-packed_bit-past_last_word words i gone = ap (λ w. bit_of w (i % 10)) (get_or_past words (i / 10) 0 (omega arith)) ∙ bit_at-zero (i % 10)
+packed_bit-past_last_word words i past_end = ap (λ w. bit_of w (i % 10)) (get_or_past words (i / 10) 0 (omega arith)) ∙ bit_at-zero (i % 10)
 
 shifted_bit-past_chain_end : (bits level : ℕ) (old new : List ℕ) (i : ℕ) → IsPacked bits old → length new ≡ length old → ((k : ℕ) → k < 10 * length old → packed_bit new k ≡ bit_after_shift level old k) → bits < i → packed_bit new i ≡ 0
 shifted_bit-past_chain_end bits level old new zero p len moved h = absurd (omega arith)
 shifted_bit-past_chain_end bits level old new (suc i) p len moved h =
     elim (cases_lt (suc i) (10 * length old)) [
       | inl l ↦ moved (suc i) l ∙ p.past i (omega arith)
-      | inr gone ↦ packed_bit-past_last_word new (suc i) (omega arith)
+      | inr past_end ↦ packed_bit-past_last_word new (suc i) (omega arith)
     ]
 
 -- If the first bit past the end of the chain is cleared after a shift, all bits past the end are 0.
 pub packed-after_clearing_end : (bits level : ℕ) (old new last : List ℕ) → IsPacked bits old → length new ≡ length old → ((k : ℕ) → slice_index last k < 1024) → length last ≡ length new → ((i : ℕ) → i < 10 * length old → packed_bit new i ≡ bit_after_shift level old i) → packed_bit last bits ≡ 0 → ((k : ℕ) → k ≢ bits → packed_bit last k ≡ packed_bit new k) → IsPacked bits last
-packed-after_clearing_end bits level old new last p len ten_bits len2 moved zero-there others = record {
+packed-after_clearing_end bits level old new last p len ten_bits len2 moved end_zero others = record {
   used = len2 ∙ len ∙ p.used;
   ten_bits = ten_bits;
   past = λ i h.
       elim (cases_eq i bits) [
-        | inl e ↦ ap (packed_bit last) e ∙ zero-there
+        | inl e ↦ ap (packed_bit last) e ∙ end_zero
         | inr ne ↦ others i ne ∙ shifted_bit-past_chain_end bits level old new i p len moved (omega arith)
       ];
 }
@@ -154,7 +154,7 @@ pub chain_bit-at_any_index : (bits : ℕ) (words : List ℕ) (i : ℕ) → IsPac
 chain_bit-at_any_index bits words i p =
     elim (cases_lt i bits) [
       | inl h ↦ chain_bit-at_index bits words i 0 h
-      | inr gone ↦ get_or_past (chain_bits_of bits words) i 0 (let e = length-chain_bits_of bits words in omega arith) ∙ sym (p.past i gone)
+      | inr past_end ↦ get_or_past (chain_bits_of bits words) i 0 (let e = length-chain_bits_of bits words in omega arith) ∙ sym (p.past i past_end)
     ]
 
 pub slice_get-chain_bits_of : (bits : ℕ) (words : List ℕ) (i : ℕ) → i < bits → Some (packed_bit words i) ≡ slice_get (chain_bits_of bits words) i
@@ -168,12 +168,12 @@ chain_bits-below_2 bits words =
     All-from_get_or (λ bit. bit < 2) (chain_bits_of bits words) 0 (λ i l.
     subst (λ bit. bit < 2) (sym (chain_bit-at_index bits words i 0 (let e = length-chain_bits_of bits words in omega arith))) (bit_at-lt (slice_index words (i / 10)) (i % 10)))
 
--- Each bit of a list of zero words is 0.
+-- If all words of a list are 0, each bit that they store is 0.
 packed_bit-zeros : (n i : ℕ) → packed_bit (replicate n 0) i ≡ 0
 packed_bit-zeros n i =
     elim (cases_lt (i / 10) n) [
       | inl l ↦ ap (λ w. bit_of w (i % 10)) (get_or-replicate n (i / 10) 0 0 l) ∙ bit_at-zero (i % 10)
-      | inr gone ↦ ap (λ w. bit_of w (i % 10)) (get_or_past (replicate n 0) (i / 10) 0 (let e = length-replicate {A = ℕ} n 0 in omega arith)) ∙ bit_at-zero (i % 10)
+      | inr past_end ↦ ap (λ w. bit_of w (i % 10)) (get_or_past (replicate n 0) (i / 10) 0 (let e = length-replicate {A = ℕ} n 0 in omega arith)) ∙ bit_at-zero (i % 10)
     ]
 
 pub chain_bits_of-zeros : (bits n : ℕ) → chain_bits_of bits (replicate n 0) ≡ replicate bits 0

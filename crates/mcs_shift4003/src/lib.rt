@@ -92,7 +92,8 @@ fn shift_words(words: &mut [u16], level: Bit)
     }
 }
 
-/// Shifts the first `bits` bits of the words up by one. `level` becomes bit 0, and the last of these bits is lost.
+/// Shifts the first `bits` bits of the words up by one position. `level` becomes bit 0, and the last of these bits is
+/// lost.
 fn shift_bits(words: &mut [u16], bits: usize, level: Bit)
     requires { IsPacked bits words.old }
     ensures len { length words.new ≡ length words.old }

@@ -12,7 +12,7 @@ use Rattle.mcs_source.specs.Spelling.{spelling}
 use Rattle.mcs_source.specs.Spelled.{HasOperandsInRange, IsEncodedBy}
 
 -- Holds if the encoding of the instruction is both words, or only the first word if the instruction
--- has one word. If the second word is a byte, the operands are in range.
+-- has one word. If the second word is a byte, the operands must also be in range.
 abbrev pub IsEncoding : ℕ → ℕ → Op → Type 0
 IsEncoding first second o = (second < 256 → HasOperandsInRange o) × (spelling o ≡ take (word_count_of o) (first ∷ second ∷ []))
 
@@ -53,8 +53,8 @@ first_word_of_odd_row u first h = let e = both_tests_true u 1 (first % 16 % 2) f
 first_word_of_single_code_row : (u k first : ℕ) → (eqb (first / 16) u && eqb (first % 16) k) ≡ true → u * 16 + k ≡ first
 first_word_of_single_code_row u k first h = let e = both_tests_true u k (first % 16) first h in omega (arith, e.0, e.1)
 
-every_row_spells : (first second : ℕ) → AllByRecursion (RowDecodesToEncoding first second) rows
-every_row_spells first second = (
+every_row_decodes_to_encoding : (first second : ℕ) → AllByRecursion (RowDecodesToEncoding first second) rows
+every_row_decodes_to_encoding first second = (
   (λ h. ((λ lt. tt), ap (λ (k : ℕ). k ∷ []) (first_word_of_single_code_row 0 0 first h))),
   (
     (λ h. ((λ lt. (omega arith, lt)), ap (λ (k : ℕ). k ∷ second ∷ []) (first_word_of_row_without_condition 1 first h))),
@@ -197,7 +197,7 @@ decoded_instruction_is_encoding first second o e =
     let Q : Option Row → Type 0 = λ x. find (covers (first / 16) (first % 16)) rows ≡ x → option_map (λ (r : Row). r.op first second) x ≡ Some o → IsEncoding first second o in
     (elim (find (covers (first / 16) (first % 16)) rows) as Q [
       | None ↦ λ found h. absurd (true≢false (ap (λ (x : Option Op). elim x [ Some y ↦ false | None ↦ true ]) h))
-      | Some r ↦ λ found h. subst (IsEncoding first second) (some_op_is_injective (r.op first second) o h) (found_row_satisfies_property (λ r. IsEncoding first second (r.op first second)) (covers (first / 16) (first % 16)) rows (every_row_spells first second) r found)
+      | Some r ↦ λ found h. subst (IsEncoding first second) (some_op_is_injective (r.op first second) o h) (found_row_satisfies_property (λ r. IsEncoding first second (r.op first second)) (covers (first / 16) (first % 16)) rows (every_row_decodes_to_encoding first second) r found)
     ]) refl e
 
 pub decoded_instruction_is_encoded_by_words : (first second : ℕ) (o : Op) → second < 256 → instruction_of first second ≡ Some o → IsEncodedBy first second o

@@ -9,7 +9,7 @@ use Rattle.std.proofs.lemmas.List.Elements.{filter_map-append}
 use Rattle.mcs_source.specs.declared.fault.SourceFault.{SourceFault}
 use Rattle.mcs_source.specs.Lines.{SourceLine}
 use Rattle.mcs_model.specs.TextLines.{lines_of}
-use Rattle.mcs_source.specs.Assembly.{Names, read, ith_line, next_at, address_of, definition, names_before, all_names, line_pairs, pairs_before, first_fault, earliest_first_pass_fault, earliest_second_pass_fault, assembly_of, assembly_of_text}
+use Rattle.mcs_source.specs.Assembly.{Names, read, ith_line, address_after_line, address_of, definition, names_before, all_names, line_pairs, pairs_before, first_fault, earliest_first_pass_fault, earliest_second_pass_fault, assembly_of, assembly_of_text}
 use Rattle.mcs_source.specs.Survey.{span, spans_before}
 use Rattle.mcs_model.proofs.ListLemmas.{range-one-more, find_at}
 use Rattle.mcs_model.specs.Options.{◌>>=◌}
@@ -22,7 +22,7 @@ range_with_next_number i =
     let e : 0 + i ≡ i = omega arith in
     ap (range_with_len 0) plus_one ∙ (range-one-more 0 i ∙ ap (λ (k : ℕ). range_with_len 0 i ++ k ∷ []) e)
 
-pub address_of_next_line : (lines : List (Option SourceLine)) (i : ℕ) → address_of lines (i + 1) ≡ next_at (ith_line lines i) (address_of lines i)
+pub address_of_next_line : (lines : List (Option SourceLine)) (i : ℕ) → address_of lines (i + 1) ≡ address_after_line (ith_line lines i) (address_of lines i)
 unfolding address_of
 address_of_next_line lines i =
     let plus_one : i + 1 ≡ suc i = omega arith in
@@ -48,10 +48,10 @@ spans_before_next_line lines names i =
 -- ---- the first line with an error
 
 -- Holds if no line before line `i` has an error.
-abbrev pub NoFaultBefore : (ℕ → Option SourceFault) → ℕ → Type 0
-NoFaultBefore fault i = (j : ℕ) → j < i → fault j ≡ None
+abbrev pub HasNoFaultBefore : (ℕ → Option SourceFault) → ℕ → Type 0
+HasNoFaultBefore fault i = (j : ℕ) → j < i → fault j ≡ None
 
-pub no_fault_before_next : (fault : ℕ → Option SourceFault) (i : ℕ) → NoFaultBefore fault i → fault i ≡ None → NoFaultBefore fault (i + 1)
+pub no_fault_before_next : (fault : ℕ → Option SourceFault) (i : ℕ) → HasNoFaultBefore fault i → fault i ≡ None → HasNoFaultBefore fault (i + 1)
 no_fault_before_next fault i before here j lt = elim (cases_eq j i) [
   | inl same ↦ rw same here
   | inr other ↦ before j (omega (arith, lt, other))
@@ -66,12 +66,12 @@ find_is_none_if_test_false p a (suc n) h =
 abbrev fault_and_line_number : (ℕ → Option SourceFault) → ℕ → Option (ℕ × SourceFault)
 fault_and_line_number fault i = fault i >>= λ f. Some (i + 1, f)
 
-pub no_first_fault : (fault : ℕ → Option SourceFault) (n : ℕ) → NoFaultBefore fault n → first_fault fault n ≡ None
+pub no_first_fault : (fault : ℕ → Option SourceFault) (n : ℕ) → HasNoFaultBefore fault n → first_fault fault n ≡ None
 no_first_fault fault n none =
     let e : find (λ i. is_some (fault i)) (range_with_len 0 n) ≡ None = find_is_none_if_test_false (λ i. is_some (fault i)) 0 n (λ j lt. ap is_some (none j (omega (arith, lt)))) in
     ap (λ (o : Option ℕ). o >>= fault_and_line_number fault) e
 
-pub first_fault_at : (fault : ℕ → Option SourceFault) (n i : ℕ) (f : SourceFault) → i < n → NoFaultBefore fault i → fault i ≡ Some f → first_fault fault n ≡ Some (i + 1, f)
+pub first_fault_at : (fault : ℕ → Option SourceFault) (n i : ℕ) (f : SourceFault) → i < n → HasNoFaultBefore fault i → fault i ≡ Some f → first_fault fault n ≡ Some (i + 1, f)
 first_fault_at fault n i f lt before here =
     let e : find (λ i. is_some (fault i)) (range_with_len 0 n) ≡ Some i = find_at (λ i. is_some (fault i)) 0 n i (omega arith) (omega (arith, lt)) (λ j less. ap is_some (before j less)) (ap is_some here) in
     ap (λ (o : Option ℕ). o >>= fault_and_line_number fault) e ∙ ap (λ (o : Option SourceFault). o >>= λ g. Some (i + 1, g)) here
@@ -89,7 +89,7 @@ no_fault_if_none_found_in_range fault a (suc n) e j low high =
     ]) refl e
 
 -- if `first_fault` finds no error in the lines before line `n`, none of these lines has an error
-pub no_fault_before_if_first_fault_is_none : (fault : ℕ → Option SourceFault) (n : ℕ) → first_fault fault n ≡ None → NoFaultBefore fault n
+pub no_fault_before_if_first_fault_is_none : (fault : ℕ → Option SourceFault) (n : ℕ) → first_fault fault n ≡ None → HasNoFaultBefore fault n
 no_fault_before_if_first_fault_is_none fault n e j lt = no_fault_if_none_found_in_range fault 0 n e j (omega arith) (omega (arith, lt))
 
 -- ---- the whole text

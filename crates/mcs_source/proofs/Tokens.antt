@@ -36,7 +36,6 @@ space_or_tab_if_test_true true t b p q e = inl (eqb-true _ _ p)
 space_or_tab_if_test_true false true b p q e = inr (eqb-true _ _ q)
 space_or_tab_if_test_true false false b p q e = absurd cc
 
--- a blank is not a word byte
 pub blank_is_no_word_byte : (b : ℕ) → is_blank b ≡ true → is_word_byte b ≡ false
 blank_is_no_word_byte b e = space_or_tab_is_no_word_byte b (space_or_tab_if_test_true (eqb b 32) (eqb b 9) b refl refl e)
 
@@ -115,6 +114,6 @@ tokens_of_word_before_spaced_line word (b ∷ bytes) all =
       ])
     ]) refl refl refl
 
-pub byte_by_byte : (line : List ℕ) → tokens line ≡ tokens_after [] line
+pub tokens_byte_by_byte : (line : List ℕ) → tokens line ≡ tokens_after [] line
 unfolding tokens
-byte_by_byte line = tokens_of_word_before_spaced_line [] line refl
+tokens_byte_by_byte line = tokens_of_word_before_spaced_line [] line refl

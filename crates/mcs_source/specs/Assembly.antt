@@ -49,20 +49,20 @@ statement_size None = 0
 statement_size (Some s) = size s
 
 -- the address after a statement: `ORG` sets it, any other statement adds its size
-abbrev pub next_statement : Option Statement → ℕ → ℕ
-next_statement (Some (Origin n)) at = n
-next_statement s at = at + statement_size s
+abbrev pub address_after_statement : Option Statement → ℕ → ℕ
+address_after_statement (Some (Origin n)) at = n
+address_after_statement s at = at + statement_size s
 
 -- the address after a line that starts at address `at`
-abbrev pub next_at : Option SourceLine → ℕ → ℕ
-next_at (Some (Code label s)) at = next_statement s at
-next_at (Some (Define w n)) at = at
-next_at None at = at
+abbrev pub address_after_line : Option SourceLine → ℕ → ℕ
+address_after_line (Some (Code label s)) at = address_after_statement s at
+address_after_line (Some (Define w n)) at = at
+address_after_line None at = at
 
 -- the address at which line `i` starts; line 0 starts at address 0
 unfoldable pub address_of : List (Option SourceLine) → ℕ → ℕ
 address_of lines zero = 0
-address_of lines (suc i) = next_at (ith_line lines i) (address_of lines i)
+address_of lines (suc i) = address_after_line (ith_line lines i) (address_of lines i)
 
 -- ---- names
 
@@ -71,7 +71,8 @@ abbrev pub Names : Type 0
 Names = List (List ℕ × ℕ)
 
 -- The name that a line defines, with its value. The value of a label is the address at which its
--- line starts, even if the line is an `ORG`. The value in `NAME = NUMBER` is the number.
+-- line starts, even if the line is an `ORG`. `NAME = NUMBER` gives the name the value of the
+-- number.
 abbrev pub definition : Option SourceLine → ℕ → Option (List ℕ × ℕ)
 definition (Some (Code label s)) at = option_map (λ w. (w, at)) label
 definition (Some (Define w n)) at = Some (w, n)
@@ -136,7 +137,7 @@ first_pass_line_fault at names (Some line) =
 unfoldable pub first_pass_fault : List (Option SourceLine) → ℕ → Option SourceFault
 first_pass_fault lines i = first_pass_line_fault (address_of lines i) (names_before lines i) (ith_line lines i)
 
--- ---- the bytes of a line, if the values of all names are given
+-- ---- the bytes of a line, for given values of all names
 
 -- the value that the first definition of a name gives it, or `None` if no line defines the name
 abbrev pub value_of : List ℕ → Names → Option ℕ

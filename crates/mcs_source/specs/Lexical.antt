@@ -4,8 +4,8 @@ use Rattle.std.specs.List.{before_first, flat_map}
 use Rattle.std.specs.Char.{is_ascii_digit, is_ascii_uppercase, is_ascii_lowercase}
 use Rattle.mcs_model.specs.TextLines.{is_blank, words_of}
 
--- A token of a source line. A word is a run of letters, digits and `_`. `Other` is any other byte
--- that is not a blank, for example a non-ASCII byte.
+-- A token of a source line. A word is a sequence of letters, digits and `_`. `Other` is any other
+-- byte that is not a blank, for example a non-ASCII byte.
 pub data Token : Type 0 where
   Word : List ℕ → Token
   Comma : Token
@@ -25,7 +25,7 @@ symbol b = if b == 44 then Comma else if b == 58 then Colon else if b == 61 then
 abbrev pub with_symbol_spaced : ℕ → List ℕ
 with_symbol_spaced b = if is_word_byte b || is_blank b then b ∷ [] else 32 ∷ b ∷ 32 ∷ []
 
--- the token for a run of bytes without blanks: a word or a single symbol
+-- the token for a sequence of bytes without blanks: a word or a single symbol
 abbrev pub token_of : List ℕ → Token
 token_of [] = Other
 token_of (b ∷ word) = if is_word_byte b then Word (b ∷ word) else symbol b

@@ -52,8 +52,8 @@ abbrev pub pair_named : List ℕ → Option ℕ
 pair_named (b ∷ d ∷ []) = if (b == 80 || b == 112) && is_in_range 48 55 d then Some (d - 48) else None
 pair_named word = None
 
--- True if a word is reserved, in upper or lower case: a mnemonic, `ORG`, `DB`, `WPM`, a register or
--- a pair. A reserved word cannot be a name.
+-- True if a word is reserved, regardless of case: a mnemonic, `ORG`, `DB`, `WPM`, a register or a
+-- pair. A reserved word cannot be a name.
 unfoldable pub is_reserved : List ℕ → Bool
 is_reserved w =
     is_some (mnemonic_of w) || (str_eq_ignore_ascii_case w (codes "WPM")
@@ -67,8 +67,8 @@ is_name w = (starts_like_name w && nat_le (length w) NAME_BYTES) && not (is_rese
 abbrev pub name_of : List ℕ → Option Operand
 name_of w = if is_name w then Some (Name w) else None
 
--- the first argument as an operand, capped at 2^32, if it is a number; otherwise the second
--- argument. No word is both a number and a name.
+-- The operand for a number, capped at 2^32, or the operand `name` if there is no number. No word is
+-- both a number and a name.
 abbrev pub number_or_name : Option ℕ → Option Operand → Option Operand
 number_or_name (Some n) name = Some (Number (capped_number n))
 number_or_name None name = name
@@ -81,7 +81,8 @@ abbrev pub single_word : List Token → Option (List ℕ)
 single_word (Word w ∷ []) = Some w
 single_word ts = None
 
--- the first token, if it is a word and a comma follows it, and the tokens after the comma
+-- the first token and the tokens after the comma, if the first token is a word and a comma follows
+-- it
 abbrev pub word_before_comma : List Token → Option (List ℕ × List Token)
 word_before_comma (Word w ∷ Comma ∷ ts) = Some (w, ts)
 word_before_comma ts = None
@@ -167,12 +168,12 @@ code_line label (t ∷ ts) = statement_of (t ∷ ts) >>= λ s. Some (Code label 
 
 -- the line that the tokens form, if they do not begin with a label: the definition of a name, or an
 -- optional statement; `None` if they have no valid form
-abbrev pub unlabelled : List Token → Option SourceLine
-unlabelled (Word w ∷ Equals ∷ ts) =
+abbrev pub unlabelled_line : List Token → Option SourceLine
+unlabelled_line (Word w ∷ Equals ∷ ts) =
     if is_name w then (one_number ts >>= λ n. Some (Define w n)) else None
-unlabelled ts = code_line None ts
+unlabelled_line ts = code_line None ts
 
 -- the line that the tokens form, or `None` if they have no valid form
 abbrev pub line_of : List Token → Option SourceLine
 line_of (Word w ∷ Colon ∷ ts) = if is_name w then code_line (Some w) ts else None
-line_of ts = unlabelled ts
+line_of ts = unlabelled_line ts

@@ -11,8 +11,8 @@ use Rattle.mcs_source.specs.InstructionNames.{name}
 use Rattle.mcs_source.specs.declared.mnemonic.Mnemonic.{Mnemonic}
 use Rattle.mcs_source.specs.declared.mnemonic.Mnemonic.TheVariants as m
 
--- The entry for a word in a table, regardless of case. The operands of the instructions in the
--- tables below are 0, but only the names of the instructions are used.
+-- The entry for a word in a table, regardless of case. Each operand in the tables below is 0,
+-- because only the names of the instructions are used.
 abbrev pub mnemonic_lookup : List ℕ → List (List ℕ × Mnemonic) → Option Mnemonic
 mnemonic_lookup w rows = lookup_entry (str_eq_ignore_ascii_case w) rows
 

@@ -106,7 +106,7 @@ listing_lines (suc most) at (b ∷ rest) =
     ∷ listing_lines most (at + piece_size (op_at b rest))
     (drop (piece_size (op_at b rest) - 1) rest)
 
--- the listing of a ROM that starts at address `from`: at most `lines` lines, each followed by LF;
--- the listing stops after address FFF
+-- the listing of a ROM from address `from`: at most `lines` lines, each followed by LF; the listing
+-- stops after address FFF
 abbrev pub listing_text : List ℕ → ℕ → ℕ → List ℕ
 listing_text rom from lines = text_of (listing_lines lines from (drop from rom))

@@ -26,7 +26,7 @@ pub enum SourceFault {
     /// The line emits a byte at an address that an earlier line has filled (refusal 35).
     #[error("an earlier line fills the address")]
     Overlap,
-    /// The line has a label at address 4096, or emits a byte at address 4096 or above (refusal 36).
+    /// The line has a label at address 4096 or above, or emits a byte there (refusal 36).
     #[error("the address is past the end of the ROM")]
     PastEnd,
     /// The line defines a 513th name (refusal 37).

@@ -14,9 +14,9 @@ no_stop_reason-at_start stops n s l inside =
     let not_at_end : eqb 0 n ≡ false = grind (arith, nat_tests) in
     rw (inside, no_watch_changed, not_at_end) refl
 
-stop_reason-if_not_ended : (out broken changed ended : Bool) → ended ≡ false → cond out (Some Outside) (cond broken (Some Breakpoint) (cond changed (Some Watched) (cond ended (Some Ended) None))) ≡ cond out (Some Outside) (cond broken (Some Breakpoint) (cond changed (Some Watched) None))
-stop_reason-if_not_ended out broken changed true e = absurd (cc)
-stop_reason-if_not_ended out broken changed false e = refl
+stop_reason-if_not_ended : (out at_breakpoint changed ended : Bool) → ended ≡ false → cond out (Some Outside) (cond at_breakpoint (Some Breakpoint) (cond changed (Some Watched) (cond ended (Some Ended) None))) ≡ cond out (Some Outside) (cond at_breakpoint (Some Breakpoint) (cond changed (Some Watched) None))
+stop_reason-if_not_ended out at_breakpoint changed true e = absurd (cc)
+stop_reason-if_not_ended out at_breakpoint changed false e = refl
 
 -- before its last cycle, a run stops only for the reasons of `early_stop_reason`
 pub stop_reason-before_last_cycle : (stops : StopConditions) (n k : ℕ) (s t : Machine) → 0 < k → k < n → stop_reason_at stops n k s t ≡ early_stop_reason stops s t

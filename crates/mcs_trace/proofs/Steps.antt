@@ -38,7 +38,7 @@ after_cycles-next k s t e = ap (after_cycles 1) e ∙ (let suc_is_plus_one : suc
 no_instruction_begun-if_owed : (k : ℕ) (s : Machine) → (after_cycles k s).0.owed ≡ 1 → instruction_begun_at s k ≡ []
 no_instruction_begun-if_owed k s e = rw e refl
 
--- the cycles of one instruction begin at most one instruction
+-- the first `j` cycles of an instruction begin at most that instruction
 instructions_begun-within_instruction : (left k d : ℕ) (s t u : Machine) → t ≡ after_cycles k s → IsInstructionRun left t u d → (j : ℕ) → 0 < j → j ≤ d → instructions_begun_within (k + j) s ≡ instructions_begun_within k s ++ instruction_begun_at s k
 instructions_begun-within_instruction left k d s t u at ran zero some l = absurd (omega arith)
 instructions_begun-within_instruction left k d s t u at ran (suc zero) some l = instructions_begun-in_one_more_cycle k s

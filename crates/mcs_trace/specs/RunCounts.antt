@@ -4,9 +4,9 @@ use Rattle.mcs_model.specs.Running.{Machine, StopConditions, run_length, run_sto
 use Rattle.mcs_probe.specs.Forecast.{instructions_begun_in, runs_at, jumps_at}
 use Rattle.mcs_trace.specs.declared.counting.Counts.{Counts}
 
--- the list `xs`, with the element at index `at` increased by 1 if `counts` is true
+-- the list `xs`, with the element at index `at` increased by 1 if `is_counted` is true
 abbrev pub incremented_if : List ℕ → Bool → ℕ → List ℕ
-incremented_if xs counts at = if counts then slice_set xs at (slice_index xs at + 1) else xs
+incremented_if xs is_counted at = if is_counted then slice_set xs at (slice_index xs at + 1) else xs
 
 -- holds if the list contains `count at` for each of the 4,096 addresses
 pub record IsTally (xs : List ℕ) (count : ℕ → ℕ) : Type 0 where

@@ -99,10 +99,10 @@ pub fn count_run(alloc: Global, n: u32, bench: &Bench) -> Result<Counts, AllocEr
         let _at = before.pc.get();
         match copy.continue_run(n - done) {
             None => return Ok(counts_of(&copy, done, None, runs, jumps)),
-            Some(went) => {
+            Some(executed) => {
                 count_instruction(&mut runs, &mut jumps, &before, &copy.regs());
-                done += went.cycles;
-                if let Some(why) = went.mark {
+                done += executed.cycles;
+                if let Some(why) = executed.mark {
                     return Ok(counts_of(&copy, done, Some(why), runs, jumps));
                 }
             }

@@ -18,8 +18,8 @@ use Rattle.mcs_model.proofs.ValidBoardLemmas.{no_fault, sound}
 
 -- ---- tests of all elements of a list
 
--- if each element that satisfies neither `p` nor `q` does not satisfy `r`, and no element satisfies
--- `p` or `q`, then no element satisfies `r`
+-- if `r` is false wherever `p` and `q` are both false, and no element satisfies `p` or `q`, then no
+-- element satisfies `r`
 list_any-false-if-others-false : {A : Type 0} (p q r : A → Bool) → ((x : A) → p x ≡ false → q x ≡ false → r x ≡ false) → (xs : List A) → list_any p xs ≡ false → list_any q xs ≡ false → list_any r xs ≡ false
 list_any-false-if-others-false p q r f [] e g = refl
 list_any-false-if-others-false p q r f (x ∷ xs) e g =
@@ -49,11 +49,11 @@ chain-of-small-board-is-short b n s =
 -- ---- lines
 
 line-in-range-1-on-small-board : (b : BoardParts) → IsSmall b → (line : Line) → not (is_on_board b line) ≡ false → not (in_range line) ≡ false → not (in_range_1 line) ≡ false
-line-in-range-1-on-small-board b s (Rom chip j) there fits = fits
-line-in-range-1-on-small-board b s (Ram bank chip j) there fits = fits
-line-in-range-1-on-small-board b s (Chain n i) there fits =
+line-in-range-1-on-small-board b s (Rom chip j) on_board fits = fits
+line-in-range-1-on-small-board b s (Ram bank chip j) on_board fits = fits
+line-in-range-1-on-small-board b s (Chain n i) on_board fits =
     let few_chains = s.few in
-    let bit_in_chain : i < 10 * (chain_part b n).chips = ltb-true _ _ (not-false _ there) in
+    let bit_in_chain : i < 10 * (chain_part b n).chips = ltb-true _ _ (not-false _ on_board) in
     let short_chain = chain-of-small-board-is-short b n s in
     let inside : n < 2 =
     elim (cases_lt n (length b.chains.items)) [
@@ -81,9 +81,9 @@ columns-false-if-others-false p q r f None e g = refl
 columns-false-if-others-false p q r f (Some m) e g = list_any-false-if-others-false p q r f m.columns.items e g
 
 any_line-false-if-others-false : (p q r : Line → Bool) → ((x : Line) → p x ≡ false → q x ≡ false → r x ≡ false) → (b : BoardParts) → any_line p b ≡ false → any_line q b ≡ false → any_line r b ≡ false
-any_line-false-if-others-false p q r f b there fits =
-    let t1 = or_parts (any_chain_line p b || any_column p b) (any_lamp p b) there in let t2 = or_parts (any_chain_line p b) (any_column p b) t1.0 in
-    let f1 = or_parts (any_chain_line q b || any_column q b) (any_lamp q b) fits in let f2 = or_parts (any_chain_line q b) (any_column q b) f1.0 in
+any_line-false-if-others-false p q r f b p_false q_false =
+    let t1 = or_parts (any_chain_line p b || any_column p b) (any_lamp p b) p_false in let t2 = or_parts (any_chain_line p b) (any_column p b) t1.0 in
+    let f1 = or_parts (any_chain_line q b || any_column q b) (any_lamp q b) q_false in let f2 = or_parts (any_chain_line q b) (any_column q b) f1.0 in
     or_from (any_chain_line r b || any_column r b) (any_lamp r b)
     (or_from (any_chain_line r b) (any_column r b)
     (list_any-false-if-others-false (λ (c : ChainPart). p c.clock || p c.data_in) (λ (c : ChainPart). q c.clock || q c.data_in) (λ (c : ChainPart). r c.clock || r c.data_in)
@@ -145,10 +145,10 @@ matrix-size-if-matrix-size-1 (Some m) h =
 
 matrix-size-1-on-small-board : (b : BoardParts) → IsSmall b → (keys : Option KeyMatrix) → elim keys [ Some m ↦ nat_le (chain_count b) m.chain || nat_lt (chain_bits b m.chain) (m.first + m.rows) | None ↦ false ] ≡ false
     → elim keys [ Some m ↦ not (is_matrix_size m) | None ↦ false ] ≡ false → elim keys [ Some m ↦ not (is_matrix_size_1 m) | None ↦ false ] ≡ false
-matrix-size-1-on-small-board b s None there h = refl
-matrix-size-1-on-small-board b s (Some m) there h =
+matrix-size-1-on-small-board b s None rows_exist h = refl
+matrix-size-1-on-small-board b s (Some m) rows_exist h =
     let w = matrix-has-sizes CHAINS CHAIN_BITS m (not-false _ h) in
-    let t = or_parts (nat_le (chain_count b) m.chain) (nat_lt (chain_bits b m.chain) (m.first + m.rows)) there in
+    let t = or_parts (nat_le (chain_count b) m.chain) (nat_lt (chain_bits b m.chain) (m.first + m.rows)) rows_exist in
     let few_chains = s.few in
     let short_chain = chain-of-small-board-is-short b m.chain s in
     let rows : 0 < m.rows = ltb-true _ _ w.some in

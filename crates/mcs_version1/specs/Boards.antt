@@ -35,7 +35,7 @@ is_matrix_size_1 m =
 abbrev pub has_bad_matrix_1 : BoardParts → Bool
 has_bad_matrix_1 b = elim b.keys [ Some m ↦ not (is_matrix_size_1 m) | None ↦ false ]
 
--- true if any number in the parts is out of range in version 1
+-- true if any number in the parts is out of range in version 1, or a key matrix has no columns
 abbrev pub has_bad_value_1 : BoardParts → Bool
 has_bad_value_1 b =
     list_any (λ n. nat_lt BANK_CHIPS n) b.banks

@@ -1,6 +1,6 @@
--- The effects of commands in version 1, which has no watches and only small boards. For a command
--- that version 1 does not have (`is_command_of_version_1` is false), the other definitions have no
--- meaning.
+-- The commands that a bench of version 1 accepts, their effects and its replies. Version 1 has no
+-- watches and only small boards. For a command that version 1 does not have
+-- (`is_command_of_version_1` is false), the other definitions have no meaning.
 use Rattle.std.specs.Prelude.{Bool, true, false, ◌+◌, ◌==◌, ◌&&◌, ◌||◌, length, Option, Some, None, nat_lt, nat_le, slice_set, if◌then◌else◌}
 use Rattle.std.specs.List.{list_any}
 use Rattle.mcs_model.specs.declared.command.Command.{Command}
@@ -109,8 +109,8 @@ after_change_1 s (Break at) = record s { breakpoints = with_listed s.breakpoints
 after_change_1 s (Unbreak at) = record s { breakpoints = without_listed s.breakpoints at }
 after_change_1 s _ = s
 
--- The state after an accepted command. Every accepted command adds 1 to the count, even if nothing
--- else changes.
+-- The state after an accepted command. Every accepted command adds 1 to the number of accepted
+-- commands (`seq`), even if nothing else changes.
 abbrev pub after_1 : BenchState1 → Command → BenchState1
 after_1 s c = record (after_change_1 s c) { seq = s.seq + 1 }
 

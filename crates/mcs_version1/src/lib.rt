@@ -1,5 +1,5 @@
-//! Version 1 of the bench: its definitions, and theorems that version 2 treats its commands and
-//! queries in the same way.
+//! Version 1 of the bench: its definitions, and theorems that version 2 treats the commands and queries of version 1 in
+//! the same way.
 #![tactic(auto)]
 
 pub mod laws;

@@ -33,14 +33,14 @@ struct ServedSession {
 /// Writes a new session to a file of `FILE_SIZE` bytes. Fails if memory runs out, and then leaves the file unchanged.
 pub fn begin(alloc: Global, file: &mut [u8]) -> Result<(), AllocError>
     requires size { length file.old ≡ FILE_SIZE }
-    ensures made { OnOk result (IsNewFile file.new) }
+    ensures created { OnOk result (IsNewFile file.new) }
     ensures unchanged { OnErr result (file.new ≡ file.old) }
 {
     let disk = MemDisk::new(alloc, FILE_SIZE)?;
-    let Ok(opened) = Session::create(alloc, disk) else {
+    let Ok(new_session) = Session::create(alloc, disk) else {
         return Err(AllocError);
     };
-    write_back(&opened.into_disk(), file);
+    write_back(&new_session.into_disk(), file);
     Ok(())
 }
 

@@ -24,7 +24,7 @@ use Rattle.mcs_wiring.specs.LineNames.{below_or_none, number_below, text_after_p
 use Rattle.mcs_wiring.specs.Wiring.{within_or_none, number_at, line_in, line_at, part_of, ram_in, chain_in, matrix_in, lamp_in, values_at, names_no_line, are_malformed_columns, has_bad_columns, is_malformed, has_malformed_value, section_values, any_section_entry, has_value_that_is_not_array, keys_table, part_at, rams_of, parts_in}
 use Rattle.mcs_wiring.specs.Format.{sections}
 
--- ---- the value that the first of two optional steps returned
+-- ---- optional values
 
 first_value_of_option_and_then : {A B : Type 0} (o : Option A) (f : A → Option B) (y : B) → option_and_then f o ≡ Some y → (x : A) × (o ≡ Some x) × (f x ≡ Some y)
 first_value_of_option_and_then None f y e = cc
@@ -100,7 +100,8 @@ line_of_any_prefix_in_range None None c l e = let (rest, _, read) = first_value_
 line_named_in_range : (text : List ℕ) (l : Line) → line_named text ≡ Some l → boards.in_range l ≡ true
 line_named_in_range text l e = line_of_any_prefix_in_range (text_after_prefix (codes "rom") text) (text_after_prefix (codes "ram") text) (text_after_prefix (codes "chain") text) l e
 
--- true if a line is out of range; the lemmas below show that this is false for each line in a table
+-- true if a line is out of range; the lemmas below show that this is false for each line that a
+-- table names
 abbrev is_out_of_range : Line → Bool
 is_out_of_range l = not (boards.in_range l)
 
@@ -243,15 +244,15 @@ keys_in_range ms h =
 lamp_in_range : (d : Data) (l : Line) → part_of lamp_in d ≡ Some l → is_out_of_range l ≡ false
 lamp_in_range d l e = let (ms, _, read) = first_value_of_option_and_then (as_table d) lamp_in l e in line_at_key_in_range (codes "line") ms l read
 
-six_conditions_false : (a b c d e f : Bool) → a ≡ false → b ≡ false → c ≡ false → d ≡ false → e ≡ false → f ≡ false → (((a || b) || c) || ((d || e) || f)) ≡ false
-six_conditions_false a b c d e f ha hb hc hd he hf = rw (ha, hb, hc, hd, he, hf) refl
+or_of_six_false_conditions : (a b c d e f : Bool) → a ≡ false → b ≡ false → c ≡ false → d ≡ false → e ≡ false → f ≡ false → (((a || b) || c) || ((d || e) || f)) ≡ false
+or_of_six_false_conditions a b c d e f ha hb hc hd he hf = rw (ha, hb, hc, hd, he, hf) refl
 
 pub no_bad_value_in_parts : (ms : Members) → has_malformed_value ms ≡ false → boards.has_bad_value (parts_in ms) ≡ false
 no_bad_value_in_parts ms h =
     let b = parts_in ms in
     let chains = values_at (codes "chain") ms in
     let keys = keys_in_range ms h in
-    six_conditions_false (list_any exceeds_bank_chips b.banks) (list_any (λ c. not (boards.is_chain_size c)) b.chains.items) (boards.has_bad_matrix b)
+    or_of_six_false_conditions (list_any exceeds_bank_chips b.banks) (list_any (λ c. not (boards.is_chain_size c)) b.chains.items) (boards.has_bad_matrix b)
     (boards.any_chain_line is_out_of_range b) (boards.any_column is_out_of_range b) (boards.any_lamp is_out_of_range b)
     (all_banks_within_limit ms) (test_false_for_filter_map (λ c. not (boards.is_chain_size c)) (part_of chain_in) (λ d c e. (chain_part_in_range d c e).0) chains) keys.0
     (test_false_for_filter_map (λ (c : ChainPart). is_out_of_range c.clock || is_out_of_range c.data_in) (part_of chain_in) (λ d c e. (chain_part_in_range d c e).1) chains) keys.1

@@ -54,7 +54,8 @@ line_after_of_split_text holds n found before rest line after more cut is =
     ap (line_after holds n found before) cut ∙ (line_after_of_line_before_others holds n found before line (slice_split is_line_feed after) (text_has_a_line after)
     ∙ ap (λ (m : List ℕ). line_after holds (n + 1) (if holds m then n + 1 else found) m (slice_split is_line_feed after)) (sym is))
 
--- the loop invariant remains true after a line for which `holds` is false
+-- the invariant of a loop that computes `line_from` remains true after a line for which `holds` is
+-- false
 pub line_from_kept_if_test_false : (holds : List ℕ → Bool) (n result : ℕ) (before rest line after more : List ℕ) (b : Bool) → slice_split is_line_feed rest ≡ line ∷ slice_split is_line_feed after → more ≡ before ++ as_line line → b ≡ holds more → b ≡ false
     → line_from holds n before (slice_split is_line_feed rest) ≡ result → line_from holds (n + 1) more (slice_split is_line_feed after) ≡ result
 line_from_kept_if_test_false holds n result before rest line after more b cut is test fails inv =

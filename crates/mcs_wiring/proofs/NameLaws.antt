@@ -8,15 +8,15 @@ use Rattle.mcs_model.specs.declared.board.Line.{Line}
 use Rattle.mcs_model.specs.declared.board.Line.TheVariants.{Rom, Ram, Chain}
 use Rattle.mcs_model.specs.declared.limits.TheConstants.{ROMS, BANKS, BANK_CHIPS, CHAINS, CHAIN_BITS}
 use Rattle.mcs_model.specs.Boards.{in_range}
-use Rattle.mcs_wiring.specs.LineNames.{line_name, line_named, masks_named, port_name}
+use Rattle.mcs_wiring.specs.LineNames.{line_name, line_named, masks_named, port_text}
 use Rattle.mcs_nibble.proofs.PortLemmas.{mask_of-mask_character}
 
 -- ---- ports
 
-pub port_text_parses_back : (m0 m1 m2 m3 : LineMask) → masks_named (port_name (m0 ∷ m1 ∷ m2 ∷ m3 ∷ [])) ≡ Some (m0 ∷ m1 ∷ m2 ∷ m3 ∷ [])
+pub port_text_parses_back : (m0 m1 m2 m3 : LineMask) → masks_named (port_text (m0 ∷ m1 ∷ m2 ∷ m3 ∷ [])) ≡ Some (m0 ∷ m1 ∷ m2 ∷ m3 ∷ [])
 port_text_parses_back m0 m1 m2 m3 = rw (mask_of-mask_character m0, mask_of-mask_character m1, mask_of-mask_character m2, mask_of-mask_character m3) refl
 
--- ---- lines: for every line in range, the proof computes that the line's name parses back
+-- ---- lines: the proof parses the name of every line in range
 
 abbrev same_line : Option Line → Line → Bool
 same_line (Some (Rom a b)) (Rom c d) = eqb a c && eqb b d
@@ -39,7 +39,7 @@ chain_lines_parse_back : list_all (λ n. list_all (λ i. parses_back (Chain n i)
 unfolding digits
 chain_lines_parse_back = refl
 
--- ---- a test that is true for all numbers in a range is true for each of these numbers
+-- ---- if `list_all` is true for a range, the test is true for each number in the range
 
 test_true_for_each_in_range : (p : ℕ → Bool) (a n k : ℕ) → list_all p (range_with_len a n) ≡ true → k < n → p (a + k) ≡ true
 test_true_for_each_in_range p a zero k h lt = absurd (omega arith)

@@ -1,4 +1,4 @@
--- The error of a table is never `NoMemory`.
+-- `board_of_table` never gives the error `NoMemory`.
 use Rattle.std.proofs.Common.{◌≡◌, Bool, true, false, Result, Err, if◌then◌else◌}
 use Rattle.toml.specs.Data.{Members}
 use Rattle.mcs_model.specs.declared.board.BoardParts.{BoardParts}
@@ -10,17 +10,17 @@ use Rattle.mcs_wiring.specs.Wiring.{has_unknown_key, has_missing_key, has_malfor
 abbrev BoardResult : Type 0
 BoardResult = Result BoardParts WiringFault
 
-not_no_memory_if_neither_is : (b : Bool) (fault : WiringFault) (r : BoardResult) → (fault ≡ NoMemory → ⊥) → (r ≡ Err NoMemory → ⊥) → (if b then Err fault else r) ≡ Err NoMemory → ⊥
-not_no_memory_if_neither_is true fault r here later e = here (cc)
-not_no_memory_if_neither_is false fault r here later e = later e
+never_no_memory_if_in_neither_branch : (b : Bool) (fault : WiringFault) (r : BoardResult) → (fault ≡ NoMemory → ⊥) → (r ≡ Err NoMemory → ⊥) → (if b then Err fault else r) ≡ Err NoMemory → ⊥
+never_no_memory_if_in_neither_branch true fault r here later e = here (cc)
+never_no_memory_if_in_neither_branch false fault r here later e = later e
 
 pub never_no_memory : (ms : Members) → board_of_table ms ≡ Err NoMemory → ⊥
 unfolding board_of_table
 never_no_memory ms =
-    not_no_memory_if_neither_is (has_unknown_key ms) UnknownKey _ (λ e. cc) (
-    not_no_memory_if_neither_is (has_missing_key ms) MissingKey _ (λ e. cc) (
-    not_no_memory_if_neither_is (has_malformed_value ms) BadValue _ (λ e. cc) (
-    not_no_memory_if_neither_is (has_too_many ms) TooManyParts _ (λ e. cc) (
-    not_no_memory_if_neither_is (has_double_chip ms) DoubleChip _ (λ e. cc) (
-    not_no_memory_if_neither_is (lacks_line (parts_in ms)) NoSuchLine _ (λ e. cc) (
-    not_no_memory_if_neither_is (has_wrong_direction (parts_in ms)) WrongDirection _ (λ e. cc) (λ e. cc)))))))
+    never_no_memory_if_in_neither_branch (has_unknown_key ms) UnknownKey _ (λ e. cc) (
+    never_no_memory_if_in_neither_branch (has_missing_key ms) MissingKey _ (λ e. cc) (
+    never_no_memory_if_in_neither_branch (has_malformed_value ms) BadValue _ (λ e. cc) (
+    never_no_memory_if_in_neither_branch (has_too_many ms) TooManyParts _ (λ e. cc) (
+    never_no_memory_if_in_neither_branch (has_double_chip ms) DoubleChip _ (λ e. cc) (
+    never_no_memory_if_in_neither_branch (lacks_line (parts_in ms)) NoSuchLine _ (λ e. cc) (
+    never_no_memory_if_in_neither_branch (has_wrong_direction (parts_in ms)) WrongDirection _ (λ e. cc) (λ e. cc)))))))

@@ -14,8 +14,7 @@ use Rattle.mcs_wiring.specs.declared.sections.Numbered.{Numbered}
 use Rattle.mcs_wiring.specs.declared.sections.Section.{Section}
 use Rattle.mcs_wiring.specs.Parts.{Part, first_flawed_from, first_repeated_from, wrong_chain_from, wrong_lamp_from}
 
--- The search of the values from index `i` equals the search of value `i` followed by the later
--- values.
+-- A search from index `i` searches value `i`, then the later values.
 pub first_flawed_from_index : (f : Flaw) (s : Section) (vs : List Value) (i : ℕ) (v : Value) → i < length vs → v ≡ get_or vs i v → first_flawed_from f s i (map view (drop i vs)) ≡ first_flawed_from f s i (view v ∷ map view (drop (i + 1) vs))
 first_flawed_from_index f s vs i v lt is = ap (λ xs. first_flawed_from f s i (map view xs)) (drop_more vs i v lt) ∙ ap (λ x. first_flawed_from f s i (view x ∷ map view (drop (i + 1) vs))) (sym is)
 

@@ -7,7 +7,7 @@ use Rattle.mcs_nibble.specs.Ports.{mask_at, mask_character}
 use Rattle.mcs_model.specs.declared.board.ChainPart.{ChainPart}
 use Rattle.mcs_model.specs.declared.board.KeyMatrix.{KeyMatrix}
 use Rattle.mcs_model.specs.declared.board.Line.{Line}
-use Rattle.mcs_wiring.specs.LineNames.{port_name}
+use Rattle.mcs_wiring.specs.LineNames.{port_text}
 use Rattle.std.specs.Option.{option_map_or}
 use Rattle.std.proofs.lemmas.List.{flat_map_more, take_more}
 use Rattle.std.proofs.lemmas.List.Concat.{flat_map-append}
@@ -78,7 +78,7 @@ pub rom_text_from_pieces : (a f m3 m2 m1 m0 : List ℕ) (chip : ℕ) (masks : Li
     → f ≡ a ++ (codes "[[rom]]\nchip = " ++ (decimal chip ++ (codes "\nport = \"" ++ (m3 ++ (m2 ++ (m1 ++ (m0 ++ codes "\"\n")))))))
     → f ≡ a ++ text_of (rom_lines chip (Some masks))
 rom_text_from_pieces a f m3 m2 m1 m0 chip masks e3 e2 e1 e0 h =
-    let port = codes "port = \"" ++ (port_name masks ++ codes "\"\n") in
+    let port = codes "port = \"" ++ (port_text masks ++ codes "\"\n") in
     rw (h, e3, e2, e1, e0) (simp append_assoc (rw (append_assoc (decimal chip) (10 ∷ []) port) refl))
 
 pub chain_text_from_pieces : (a b c d e f : List ℕ) (p : ChainPart) → b ≡ a ++ codes "[[chain]]\nclock = " → c ≡ b ++ quoted_name p.clock → d ≡ c ++ codes "\ndata = " → e ≡ d ++ quoted_name p.data_in

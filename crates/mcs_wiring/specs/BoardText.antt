@@ -12,7 +12,7 @@ use Rattle.mcs_model.specs.declared.board.Line.{Line}
 use Rattle.mcs_model.specs.declared.limits.TheConstants.{ROMS, BANKS}
 use Rattle.mcs_model.specs.Boards.{rom_masks}
 use Rattle.mcs_model.specs.TextLines.{line_feed, text_of}
-use Rattle.mcs_wiring.specs.LineNames.{line_name, port_name}
+use Rattle.mcs_wiring.specs.LineNames.{line_name, port_text}
 
 -- a line of the form `key = value`
 abbrev pub entry : List ℕ → List ℕ → List ℕ
@@ -29,7 +29,7 @@ abbrev pub rom_lines : ℕ → Option (List LineMask) → List (List ℕ)
 rom_lines chip None = []
 rom_lines chip (Some masks) =
     codes "[[rom]]" ∷ entry (codes "chip") (decimal chip)
-    ∷ entry (codes "port") (quoted_text (port_name masks)) ∷ []
+    ∷ entry (codes "port") (quoted_text (port_text masks)) ∷ []
 
 -- the lines of a RAM bank's table, or no lines if the bank has no chips
 abbrev pub bank_lines : ℕ → ℕ → List (List ℕ)
@@ -44,7 +44,7 @@ chain_lines c =
     codes "[[chain]]" ∷ entry (codes "clock") (quoted_name c.clock)
     ∷ entry (codes "data") (quoted_name c.data_in) ∷ entry (codes "chips") (decimal c.chips) ∷ []
 
--- the quoted line names of the columns in brackets, separated by `, `
+-- the quoted names of the columns' lines, separated by `, ` and enclosed in brackets
 abbrev pub columns_text : List Line → List ℕ
 columns_text lines = codes "[" ++ (join_by quoted_name (codes ", ") lines ++ codes "]")
 

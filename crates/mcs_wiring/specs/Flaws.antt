@@ -23,7 +23,7 @@ has_flaw UnknownKey = entry_has_unknown_key
 has_flaw MissingKey = entry_lacks_key
 has_flaw BadValue = is_malformed
 
--- Holds if there are no more parts of one kind than a board can have.
+-- Holds if a table has no more parts of one kind, and no more key columns, than a board can have.
 pub record IsWithinLimits (ms : Members) : Type 0 where
   pub roms : length (values_at (codes "rom") ms) ≤ ROMS
   pub banks : length (values_at (codes "ram") ms) ≤ BANKS
@@ -47,7 +47,7 @@ ram_text b bank = text_of (bank_lines bank (slice_index b.banks bank))
 abbrev pub rams_text : BoardParts → ℕ → List ℕ
 rams_text b n = flat_map (ram_text b) (range_with_len 0 n)
 
--- the given parts if they have no error, otherwise their error as an error of a board text
+-- the given parts, or the `WiringFault` that corresponds to the error in the parts
 abbrev pub board_or_error : BoardParts → Option BoardFault → Result BoardParts WiringFault
 board_or_error parts None = Ok parts
 board_or_error parts (Some fault) = Err (refusal_of fault)

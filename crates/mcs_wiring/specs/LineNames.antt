@@ -95,7 +95,7 @@ masks_named text = None
 
 -- The text of a port. The masks are in the order from line 0 to line 3, and the characters in the
 -- order from line 3 to line 0.
-abbrev pub port_name : List LineMask → List ℕ
-port_name masks =
+abbrev pub port_text : List LineMask → List ℕ
+port_text masks =
     mask_character (mask_at masks 3) ∷ mask_character (mask_at masks 2)
     ∷ mask_character (mask_at masks 1) ∷ mask_character (mask_at masks 0) ∷ []

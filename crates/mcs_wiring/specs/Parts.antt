@@ -97,7 +97,8 @@ abbrev pub first_flawed_key : Flaw → Section → Data → Option (List ℕ)
 first_flawed_key f s (table ms) = flawed_key_in_table f s ms
 first_flawed_key f s d = None
 
--- the part for the first list item with the flaw; `i` is the index of the first list item
+-- the part for the first item in the list that has the flaw; the list begins with entry `i` of the
+-- section
 abbrev pub first_flawed_from : Flaw → Section → ℕ → List Data → Option Part
 first_flawed_from f s i [] = None
 first_flawed_from f s i (d ∷ ds) =
@@ -142,7 +143,7 @@ excess_part ms =
 -- ---- error 24: the first table with the same chip or bank number as an earlier table
 
 -- the index of the first part whose number is in `seen` or belongs to an earlier part of the list;
--- `i` is the index of the first list item
+-- the list begins with the part at index `i`
 abbrev pub first_repeated_from : {A : Type 0} → List ℕ → ℕ → List (Numbered A) → Option ℕ
 first_repeated_from seen i [] = None
 first_repeated_from seen i (p ∷ ps) =

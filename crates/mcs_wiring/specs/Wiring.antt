@@ -48,7 +48,7 @@ abbrev pub section_values : Section → Members → List Data
 section_values Keys ms = option_to_list (get_member (codes "keys") ms)
 section_values s ms = values_at (section_key s) ms
 
--- true if `p` holds for at least one entry of a section
+-- true if `p` holds for at least one entry of any section
 abbrev pub any_section_entry : (Section → Data → Bool) → Members → Bool
 any_section_entry p ms = list_any (λ s. list_any (p s) (section_values s ms)) sections
 
@@ -144,7 +144,7 @@ has_bad_columns ms = are_malformed_columns (values_at (codes "columns") ms)
 abbrev pub lamp_in : Members → Option Line
 lamp_in ms = line_at (codes "line") ms
 
--- the part that `read` finds in a value that is a table, or none if the value is not a table
+-- the part that `read` returns for a value that is a table; none for any other value
 abbrev pub part_of : {A : Type 0} → (Members → Option A) → Data → Option A
 part_of read d = as_table d >>= read
 
@@ -173,7 +173,7 @@ has_value_that_is_not_array ms s = is_not_array (get_member (section_key s) ms)
 abbrev pub has_malformed_value : Members → Bool
 has_malformed_value ms = list_any (has_value_that_is_not_array ms) sections || any_section_entry is_malformed ms
 
--- ---- error 27: more parts of one kind than a board can have
+-- ---- error 27: more parts of one kind, or more key columns, than a board can have
 
 -- the table at the key `keys`, or none if the key is missing or its value is not a table
 abbrev pub keys_table : Members → Option Members

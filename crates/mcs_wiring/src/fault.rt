@@ -22,7 +22,7 @@ pub enum WiringFault {
     /// A value of the wrong type or form, a number out of range, or a key matrix without columns.
     #[error("a value has another type or form, or is out of its range")]
     BadValue,
-    /// More parts of one kind than a board can have.
+    /// More parts of one kind, or more key columns, than a board can have.
     #[error("the board has too many parts of one kind")]
     TooManyParts,
     /// Two ROMs with the same chip number, or two entries for the same RAM bank.

@@ -184,7 +184,8 @@ fn any_section_has_value_that_is_not_array(table: &Table) -> bool
         .any(|section| has_value_that_is_not_array(table, *section))
 }
 
-/// Returns true if a value in the text has the wrong type or form, or a number is out of range.
+/// Returns true if a value in the text has the wrong type or form, a number is out of range, or the key matrix has no
+/// columns.
 fn has_malformed_value(table: &Table) -> bool
     ensures { result ≡ has_malformed_value (table_view table.now) }
 {
@@ -209,7 +210,7 @@ pub(crate) fn column_count(table: &Table) -> usize
     }
 }
 
-/// Returns true if there are more parts of one kind than a board can have.
+/// Returns true if there are more parts of one kind, or more key columns, than a board can have.
 fn has_too_many(table: &Table) -> bool
     ensures { result ≡ has_too_many (table_view table.now) }
 {
@@ -264,15 +265,15 @@ fn part_at<T: Copy>(parts: &[Numbered<T>], none: T, number: u8) -> T
 
 /// Returns an array with one element for each number from 0 to `N` - 1. The element is the field
 /// `part` of the first entry with that number, or `none` if no entry has the number.
-fn indexed_by_number<T: Copy, const N: usize>(parts: &[Numbered<T>], none: T) -> [T; N]
+fn parts_by_number<T: Copy, const N: usize>(parts: &[Numbered<T>], none: T) -> [T; N]
     requires { N ≤ 256 }
     ensures { result ≡ table_of N (part_at none parts.now) }
 {
-    let mut indexed_by_number = [none; N];
+    let mut parts_by_number = [none; N];
     for i in 0..N {
-        indexed_by_number[i] = part_at(parts, none, i as u8);
+        parts_by_number[i] = part_at(parts, none, i as u8);
     }
-    indexed_by_number
+    parts_by_number
 }
 
 /// Returns the key matrix that the table of a board text describes. Returns none if there is no
@@ -298,8 +299,8 @@ pub(crate) fn parts_in(
     ensures { result ≡ parts_in (table_view table.now) }
 {
     BoardParts {
-        roms: indexed_by_number(roms, None),
-        banks: indexed_by_number(rams, 0),
+        roms: parts_by_number(roms, None),
+        banks: parts_by_number(rams, 0),
         chains: chains(values_at(table, "chain")),
         keys: matrix_of(table),
         lamps: lamps(values_at(table, "lamp")),
@@ -314,8 +315,8 @@ fn board_of_parts(parts: BoardParts) -> Result<Board, WiringFault>
 }
 
 /// Returns the board that a table describes, or the error `DoubleChip`, `NoSuchLine` or
-/// `WrongDirection`. The table must have no malformed value, and no more parts of one kind than a
-/// board can have.
+/// `WrongDirection`. The table must have no malformed value, and no more parts of one kind or key columns than a board
+/// can have.
 #[tactic(auto, using(crate::proofs::TomlViews::length_of_views))]
 fn board_within_limits(table: &Table) -> Result<Board, WiringFault>
     requires no_bad_value { has_malformed_value (table_view table.now) ≡ false }

@@ -103,16 +103,16 @@ fn line_after_toml(alloc: Global, text: &str) -> Result<usize, AllocError>
     let mut before = String::new(alloc);
     let mut rest = text;
     let mut number = 1;
-    let mut found = 1;
+    let mut after_toml = 1;
     while let Some((line, after)) = first_line(rest) {
         push_line(&mut before, line)?;
         number += 1;
         if is_toml(alloc, before.as_str())? {
-            found = number;
+            after_toml = number;
         }
         rest = after;
     }
-    Ok(found)
+    Ok(after_toml)
 }
 
 /// Returns true if a key consists only of letters, digits, `_` and `-`.

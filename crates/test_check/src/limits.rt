@@ -25,9 +25,16 @@ const TEST_AT_1: [u8; 20] = [
     0x19, 18, 0x40, 0, 0, 0, 0, 0, 0, 0, 0, 0, 0, 0, 0, 0, 0, 0, 0x40, 18,
 ];
 
+/// A program that reaches address 18 if TEST is at 1, then at 0, then at 1, at three reads that are
+/// 2 cycles apart. From address 0: JCN 9 4, JUN 0, JCN 1 8, JUN 0. From address 8: JCN 9 18,
+/// JUN 0. At address 18: JUN 18.
+const TEST_CHANGES_TWICE: [u8; 20] = [
+    0x19, 4, 0x40, 0, 0x11, 8, 0x40, 0, 0x19, 18, 0x40, 0, 0, 0, 0, 0, 0, 0, 0x40, 18,
+];
+
 /// Checks that a machine never reaches the address `OPEN_ADDRESS`, and returns the outcome. The
 /// limits of the inputs are `keys` (1 for each key that can be down), the highest level `test` of
-/// TEST, and at most `together` keys down at once.
+/// TEST, and at most `together` keys down at once. Two changes are at least `wait` cycles apart.
 fn check_with_limits(
     alloc: Global,
     rt: &impl Abort,
@@ -35,10 +42,12 @@ fn check_with_limits(
     keys: &[Bit],
     test: Bit,
     together: u32,
+    wait: u32,
 ) -> Outcome {
     let never_lists = begins_at(alloc, OPEN_ADDRESS).expect(rt, "memory");
     let property = Property::without_stopwatch(alloc, never_lists);
-    let limits = InputLimits::of(keys.to_vec(alloc).expect(rt, "memory"), test, together, 0);
+    let keys = keys.to_vec(alloc).expect(rt, "memory");
+    let limits = InputLimits::of(keys, test, together, wait);
     check_all(alloc, machine, property, limits, MAX_STATES, MEMORY, PAUSE).expect(rt, "memory")
 }
 
@@ -52,7 +61,7 @@ fn may_open(
     keys: [Bit; 2],
     together: u32,
 ) -> bool {
-    match check_with_limits(alloc, rt, machine, &keys, Bit::ZERO, together) {
+    match check_with_limits(alloc, rt, machine, &keys, Bit::ZERO, together, 0) {
         Outcome::MayFail(_) => true,
         Outcome::Holds(_) => false,
         _ => panic!(rt; "another outcome"),
@@ -85,9 +94,23 @@ fn two_keys_are_down_together_only_within_the_limit(rt: HostRuntime) {
 fn test_stays_at_0_within_its_limit(rt: HostRuntime) {
     for test in [Bit::ZERO, Bit::ONE] {
         let machine = machine(rt.alloc(), &rt, &TEST_AT_1).expect(&rt, "memory");
-        let outcome = check_with_limits(rt.alloc(), &rt, machine, &[Bit::ZERO], test, 0);
+        let outcome = check_with_limits(rt.alloc(), &rt, machine, &[Bit::ZERO], test, 0, 0);
         let is_reached = matches!(outcome, Outcome::MayFail(_));
         assert!(&rt; is_reached == (test == Bit::ONE));
+    }
+}
+
+#[test]
+fn levels_change_only_at_moments_within_the_limit(rt: HostRuntime) {
+    for wait in 0..6 {
+        let machine = machine(rt.alloc(), &rt, &TEST_CHANGES_TWICE).expect(&rt, "memory");
+        let outcome = check_with_limits(rt.alloc(), &rt, machine, &[Bit::ZERO], Bit::ONE, 0, wait);
+        let is_reached = match outcome {
+            Outcome::MayFail(_) | Outcome::MayFailWith(_) => true,
+            Outcome::Holds(_) => false,
+            _ => panic!(&rt; "another outcome"),
+        };
+        assert!(&rt; is_reached == (wait <= 3), "{wait}");
     }
 }
 
@@ -99,7 +122,7 @@ fn limits_of_another_board_give_no_result(rt: HostRuntime) {
         &[Bit::ONE, Bit::ONE, Bit::ONE][..],
     ] {
         let lock = machine_with_two_keys(rt.alloc(), &rt, &LOCK).expect(&rt, "memory");
-        let outcome = check_with_limits(rt.alloc(), &rt, lock, keys, Bit::ONE, 2);
+        let outcome = check_with_limits(rt.alloc(), &rt, lock, keys, Bit::ONE, 2, 0);
         assert!(&rt; matches!(outcome, Outcome::GaveUp));
     }
 }

@@ -107,10 +107,10 @@ const FIRST_FAULTS: [FaultRow; 4] = [
 fn texts_with_misplaced_bytes_are_rejected(rt: HostRuntime) {
     for (text, line, fault) in FIRST_FAULTS {
         assert!(rt; is_refused(rt.alloc(), text, line, fault), "at {text}");
-        let refused = match survey(rt.alloc(), text) {
+        let is_refused_by_survey = match survey(rt.alloc(), text) {
             Ok(_) => false,
             Err(found) => found.line == line && found.kind == FaultKind::Refused(fault),
         };
-        assert!(rt; refused, "at {text}");
+        assert!(rt; is_refused_by_survey, "at {text}");
     }
 }

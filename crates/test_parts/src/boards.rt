@@ -29,7 +29,7 @@ pub(crate) fn long_chain_board() -> Result<Board, BoardFault> {
 }
 
 /// Returns a board with the maximum number of ROMs, RAM chips and chains, and a lamp at the end of
-/// the last chain. Line 0 of ROM `n` is the clock of chain `n`, and line 1 is its data line.
+/// the last chain. Lines 0 and 1 of ROM `n` are the clock line and the data line of chain `n`.
 pub(crate) fn largest_board() -> Result<Board, BoardFault> {
     let mut chains = ArrayVec::new();
     for n in 0..CHAINS as u8 {

@@ -7,13 +7,13 @@ use mcs_nibble::{Nibble, PairNo};
 #[test]
 fn eighteen_opcodes_are_undefined(rt: HostRuntime) {
     for code in 0..=255u8 {
-        let named = !matches!(code, 0x01..=0x0F | 0xE3 | 0xFE | 0xFF);
-        assert_eq!(rt; decode(code, 0).is_some(), named, "at {code}");
+        let is_defined = !matches!(code, 0x01..=0x0F | 0xE3 | 0xFE | 0xFF);
+        assert_eq!(rt; decode(code, 0).is_some(), is_defined, "at {code}");
     }
-    let undefined = (0..=255u8)
+    let undefined_count = (0..=255u8)
         .filter(|code| decode(*code, 0).is_none())
         .count();
-    expect_equal(&rt, undefined, 18);
+    expect_equal(&rt, undefined_count, 18);
 }
 
 #[test]

@@ -37,9 +37,8 @@ fn run_program<const ROMS: usize, const BANKS: usize, const CHAINS: usize, const
     (rig, cpu)
 }
 
-/// Checks lamp 0, which is at the end of a chain of 80 bits (`MAX`). The first bit of the chain is
-/// 1. After 79 shifts this 1 is at the end, and the next shift drops it. The clock is line 0 of the
-/// selected ROM.
+/// Checks lamp 0, which is at the end of a chain of 80 bits (`MAX`). At first, only bit 0 of the chain is 1. After 79
+/// shifts this 1 is at the end, and the next shift drops it. The clock is line 0 of the selected ROM.
 fn expect_bit_at_chain_end<
     const ROMS: usize,
     const BANKS: usize,
@@ -74,10 +73,10 @@ fn rig_with_one_part_of_each_kind(rt: HostRuntime) {
     expect_equal(&rt, rig.ram(1, 0xFF), Nibble::ZERO);
     expect_equal(&rt, rig.chain_bit(0, 0), Bit::ONE);
     expect_bit_at_chain_end(&rt, &mut rig);
-    let larger = largest_board().expect(&rt, "a board");
-    assert!(rt; !Rig::<1, 1, 1, 80>::fits(&larger));
-    let longer = long_chain_board().expect(&rt, "a board");
-    assert!(rt; !Rig::<1, 1, 1, 79>::fits(&longer));
+    let larger_board = largest_board().expect(&rt, "a board");
+    assert!(rt; !Rig::<1, 1, 1, 80>::fits(&larger_board));
+    let longer_board = long_chain_board().expect(&rt, "a board");
+    assert!(rt; !Rig::<1, 1, 1, 79>::fits(&longer_board));
 }
 
 /// Runs LDM 15, WRR, RDR on a rig without chains, at a port `1i0i`. The latch stores lines 1 and 3.
@@ -93,6 +92,6 @@ fn rig_without_chains(rt: HostRuntime) {
     expect_equal(&rt, rig.chain_bit(0, 0), Bit::ZERO);
     rig.reset();
     expect_equal(&rt, rig.rom_latch(0), Nibble::ZERO);
-    let longer = long_chain_board().expect(&rt, "a board");
-    assert!(rt; !Rig::<1, 0, 0, 0>::fits(&longer));
+    let longer_board = long_chain_board().expect(&rt, "a board");
+    assert!(rt; !Rig::<1, 0, 0, 0>::fits(&longer_board));
 }

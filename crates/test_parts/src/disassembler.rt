@@ -11,24 +11,29 @@ use std::test::Fail;
 type TextRow<'a> = (u16, u8, Option<u8>, &'a str);
 
 /// The words of all instructions, each instruction once, in the order of the opcode table.
-const CODES: [u8; 50] = [
+const INSTRUCTION_WORDS: [u8; 50] = [
     0x00, 0x14, 0x10, 0x22, 0x20, 0x21, 0x3E, 0x37, 0x41, 0x23, 0x5F, 0xED, 0x65, 0x7F, 0x0A, 0x80,
     0x9A, 0xA9, 0xBB, 0xCC, 0xDF, 0xE0, 0xE1, 0xE2, 0xE4, 0xE5, 0xE6, 0xE7, 0xE8, 0xE9, 0xEA, 0xEB,
     0xEC, 0xED, 0xEE, 0xEF, 0xF0, 0xF1, 0xF2, 0xF3, 0xF4, 0xF5, 0xF6, 0xF7, 0xF8, 0xF9, 0xFA, 0xFB,
     0xFC, 0xFD,
 ];
 
-/// The source text expected for `CODES` at address 0.
-const TEXTS: &str =
+/// The source text expected for `INSTRUCTION_WORDS` at address 0.
+const SOURCE_TEXT: &str =
     "ORG 0x000\nNOP\nJCN 4, 0x010\nFIM P1, 0x20\nSRC P0\nFIN P7\nJIN P3\nJUN 0x123\nJMS 0xFED\nINC R5\nISZ R15, 0x00A\nADD R0\nSUB R10\nLD R9\nXCH R11\nBBL 12\nLDM 15\nWRM\nWMP\nWRR\nWR0\nWR1\nWR2\nWR3\nSBM\nRDM\nRDR\nADM\nRD0\nRD1\nRD2\nRD3\nCLB\nCLC\nIAC\nCMC\nCMA\nRAL\nRAR\nTCC\nDAC\nTCS\nSTC\nDAA\nKBP\nDCL\n";
 
 /// ROM bytes: the first byte of a JUN at address 0, then an instruction and two data bytes at
 /// 0x100.
 const JUMP_AND_DATA: [(usize, u8); 4] = [(0, 0x41), (0x100, 0xD5), (0x101, 1), (0x102, 0xFF)];
 
-/// ROM bytes: a two-word instruction across a page boundary, and the first word of another two-word
+/// ROM bytes: WRM, then a two-word instruction across a page boundary, and the first word of another two-word
 /// instruction at the last address.
-const JUMP_AT_A_PAGE: [(usize, u8); 4] = [(0xFE, 0xE0), (0xFF, 0x14), (0x100, 0x10), (0xFFF, 0x7F)];
+const JUMP_ACROSS_PAGES: [(usize, u8); 4] = [
+    (0xFE, 0xE0),
+    (0xFF, 0x14),
+    (0x100, 0x10),
+    (0xFFF, 0x7F),
+];
 
 /// Returns the bytes of a ROM that has the given bytes, and 0 at all other addresses.
 fn rom_with(rt: &impl Abort, bytes: &[(usize, u8)]) -> [u8; 4096] {
@@ -44,15 +49,15 @@ fn address(at: u16) -> Addr {
     Addr::of(at).unwrap_or(Addr::ZERO)
 }
 
-/// Checks that the listing of a ROM that starts at an address consists of the given lines.
+/// Checks that the listing of `line_count` lines of a ROM, from the address `from`, is the given text.
 fn expect_listing(
     rt: &impl Abort,
     alloc: Global,
     rom: &[u8; 4096],
-    (from, lines): (u16, usize),
+    (from, line_count): (u16, usize),
     wanted: &str,
 ) -> Result<(), Fail> {
-    let found = listing(alloc, rom, address(from), lines)?;
+    let found = listing(alloc, rom, address(from), line_count)?;
     assert_eq!(rt; found.as_str(), wanted);
     Ok(())
 }
@@ -106,25 +111,25 @@ fn instructions_have_their_texts(rt: HostRuntime) -> Result<(), Fail> {
 fn rom_range_has_a_source(rt: HostRuntime) -> Result<(), Fail> {
     let rom = rom_with(&rt, &JUMP_AND_DATA);
     let alloc = rt.alloc();
-    let lines = "ORG 0x100\nLDM 5\nDB 0x01\nDB 0xFF\n";
-    expect_source(&rt, alloc, &rom, (0x100, 0x103), lines)?;
+    let text = "ORG 0x100\nLDM 5\nDB 0x01\nDB 0xFF\n";
+    expect_source(&rt, alloc, &rom, (0x100, 0x103), text)?;
     expect_source(&rt, alloc, &rom, (0, 1), "ORG 0x000\nDB 0x41\n")
 }
 
 #[test]
 fn each_instruction_has_its_text(rt: HostRuntime) -> Result<(), Fail> {
     let mut rom = [0u8; 4096];
-    for (to, from) in rom.iter_mut().zip(CODES.iter()) {
+    for (to, from) in rom.iter_mut().zip(INSTRUCTION_WORDS.iter()) {
         *to = *from;
     }
-    expect_source(&rt, rt.alloc(), &rom, (0, 50), TEXTS)
+    expect_source(&rt, rt.alloc(), &rom, (0, 50), SOURCE_TEXT)
 }
 
 #[test]
 fn source_ends_with_its_range(rt: HostRuntime) -> Result<(), Fail> {
-    let rom = rom_with(&rt, &JUMP_AT_A_PAGE);
+    let rom = rom_with(&rt, &JUMP_ACROSS_PAGES);
     let alloc = rt.alloc();
     expect_listing(&rt, alloc, &rom, (0xFE, 0), "")?;
-    let lines = "ORG 0x0FE\nWRM\nDB 0x14\n";
-    expect_source(&rt, alloc, &rom, (0xFE, 0x100), lines)
+    let text = "ORG 0x0FE\nWRM\nDB 0x14\n";
+    expect_source(&rt, alloc, &rom, (0xFE, 0x100), text)
 }

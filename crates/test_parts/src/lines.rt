@@ -48,7 +48,7 @@ const VALID_LINES: [&str; 41] = [
 ];
 
 #[test]
-fn lines_in_range(rt: HostRuntime) {
+fn lines_in_range_are_accepted(rt: HostRuntime) {
     for line in VALID_LINES {
         let is_refused = matches!(parse_request(line.as_bytes()), Request::Refused(_));
         assert_eq!(rt; is_refused, false, "at {line}");

@@ -62,7 +62,7 @@ fn thirteen_bit_chain_shifts(rt: HostRuntime) {
 /// A reference model of a RAM bank, which stores each value in its own list element.
 #[derive(Drop)]
 struct BankModel {
-    wired: usize,
+    chip_count: usize,
     src: u8,
     main: [u8; 256],
     status: [u8; 64],
@@ -70,9 +70,9 @@ struct BankModel {
 }
 
 impl BankModel {
-    fn new(wired: usize) -> BankModel {
+    fn new(chip_count: usize) -> BankModel {
         BankModel {
-            wired,
+            chip_count,
             src: 0,
             main: [0; 256],
             status: [0; 64],
@@ -81,7 +81,7 @@ impl BankModel {
     }
 
     fn has_chip(&self, chip: u8) -> bool {
-        usize::from(chip) < self.wired
+        usize::from(chip) < self.chip_count
     }
 
     fn set_src(&mut self, byte: u8) {
@@ -190,10 +190,10 @@ fn compare_bank<const CHIPS: usize>(rt: &impl Abort, bank: &Bank<CHIPS>, model: 
 
 /// Makes two rounds of 1,500 random calls on a bank and its model, and compares the two after every
 /// 30 calls. Clears the bank after each round.
-fn run_bank<const CHIPS: usize>(rt: &impl Abort, bank: &mut Bank<CHIPS>, wired: usize) {
+fn run_bank<const CHIPS: usize>(rt: &impl Abort, bank: &mut Bank<CHIPS>, chip_count: usize) {
     let mut numbers = RandomNumbers::new(4002);
     for _ in 0..2 {
-        let mut model = BankModel::new(wired);
+        let mut model = BankModel::new(chip_count);
         for _ in 0..50 {
             for _ in 0..30 {
                 call_bank(bank, &mut model, &mut numbers);
@@ -201,23 +201,23 @@ fn run_bank<const CHIPS: usize>(rt: &impl Abort, bank: &mut Bank<CHIPS>, wired: 
             compare_bank(rt, bank, &model);
         }
         bank.clear();
-        compare_bank(rt, bank, &BankModel::new(wired));
+        compare_bank(rt, bank, &BankModel::new(chip_count));
     }
 }
 
 #[test]
 fn banks_match_their_model(rt: HostRuntime) {
-    for wired in 0..=1 {
-        run_bank(&rt, &mut Bank::<1>::new(wired), wired);
+    for chip_count in 0..=1 {
+        run_bank(&rt, &mut Bank::<1>::new(chip_count), chip_count);
     }
-    for wired in 0..=2 {
-        run_bank(&rt, &mut Bank::<2>::new(wired), wired);
+    for chip_count in 0..=2 {
+        run_bank(&rt, &mut Bank::<2>::new(chip_count), chip_count);
     }
-    for wired in 0..=3 {
-        run_bank(&rt, &mut Bank::<3>::new(wired), wired);
+    for chip_count in 0..=3 {
+        run_bank(&rt, &mut Bank::<3>::new(chip_count), chip_count);
     }
-    for wired in 0..=4 {
-        run_bank(&rt, &mut Bank::<4>::new(wired), wired);
+    for chip_count in 0..=4 {
+        run_bank(&rt, &mut Bank::<4>::new(chip_count), chip_count);
     }
 }
 
@@ -295,7 +295,7 @@ fn compare_chain<const MAX: usize>(rt: &impl Abort, chain: &Chain<MAX>, model: &
 }
 
 /// Makes 2,000 random calls on a chain and its model, and compares the two after every five calls.
-/// Clears the chain before every 100 calls.
+/// Clears the chain before each group of 100 calls.
 fn run_chain<const MAX: usize>(rt: &impl Abort, chain: &mut Chain<MAX>) {
     let mut numbers = RandomNumbers::new(4003);
     for _ in 0..20 {

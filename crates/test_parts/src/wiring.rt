@@ -7,7 +7,7 @@ use std::process::Abort;
 use std::test::Fail;
 
 /// A board text and the refusal number expected for it.
-type Row = (&'static str, u8);
+type RefusalRow = (&'static str, u8);
 
 fn is_refused(alloc: Global, text: &str, number: u8) -> bool {
     match board_of(alloc, text) {
@@ -18,7 +18,7 @@ fn is_refused(alloc: Global, text: &str, number: u8) -> bool {
 
 /// Board texts that are rejected. Each has a byte other than printable ASCII, or does not end with
 /// LF.
-const REJECTED_TEXTS: [Row; 7] = [
+const REJECTED_TEXTS: [RefusalRow; 7] = [
     ("\u{0}", 20),
     ("\"\u{e9}\" = 1", 21),
     ("[[rom", 20),

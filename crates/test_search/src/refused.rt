@@ -12,7 +12,7 @@ const START: [u8; 3] = [0; 3];
 const POSITION_COUNT: u8 = 41;
 
 /// The number of states: 41 * 41 * 41, one for each combination of positions.
-const STATES: usize = 68_921;
+const STATE_COUNT: usize = 68_921;
 
 /// A number of steps that is sufficient to follow the choices of all states.
 const STEPS: usize = 100_000;
@@ -20,13 +20,13 @@ const STEPS: usize = 100_000;
 /// Checks that the property holds, and that the search found all states.
 fn expect_all(rt: &impl Abort, verdict: Option<Verdict>) {
     match verdict {
-        Some(Verdict::Holds(n)) => assert_eq!(rt; n, STATES),
+        Some(Verdict::Holds(n)) => assert_eq!(rt; n, STATE_COUNT),
         _ => panic!(rt; "another verdict"),
     }
 }
 
 /// Runs a search to its end, and resumes it if an allocation fails. Returns the part whose allocation failed, or
-/// `nothing`.
+/// `nothing` if no allocation failed.
 fn run_to_end(rt: &impl Abort, search: &mut Search) -> &'static str {
     let mut wheels = Wheels::new(3, POSITION_COUNT);
     match resume(search, &mut wheels, STEPS) {
@@ -35,7 +35,7 @@ fn run_to_end(rt: &impl Abort, search: &mut Search) -> &'static str {
             "nothing"
         }
         Err(_) => {
-            assert!(rt; search.followed() < STATES);
+            assert!(rt; search.followed() < STATE_COUNT);
             expect_all(rt, resume(search, &mut wheels, STEPS).expect(rt, "memory"));
             "a step"
         }
@@ -43,12 +43,12 @@ fn run_to_end(rt: &impl Abort, search: &mut Search) -> &'static str {
 }
 
 /// Begins a search, and tries again if an allocation fails. Then runs the search to its end. Returns the part whose
-/// allocation failed, or `nothing`.
+/// allocation failed, or `nothing` if no allocation failed.
 fn run(alloc: Global, rt: &impl Abort) -> &'static str {
-    match Search::begin(alloc, &START, STATES) {
+    match Search::begin(alloc, &START, STATE_COUNT) {
         Ok(mut search) => run_to_end(rt, &mut search),
         Err(_) => {
-            let mut search = Search::begin(alloc, &START, STATES).expect(rt, "memory");
+            let mut search = Search::begin(alloc, &START, STATE_COUNT).expect(rt, "memory");
             let _ = run_to_end(rt, &mut search);
             "the search"
         }
@@ -57,6 +57,6 @@ fn run(alloc: Global, rt: &impl Abort) -> &'static str {
 
 #[test]
 fn one_allocation(rt: HostRuntime) {
-    let refused = run(rt.alloc(), &rt);
-    let _ = println!(rt; "refused: {refused}");
+    let failed_part = run(rt.alloc(), &rt);
+    let _ = println!(rt; "refused: {failed_part}");
 }

@@ -5,9 +5,9 @@ use std::alloc::Global;
 use std::process::Abort;
 
 /// Checks that the property holds, and that the search found the given number of states.
-fn expect_holds(rt: &impl Abort, verdict: &Verdict, states: usize) {
+fn expect_holds(rt: &impl Abort, verdict: &Verdict, state_count: usize) {
     match verdict {
-        Verdict::Holds(n) => assert_eq!(rt; *n, states),
+        Verdict::Holds(n) => assert_eq!(rt; *n, state_count),
         _ => panic!(rt; "the property does not hold"),
     }
 }
@@ -16,13 +16,19 @@ fn expect_too_many(rt: &impl Abort, verdict: &Verdict) {
     assert!(rt; matches!(verdict, Verdict::TooMany));
 }
 
-/// Checks that a search finds all states of `count` wheels with `places` positions each.
-fn expect_all(alloc: Global, rt: &impl Abort, count: usize, places: u8, states: usize) {
-    let mut wheels = Wheels::new(count, places);
+/// Checks that a search finds all states of `count` wheels with `position_count` positions each.
+fn expect_all(
+    alloc: Global,
+    rt: &impl Abort,
+    count: usize,
+    position_count: u8,
+    state_count: usize,
+) {
+    let mut wheels = Wheels::new(count, position_count);
     expect_holds(
         rt,
         &search_wheels(alloc, rt, &mut wheels, 1_000_000),
-        states,
+        state_count,
     );
 }
 
@@ -41,20 +47,20 @@ fn states_exceed_one_block(rt: HostRuntime) {
 }
 
 /// Checks that the counterexample turns each wheel to its bad position and no further.
-fn expect_shortest(alloc: Global, rt: &impl Abort, places: u8, bad: [u8; 3]) {
-    let mut wheels = Wheels::new(3, places);
-    wheels.bad = bad;
+fn expect_shortest(alloc: Global, rt: &impl Abort, position_count: u8, bad_state: [u8; 3]) {
+    let mut wheels = Wheels::new(3, position_count);
+    wheels.bad_state = bad_state;
     let verdict = search_wheels(alloc, rt, &mut wheels, 1_000_000);
     let Verdict::Broken(choices) = &verdict else {
         panic!(rt; "no counterexample")
     };
-    let mut turned = [0u8; 3];
+    let mut turns = [0u8; 3];
     for choice in choices.as_slice() {
         let at = usize::from(*choice);
         assert!(rt; at < 3);
-        turned[at] = turned[at].wrapping_add(1);
+        turns[at] = turns[at].wrapping_add(1);
     }
-    assert!(rt; turned == bad);
+    assert!(rt; turns == bad_state);
 }
 
 #[test]
@@ -83,15 +89,15 @@ fn search_keeps_to_its_limit(rt: HostRuntime) {
 #[test]
 fn a_system_may_give_up(rt: HostRuntime) {
     let mut wheels = Wheels::new(3, 5);
-    wheels.stuck = [1, 2, 0];
+    wheels.stuck_state = [1, 2, 0];
     assert!(&rt;
         matches!(
             search_wheels(rt.alloc(), &rt, &mut wheels, 1_000),
             Verdict::GaveUp
         )
     );
-    // The positions in `bad` take fewer choices than those in `stuck`, so the search reaches `bad` first.
-    wheels.bad = [0, 2, 0];
+    // `bad_state` takes fewer choices than `stuck_state`, so the search reaches `bad_state` first.
+    wheels.bad_state = [0, 2, 0];
     assert!(&rt;
         matches!(
             search_wheels(rt.alloc(), &rt, &mut wheels, 1_000),

@@ -6,10 +6,10 @@ use std::process::Abort;
 /// The start state: three wheels at position 0.
 const START: [u8; 3] = [0; 3];
 
-/// Follows the choices of the next state, whose index must be `number`, and checks that the search does not end.
-fn expect_next_state(rt: &impl Abort, search: &mut Search, wheels: &mut Wheels, number: usize) {
-    assert_eq!(rt; search.followed(), number);
-    assert!(rt; number < search.state_count());
+/// Follows the choices of the next state, which must be the one at `index`, and checks that the search does not end.
+fn expect_next_state(rt: &impl Abort, search: &mut Search, wheels: &mut Wheels, index: usize) {
+    assert_eq!(rt; search.followed(), index);
+    assert!(rt; index < search.state_count());
     assert!(rt; resume(search, wheels, 1).expect(rt, "memory").is_none());
 }
 
@@ -25,8 +25,8 @@ fn expect_end(rt: &impl Abort, search: &mut Search, wheels: &mut Wheels, state_c
 fn each_call_resumes_the_search(rt: HostRuntime) {
     let mut wheels = Wheels::new(3, 5);
     let mut search = Search::begin(rt.alloc(), &START, 1_000).expect(&rt, "memory");
-    for number in 0..125 {
-        expect_next_state(&rt, &mut search, &mut wheels, number);
+    for index in 0..125 {
+        expect_next_state(&rt, &mut search, &mut wheels, index);
     }
     assert_eq!(&rt; search.state_count(), 125);
     // A search that has ended returns the same verdict again.

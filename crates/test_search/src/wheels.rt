@@ -3,18 +3,18 @@ use mcs_search::{Search, System, Verdict, search_all};
 use std::alloc::{AllocError, Global};
 use std::process::Abort;
 
-/// A system of `count` wheels with `places` positions each. The state is the position of each wheel, which is 0 at
-/// the start. A choice turns one wheel by one position.
+/// A system of `count` wheels with `position_count` positions each. The state is the position of each wheel, which is 0
+/// at the start. A choice turns one wheel by one position.
 #[derive(Drop)]
 pub(crate) struct Wheels {
     pub(crate) count: usize,
-    pub(crate) places: u8,
+    pub(crate) position_count: u8,
     /// The positions of the wheels in the one state in which the property fails. With fewer than three wheels, only the
     /// first `count` bytes matter.
-    pub(crate) bad: [u8; 3],
+    pub(crate) bad_state: [u8; 3],
     /// The positions of the wheels in the one state in which the system gives up. With fewer than three wheels, only
     /// the first `count` bytes matter.
-    pub(crate) stuck: [u8; 3],
+    pub(crate) stuck_state: [u8; 3],
 }
 
 /// Positions of three wheels that no state has, because no wheel reaches position 255.
@@ -22,20 +22,20 @@ pub(crate) const NOWHERE: [u8; 3] = [255; 3];
 
 impl Wheels {
     /// Returns wheels for which the property holds in all states.
-    pub(crate) fn new(count: usize, places: u8) -> Wheels {
+    pub(crate) fn new(count: usize, position_count: u8) -> Wheels {
         Wheels {
             count,
-            places,
-            bad: NOWHERE,
-            stuck: NOWHERE,
+            position_count,
+            bad_state: NOWHERE,
+            stuck_state: NOWHERE,
         }
     }
 }
 
 /// Returns true if the wheels of a state are at the given positions. Returns false if there are no wheels or more
 /// than three.
-fn wheels_are_at(key: &[u8], places: &[u8; 3]) -> bool {
-    !key.is_empty() && key.len() <= 3 && key == &places[..key.len()]
+fn wheels_are_at(key: &[u8], positions: &[u8; 3]) -> bool {
+    !key.is_empty() && key.len() <= 3 && key == &positions[..key.len()]
 }
 
 impl System for Wheels {
@@ -62,13 +62,17 @@ impl System for Wheels {
         into.copy_from_slice(key);
         let at = usize::from(choice);
         if at < into.len() {
-            let turned = into[at].wrapping_add(1);
-            into[at] = if turned < self.places { turned } else { 0 };
+            let next_position = into[at].wrapping_add(1);
+            into[at] = if next_position < self.position_count {
+                next_position
+            } else {
+                0
+            };
         }
-        if wheels_are_at(into, &self.stuck) {
+        if wheels_are_at(into, &self.stuck_state) {
             return None;
         }
-        Some(!wheels_are_at(into, &self.bad))
+        Some(!wheels_are_at(into, &self.bad_state))
     }
 }
 
@@ -83,14 +87,14 @@ pub(crate) fn resume(
 }
 
 /// Searches the states of the wheels. In the start state, all wheels are at position 0. The verdict is `TooMany` if the
-/// search finds more than `most` states.
+/// search finds more than `max_states` states.
 pub(crate) fn search_wheels(
     alloc: Global,
     rt: &impl Abort,
     wheels: &mut Wheels,
-    most: usize,
+    max_states: usize,
 ) -> Verdict {
     let start = vec![in alloc; 0u8; wheels.count].expect(rt, "memory");
-    let most = most.min(mcs_search::MAX_STATES);
-    search_all(alloc, wheels, &start, most).expect(rt, "memory")
+    let max_states = max_states.min(mcs_search::MAX_STATES);
+    search_all(alloc, wheels, &start, max_states).expect(rt, "memory")
 }

@@ -14,19 +14,19 @@ fn expect_bytes(rt: &impl Abort, command: &Command, want: &[u8]) {
 
 /// Returns the command that the bytes encode, or `None` if they encode no command. Memory must not
 /// run out.
-fn read(rt: &impl Abort, alloc: Global, bytes: &[u8]) -> Option<Command> {
+fn decode(rt: &impl Abort, alloc: Global, bytes: &[u8]) -> Option<Command> {
     command_of(alloc, bytes).expect(rt, "memory")
 }
 
 fn is_decoded(rt: &impl Abort, alloc: Global, bytes: &[u8]) -> bool {
-    read(rt, alloc, bytes).is_some()
+    decode(rt, alloc, bytes).is_some()
 }
 
 /// Checks that the bytes decode to a command that is encoded as the same bytes.
 fn expect_round_trip(rt: &impl Abort, alloc: Global, want: &[u8]) {
-    match read(rt, alloc, want) {
+    match decode(rt, alloc, want) {
         Some(command) => expect_bytes(rt, &command, want),
-        None => panic!(rt; "a command was not read"),
+        None => panic!(rt; "a command was not decoded"),
     }
 }
 

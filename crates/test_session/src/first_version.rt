@@ -24,7 +24,7 @@ fn version_1_disk(alloc: Global, rt: &impl Abort) -> MemDisk {
 
 /// Opens the file of version 1 on a disk on which every call after the first `calls` calls fails.
 /// Returns the repaired disk if opening fails, or `None` if the file opens.
-fn disk_after_stop(alloc: Global, rt: &impl Abort, calls: usize) -> Option<FuseDisk> {
+fn disk_after_failure(alloc: Global, rt: &impl Abort, calls: usize) -> Option<FuseDisk> {
     let disk = FuseDisk::after(version_1_disk(alloc, rt), calls);
     match open(alloc, disk) {
         Ok(_) => None,
@@ -39,7 +39,7 @@ fn disk_after_stop(alloc: Global, rt: &impl Abort, calls: usize) -> Option<FuseD
 fn count_calls(alloc: Global, rt: &impl Abort) -> usize {
     let mut calls = 0usize;
     for _ in 0..64 {
-        if disk_after_stop(alloc, rt, calls).is_some() {
+        if disk_after_failure(alloc, rt, calls).is_some() {
             calls = calls.saturating_add(1);
         }
     }
@@ -49,10 +49,15 @@ fn count_calls(alloc: Global, rt: &impl Abort) -> usize {
 
 /// Opens the file of version 1 on a disk that fails after `calls - before` calls, and returns the
 /// repaired disk. `calls` is the number of device calls that opening the file needs.
-fn disk_after_stop_before(alloc: Global, rt: &impl Abort, calls: usize, before: usize) -> FuseDisk {
+fn disk_after_failure_before(
+    alloc: Global,
+    rt: &impl Abort,
+    calls: usize,
+    before: usize,
+) -> FuseDisk {
     assert!(rt; before <= calls);
     let call = calls - before;
-    match disk_after_stop(alloc, rt, call) {
+    match disk_after_failure(alloc, rt, call) {
         Some(disk) => disk,
         None => panic!(rt; "the call {call} did not fail"),
     }
@@ -72,22 +77,22 @@ fn expect_stage(rt: &impl Abort, disk: &mut FuseDisk, before: usize) {
 }
 
 #[test]
-fn stop_at_each_call_keeps_the_session(rt: HostRuntime) {
+fn failure_at_each_call_keeps_the_session(rt: HostRuntime) {
     let alloc = rt.alloc();
     let calls = count_calls(alloc, &rt);
     for call in 0..calls {
-        let mut disk = disk_after_stop_before(alloc, &rt, calls, calls - call);
+        let mut disk = disk_after_failure_before(alloc, &rt, calls, calls - call);
         expect_stage(&rt, &mut disk, calls - call);
         expect_register(alloc, &rt, disk, 1, (5, 9));
     }
 }
 
 #[test]
-fn any_torn_selector_opens(rt: HostRuntime) {
+fn opens_with_any_torn_selector(rt: HostRuntime) {
     let alloc = rt.alloc();
     let calls = count_calls(alloc, &rt);
     for selector in [0x7F, 0x40] {
-        let mut disk = disk_after_stop_before(alloc, &rt, calls, 2);
+        let mut disk = disk_after_failure_before(alloc, &rt, calls, 2);
         overwrite(&rt, &mut disk, 8, &[selector]);
         expect_register(alloc, &rt, disk, 1, (5, 9));
     }

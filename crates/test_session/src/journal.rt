@@ -1,5 +1,5 @@
-//! Tests of the journal: the bytes that a store writes, and the contents that `open` finds after a
-//! stop, an interrupted write or damage.
+//! Tests of the journal: the bytes that a store writes, and the contents that `open` finds after a failed call, an
+//! interrupted write or damage.
 use crate::checks::expect_equal;
 use mcs_disk::{
     Disk, FuseDisk, MemDisk, current_bytes_are_an_image,
@@ -21,12 +21,12 @@ const NEXT_SNAPSHOT: [u8; 2] = [8, 9];
 
 const RECORD: [u8; 4] = [7, 3, 5, 9];
 
-fn blank(alloc: Global, rt: &impl Abort) -> MemDisk {
+fn blank_disk(alloc: Global, rt: &impl Abort) -> MemDisk {
     MemDisk::new(alloc, FILE_SIZE).expect(rt, "memory")
 }
 
 fn created_store(alloc: Global, rt: &impl Abort) -> Store<MemDisk> {
-    match Store::create(alloc, blank(alloc, rt), &SNAPSHOT) {
+    match Store::create(alloc, blank_disk(alloc, rt), &SNAPSHOT) {
         Ok(store) => store,
         Err(_) => panic!(rt; "create was refused"),
     }
@@ -128,7 +128,7 @@ fn writes_the_format(rt: HostRuntime) -> Result<(), Fail> {
 fn run_until_fault(alloc: Global, rt: &impl Abort, passed: usize) -> FuseDisk {
     let mut store = match Store::create(
         alloc,
-        FuseDisk::after(blank(alloc, rt), passed),
+        FuseDisk::after(blank_disk(alloc, rt), passed),
         &SNAPSHOT,
     ) {
         Ok(store) => store,
@@ -138,18 +138,18 @@ fn run_until_fault(alloc: Global, rt: &impl Abort, passed: usize) -> FuseDisk {
         }
     };
     assert!(rt; passed >= 5 && store.is_open() && store.has_room(RECORD.len()));
-    let appended = store.append(&RECORD).is_ok();
-    expect_equal(rt, appended, passed >= 9);
+    let is_appended = store.append(&RECORD).is_ok();
+    expect_equal(rt, is_appended, passed >= 9);
     if store.is_open() {
-        let replaced = store.replace(&NEXT_SNAPSHOT).is_ok();
-        expect_equal(rt, replaced, passed >= 13);
-        expect_equal(rt, store.is_open(), replaced);
+        let is_replaced = store.replace(&NEXT_SNAPSHOT).is_ok();
+        expect_equal(rt, is_replaced, passed >= 13);
+        expect_equal(rt, store.is_open(), is_replaced);
     }
     store.into_disk()
 }
 
 #[test]
-fn stops_at_each_device_call(rt: HostRuntime) {
+fn failure_at_each_call_leaves_old_or_new_contents(rt: HostRuntime) {
     let alloc = rt.alloc();
     for passed in 0..4 {
         let mut disk = run_until_fault(alloc, &rt, passed);
@@ -181,7 +181,11 @@ fn stops_at_each_device_call(rt: HostRuntime) {
 fn creation_fails_if_one_call_fails(rt: HostRuntime) {
     let alloc = rt.alloc();
     for passed in 0..5 {
-        match Store::create(alloc, FuseDisk::once(blank(alloc, &rt), passed), &SNAPSHOT) {
+        match Store::create(
+            alloc,
+            FuseDisk::once(blank_disk(alloc, &rt), passed),
+            &SNAPSHOT,
+        ) {
             Ok(_) => panic!(rt; "the call {passed} did not fail"),
             Err((fault, disk)) => {
                 expect_equal(&rt, fault, StoreFault::Device);
@@ -199,7 +203,7 @@ fn creation_fails_if_one_call_fails(rt: HostRuntime) {
 #[test]
 fn opens_after_an_interrupted_write(rt: HostRuntime) {
     let alloc = rt.alloc();
-    for (at, left, snap, records) in [
+    for (at, written, snap, records) in [
         (16_401, &[255u8, 255, 7, 3, 5, 9, 1][..], &SNAPSHOT[..], 0),
         (16_400, &[37, 0, 4, 7, 3, 5, 9, 0][..], &SNAPSHOT[..], 0),
         (16_400, &[1, 0, 4, 7, 3, 5, 9, 0][..], &SNAPSHOT[..], 1),
@@ -207,7 +211,7 @@ fn opens_after_an_interrupted_write(rt: HostRuntime) {
         (8, &[0x7F][..], &[][..], 0),
     ] {
         let mut disk = created_store(alloc, &rt).into_disk();
-        damage(&rt, &mut disk, at, left);
+        damage(&rt, &mut disk, at, written);
         let _disk = expect_contents(alloc, &rt, disk, snap, records);
     }
 }
@@ -215,7 +219,7 @@ fn opens_after_an_interrupted_write(rt: HostRuntime) {
 #[test]
 fn rejects_damaged_disks(rt: HostRuntime) {
     let alloc = rt.alloc();
-    for (at, left, fault) in [
+    for (at, written, fault) in [
         (0, &[0u8][..], StoreFault::NotASession),
         (9, &[1][..], StoreFault::Damaged),
         (16, &[0, 0, 64, 0][..], StoreFault::Damaged),
@@ -223,7 +227,7 @@ fn rejects_damaged_disks(rt: HostRuntime) {
         (16_400, &[1, 32, 1][..], StoreFault::Damaged),
     ] {
         let mut disk = created_store(alloc, &rt).into_disk();
-        damage(&rt, &mut disk, at, left);
+        damage(&rt, &mut disk, at, written);
         expect_refusal(alloc, &rt, disk, fault);
     }
     let short_disk = MemDisk::new(alloc, FILE_SIZE - 1).expect(&rt, "memory");
@@ -246,7 +250,7 @@ fn creates_a_store_only_on_a_blank_disk(rt: HostRuntime) {
 /// Applies the laws of power cuts to the two types of in-memory disks. The laws are proved for all
 /// types of disks.
 #[test]
-fn laws_of_power_cuts_hold_of_disks_in_memory(_rt: HostRuntime) {
+fn laws_of_power_cuts_hold_for_in_memory_disks(_rt: HostRuntime) {
     current_bytes_are_an_image::<FuseDisk>();
     images_have_the_size_of_the_disk::<FuseDisk>();
     reads_and_syncs_add_no_image::<FuseDisk>();

@@ -1,6 +1,6 @@
 //! Tests of sessions and journals on in-memory disks. They check the bytes that a journal writes,
-//! and the bytes that a stop at each device call leaves on the disk. Other tests cover commands and
-//! state lists that no session has, and benches that are restored from numbers or from bytes.
+//! and the bytes that remain on the disk if a device call fails. Other tests cover commands and state lists that no
+//! session has, and benches that are restored from numbers or from bytes.
 #![tactic(auto)]
 
 #[cfg(test)]

@@ -11,19 +11,18 @@ use std::alloc::Global;
 use std::process::Abort;
 
 /// Returns a bench in the given state, which must be valid.
-fn restored(alloc: Global, rt: &impl Abort, flat: &Flat) -> Bench {
+fn restored_bench(alloc: Global, rt: &impl Abort, flat: &Flat) -> Bench {
     assert!(rt; flat.check());
     Bench::restore(alloc, flat).expect(rt, "memory")
 }
 
-/// Checks that a bench that has accepted the maximum number of commands rejects any further
-/// command.
+/// Checks that a bench that has accepted the maximum number of commands rejects a further command.
 #[test]
 fn rejects_commands_after_the_maximum(rt: HostRuntime) {
     let alloc = rt.alloc();
     let mut flat = Flat::new(alloc).expect(&rt, "memory");
     flat.seq = u32::MAX;
-    let bench = restored(alloc, &rt, &flat);
+    let bench = restored_bench(alloc, &rt, &flat);
     expect_equal(&rt, bench.seq(), u32::MAX);
     expect_equal(
         &rt,
@@ -31,7 +30,7 @@ fn rejects_commands_after_the_maximum(rt: HostRuntime) {
         Err(BenchFault::CommandsExhausted),
     );
     flat.seq = u32::MAX - 1;
-    let bench = restored(alloc, &rt, &flat);
+    let bench = restored_bench(alloc, &rt, &flat);
     expect_equal(&rt, bench.check(&Command::Reset), Ok(()));
 }
 
@@ -84,6 +83,6 @@ fn keeps_a_pending_cycle(rt: HostRuntime) {
     let decoded = found.expect(&rt, "a state");
     expect_equal(&rt, decoded.seq(), 3);
     expect_equal(&rt, decoded.regs(), bench.regs());
-    let (found, length) = encoded_state(&decoded);
-    assert!(rt; length == count && found[..count] == bytes[..count]);
+    let (reencoded, length) = encoded_state(&decoded);
+    assert!(rt; length == count && reencoded[..count] == bytes[..count]);
 }

@@ -12,7 +12,7 @@ use std::alloc::Global;
 use std::process::Abort;
 
 /// Returns the command that sets a register, 0 to 15, to a value, 0 to 15.
-pub(crate) fn poke(rt: &impl Abort, register: u8, value: u8) -> Command {
+pub(crate) fn poke_command(rt: &impl Abort, register: u8, value: u8) -> Command {
     match (RegNo::of(register), Nibble::of(value)) {
         (Some(register), Some(value)) => Command::Poke(Place::Register(register, value)),
         _ => panic!(rt; "no such register or value"),
@@ -126,7 +126,7 @@ pub(crate) fn expect_done<D: Disk + Drop>(
 
 /// Checks that a session acknowledges a run of `cycles` cycles, and that no stop ends the run
 /// early.
-pub(crate) fn run<D: Disk + Drop>(rt: &impl Abort, session: &mut Session<D>, cycles: u32) {
+pub(crate) fn expect_run<D: Disk + Drop>(rt: &impl Abort, session: &mut Session<D>, cycles: u32) {
     let reply = Reply::Ran {
         cycles,
         stop: Stop::Ended,
@@ -142,9 +142,9 @@ fn read<D: Disk>(rt: &impl Abort, disk: &mut D, at: usize, into: &mut [u8]) {
 
 /// Checks that a disk has the given bytes at an offset.
 pub(crate) fn expect_bytes<D: Disk>(rt: &impl Abort, disk: &mut D, at: usize, want: &[u8]) {
-    let mut got = [0u8; 16];
+    let mut buffer = [0u8; 16];
     assert!(rt; want.len() <= 16);
-    let found = &mut got[..want.len()];
+    let found = &mut buffer[..want.len()];
     read(rt, disk, at, found);
     assert_eq!(rt; &*found, want, "at {at}");
 }

@@ -73,19 +73,19 @@ fn a_failure_is_counted_once(rt: HostRuntime) {
         (1, 0, ShellEnd::ReadFault),
         (0, 1, ShellEnd::WriteFault),
     ];
-    for (reads, writes, wanted) in rows {
+    for (read_failures, write_failures, wanted) in rows {
         let mut session = new_session_in_memory(rt.alloc(), &rt);
         let mut reader = CountedReader {
-            reader: CutReader::new(SCRIPT, 12, reads),
+            reader: CutReader::new(SCRIPT, 12, read_failures),
             faults: 0,
         };
         let mut writer = CountedWriter {
-            writer: CutWriter::new(rt.alloc(), ANSWERS.len() - 3, writes),
+            writer: CutWriter::new(rt.alloc(), ANSWERS.len() - 3, write_failures),
             faults: 0,
         };
         let end = run_shell(rt.alloc(), &mut reader, &mut writer, &mut session);
         expect_equal(&rt, end, wanted);
-        expect_equal(&rt, reader.faults, reads as u64);
-        expect_equal(&rt, writer.faults, writes as u64);
+        expect_equal(&rt, reader.faults, read_failures as u64);
+        expect_equal(&rt, writer.faults, write_failures as u64);
     }
 }

@@ -60,9 +60,9 @@ fn a_stop_at_each_call_of_conversion(rt: HostRuntime) {
     };
     let mut stops = 0usize;
     for calls in 0..64usize {
-        if let Some(left) = bytes_after_failed_open(alloc, &rt, file.as_slice(), calls) {
+        if let Some(bytes) = bytes_after_failed_open(alloc, &rt, file.as_slice(), calls) {
             stops = stops.saturating_add(1);
-            expect_state(alloc, &rt, left.as_slice(), Some(&state), calls);
+            expect_state(alloc, &rt, bytes.as_slice(), Some(&state), calls);
         }
     }
     assert!(rt; 4 < stops && stops < 64, "{stops}");

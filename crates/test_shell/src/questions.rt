@@ -60,7 +60,7 @@ fn run(alloc: Global, rt: &impl Abort, mut session: Session<MemDisk>) -> &'stati
         return "the writer";
     };
     let mut reader = SCRIPT;
-    let refused = match serve(alloc, &mut reader, &mut writer, &mut session) {
+    let part = match serve(alloc, &mut reader, &mut writer, &mut session) {
         ShellEnd::NoMemory => {
             assert!(rt; writer.is_empty());
             "the shell"
@@ -69,7 +69,7 @@ fn run(alloc: Global, rt: &impl Abort, mut session: Session<MemDisk>) -> &'stati
         _ => panic!(rt; "another end"),
     };
     assert!(rt; seq_of(&session) == 0 && session.is_open());
-    refused
+    part
 }
 
 /// Creates a session, and runs the script on the session. Returns the part that ran out of memory, or `nothing`.
@@ -89,6 +89,6 @@ fn create_and_run(alloc: Global, rt: &impl Abort) -> &'static str {
 
 #[test]
 fn one_allocation(rt: HostRuntime) {
-    let refused = create_and_run(rt.alloc(), &rt);
-    let _ = println!(rt; "refused: {refused}");
+    let part = create_and_run(rt.alloc(), &rt);
+    let _ = println!(rt; "refused: {part}");
 }

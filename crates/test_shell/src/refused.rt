@@ -34,7 +34,7 @@ impl Write for FixedWriter {
     }
 }
 
-const QUESTIONS: &[u8] = b"asm\nLDM 1\n.\nlist 0 1\nboard\nseq\n";
+const INPUTS_AFTER_WIRING: &[u8] = b"asm\nLDM 1\n.\nlist 0 1\nboard\nseq\n";
 
 /// The first line of the answer to `board`. The text of the board follows.
 const BOARD: &[u8] = b"board\n";
@@ -127,10 +127,10 @@ fn failed_part(output: &[u8], has_device_fault: bool) -> Option<&'static str> {
     None
 }
 
-/// Returns the script: the command that wires the board, then `QUESTIONS`.
+/// Returns the script: the command that wires the board, then `INPUTS_AFTER_WIRING`.
 fn script() -> ArrayVec<u8, 1_024> {
     let mut script = ArrayVec::new();
-    for part in [WIRE_EXAMPLE, QUESTIONS] {
+    for part in [WIRE_EXAMPLE, INPUTS_AFTER_WIRING] {
         for byte in part {
             let _ = script.try_push(*byte);
         }
@@ -163,13 +163,13 @@ fn run_script(alloc: Global, rt: &impl Abort, session: &mut Session<MemDisk>) ->
 
 /// Runs the script on a session, then opens the session again. Returns the part that ran out of memory, or `nothing`.
 fn run(alloc: Global, rt: &impl Abort, mut session: Session<MemDisk>) -> &'static str {
-    let served = run_script(alloc, rt, &mut session);
+    let script_part = run_script(alloc, rt, &mut session);
     let seq = seq_of(&session);
     let is_closed = !session.is_open();
-    let (reopened, refused) = open_again(alloc, rt, disk_of_session(session));
+    let (reopened, opening_part) = open_again(alloc, rt, disk_of_session(session));
     let reopened_seq = seq_of(&reopened);
     assert!(rt; reopened_seq == seq || (is_closed && reopened_seq == seq.saturating_add(1)));
-    refused.unwrap_or(served)
+    opening_part.unwrap_or(script_part)
 }
 
 /// Opens the session on a disk, and tries a second time if that fails. Returns the session, and the part that ran out
@@ -179,13 +179,13 @@ fn open_again(
     rt: &impl Abort,
     disk: MemDisk,
 ) -> (Session<MemDisk>, Option<&'static str>) {
-    let (refused, disk) = match open(alloc, disk) {
+    let (part, disk) = match open(alloc, disk) {
         Ok(session) => return (session, None),
         Err((StoreFault::NoMemory, disk)) => ("the session opened", disk),
         Err((StoreFault::Device, disk)) => ("a record at opening", disk),
         Err(_) => panic!(rt; "the session was not opened"),
     };
-    (open_or_panic(alloc, rt, disk), Some(refused))
+    (open_or_panic(alloc, rt, disk), Some(part))
 }
 
 /// Creates a session, and tries a second time if memory runs out. Then runs the script on the session. Returns the
@@ -212,8 +212,8 @@ fn create_and_run(alloc: Global, rt: &impl Abort) -> &'static str {
 
 #[test]
 fn one_allocation(rt: HostRuntime) {
-    let refused = create_and_run(rt.alloc(), &rt);
-    let _ = println!(rt; "refused: {refused}");
+    let part = create_and_run(rt.alloc(), &rt);
+    let _ = println!(rt; "refused: {part}");
 }
 
 /// Writes a session of version 1 to a disk: a new bench and the record of `poke r5 9`.
@@ -255,8 +255,8 @@ fn convert_version_1(alloc: Global, rt: &impl Abort) -> &'static str {
         Err((StoreFault::NoMemory, mut disk)) => {
             let mut file = new_file(alloc, rt);
             overwrite(rt, file.as_mut_slice(), POKE_RECORD.0, POKE_RECORD.1);
-            let left = bytes_of(alloc, rt, &mut disk);
-            assert!(rt; left.as_slice() == file.as_slice());
+            let bytes = bytes_of(alloc, rt, &mut disk);
+            assert!(rt; bytes.as_slice() == file.as_slice());
             expect_register(rt, &open_or_panic(alloc, rt, disk));
             "the session carried over"
         }
@@ -270,6 +270,6 @@ fn convert_version_1(alloc: Global, rt: &impl Abort) -> &'static str {
 
 #[test]
 fn a_session_of_version_1(rt: HostRuntime) {
-    let refused = convert_version_1(rt.alloc(), &rt);
-    let _ = println!(rt; "refused: {refused}");
+    let part = convert_version_1(rt.alloc(), &rt);
+    let _ = println!(rt; "refused: {part}");
 }

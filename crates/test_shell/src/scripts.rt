@@ -34,7 +34,7 @@ pub(crate) const ANSWERS: [&[u8]; 5] = [
 ];
 
 /// Queries whose answers distinguish any two of the states in these tests.
-pub(crate) const QUESTIONS: &[u8] = b"board
+pub(crate) const QUERIES: &[u8] = b"board
 list 0 12
 ram 0
 ram 1

@@ -1,7 +1,7 @@
 //! Helper functions for sessions on in-memory files.
 ghost use Rattle.std.specs.Prelude.{◌≡◌, ◌≤◌, ◌+◌, length};
 
-use crate::scripts::QUESTIONS;
+use crate::scripts::QUERIES;
 use mcs_disk::{Disk, FuseDisk, MemDisk};
 use mcs_journal::{FILE_SIZE, StoreFault};
 use mcs_model::command::{Command, Place};
@@ -143,7 +143,7 @@ pub(crate) fn answers_to<D: Disk + Drop>(
     answers
 }
 
-/// Opens the session in a file and returns its state, in the form of its answers to `QUESTIONS`. Returns the error if
+/// Opens the session in a file and returns its state, in the form of its answers to `QUERIES`. Returns the error if
 /// the session does not open.
 pub(crate) fn state_in_file(
     alloc: Global,
@@ -151,7 +151,7 @@ pub(crate) fn state_in_file(
     file: &[u8],
 ) -> Result<Vec<u8>, StoreFault> {
     match open(alloc, disk_of(alloc, rt, file)) {
-        Ok(mut session) => Ok(answers_to(alloc, rt, &mut session, QUESTIONS)),
+        Ok(mut session) => Ok(answers_to(alloc, rt, &mut session, QUERIES)),
         Err((fault, _)) => Err(fault),
     }
 }
@@ -165,15 +165,15 @@ pub(crate) fn expect_state(
     at: usize,
 ) {
     match (state_in_file(alloc, rt, file), state) {
-        (Ok(answers_to), Some(state)) => {
-            expect(rt, answers_to.as_slice() == state.as_slice(), at);
+        (Ok(answers), Some(state)) => {
+            expect(rt, answers.as_slice() == state.as_slice(), at);
         }
         _ => panic!(rt; "no state, at {at}"),
     }
 }
 
 /// Executes commands on a session. Returns the state before the commands and the state after each command. A state
-/// has the form of the session's answers to `QUESTIONS`.
+/// has the form of the session's answers to `QUERIES`.
 pub(crate) fn states_after_commands<D: Disk + Drop>(
     alloc: Global,
     rt: &impl Abort,
@@ -181,10 +181,10 @@ pub(crate) fn states_after_commands<D: Disk + Drop>(
     commands: &[&[u8]],
 ) -> Vec<Vec<u8>> {
     let mut states = Vec::new(alloc);
-    push_state(rt, &mut states, answers_to(alloc, rt, session, QUESTIONS));
+    push_state(rt, &mut states, answers_to(alloc, rt, session, QUERIES));
     for command in commands {
         let _answers = answers_to(alloc, rt, session, command);
-        push_state(rt, &mut states, answers_to(alloc, rt, session, QUESTIONS));
+        push_state(rt, &mut states, answers_to(alloc, rt, session, QUERIES));
     }
     states
 }

@@ -18,11 +18,16 @@ use std::process::Abort;
 /// The first line of a new session's answers.
 const FIRST_LINE: &[u8] = b"session 0\n";
 
-/// Returns the expected output of a new session: its first line, the answers to the first `done` commands, and
-/// `ending`.
-fn answers_to(alloc: Global, rt: &impl Abort, done: usize, ending: &[u8]) -> Vec<u8> {
+/// Returns the expected output of a new session: its first line, the answers to the first `executed_count` commands,
+/// and `ending`.
+fn expected_output(
+    alloc: Global,
+    rt: &impl Abort,
+    executed_count: usize,
+    ending: &[u8],
+) -> Vec<u8> {
     let mut answers = concatenate(alloc, &[FIRST_LINE]).expect(rt, "memory");
-    for answer in ANSWERS.iter().take(done) {
+    for answer in ANSWERS.iter().take(executed_count) {
         answers.extend_from_slice(answer).expect(rt, "memory");
     }
     answers.extend_from_slice(ending).expect(rt, "memory");
@@ -58,27 +63,31 @@ fn failing_blank_disk(alloc: Global, rt: &impl Abort, calls: usize, is_once: boo
     }
 }
 
-/// Checks that the shell executes the first `done` commands of `INPUTS`. If more commands follow,
+/// Checks that the shell executes the first `executed_count` commands of `INPUTS`. If more commands follow,
 /// checks that the device fails during the next command, and that the session is then closed.
 fn expect_executed_before_stop(
     alloc: Global,
     rt: &impl Abort,
     session: &mut Session<FuseDisk>,
-    done: usize,
+    executed_count: usize,
     calls: usize,
 ) {
     let script = script_of_inputs(alloc, rt);
     let (end, answers) = run_and_collect(alloc, &mut script.as_slice(), session);
-    let (wanted_end, ending): (ShellEnd, &[u8]) = if done < INPUTS.len() {
+    let (wanted_end, ending): (ShellEnd, &[u8]) = if executed_count < INPUTS.len() {
         (ShellEnd::DeviceFault, b"no 53\n")
     } else {
         (ShellEnd::End, b"")
     };
     expect(rt, end == wanted_end, calls);
-    expect(rt, (status(end) == 1) == (done < INPUTS.len()), calls);
-    let wanted = answers_to(alloc, rt, done, ending);
+    expect(
+        rt,
+        (status(end) == 1) == (executed_count < INPUTS.len()),
+        calls,
+    );
+    let wanted = expected_output(alloc, rt, executed_count, ending);
     expect(rt, answers.as_slice() == wanted.as_slice(), calls);
-    if done < INPUTS.len() {
+    if executed_count < INPUTS.len() {
         expect(rt, poke(session) == Err(SessionFault::Closed), calls);
     }
 }
@@ -95,10 +104,10 @@ fn expect_stop_in_commands(
     states: &[Vec<u8>],
 ) {
     assert!(rt; 5 <= calls, "the call {calls} did not fail");
-    let done = (calls - 5) / 4;
-    expect_executed_before_stop(alloc, rt, &mut session, done, calls);
+    let executed_count = (calls - 5) / 4;
+    expect_executed_before_stop(alloc, rt, &mut session, executed_count, calls);
     let mut disk = disk_of_session(session);
-    let file = if is_once && done < INPUTS.len() {
+    let file = if is_once && executed_count < INPUTS.len() {
         bytes_of(alloc, rt, &mut disk)
     } else {
         bytes_after_mending(alloc, rt, disk)
@@ -144,9 +153,9 @@ fn is_stopped_opening(alloc: Global, rt: &impl Abort, file: &[u8], calls: usize)
 fn calls_of_open(alloc: Global, rt: &impl Abort, file: &[u8]) -> usize {
     let mut calls = 0usize;
     for bit in 0..16u32 {
-        let longer = calls.saturating_add(32_768 >> bit);
-        if is_stopped_opening(alloc, rt, file, longer.saturating_sub(1)) {
-            calls = longer;
+        let candidate = calls.saturating_add(32_768 >> bit);
+        if is_stopped_opening(alloc, rt, file, candidate.saturating_sub(1)) {
+            calls = candidate;
         }
     }
     calls
@@ -165,9 +174,9 @@ fn expect_stop_in_checkpoint(alloc: Global, rt: &impl Abort, file: &[u8], accept
         } else {
             (ShellEnd::End, accepted)
         };
-        let left = bytes_after_poke(alloc, rt, disk, (wanted, answer), calls);
+        let bytes = bytes_after_poke(alloc, rt, disk, (wanted, answer), calls);
         let state = states.get(if calls < 7 { 0 } else { 1 });
-        expect_state(alloc, rt, left.as_slice(), state, calls);
+        expect_state(alloc, rt, bytes.as_slice(), state, calls);
     }
 }
 
@@ -219,7 +228,7 @@ fn expect_cut_reading(alloc: Global, rt: &impl Abort, script: &[u8], left: usize
     let mut reader = CutReader::new(script, left, usize::MAX);
     let (end, answers) = run_and_collect(alloc, &mut reader, &mut session);
     expect(rt, end == ShellEnd::ReadFault && status(end) == 1, left);
-    let wanted = answers_to(alloc, rt, count_complete_pieces(&INPUTS, left), b"");
+    let wanted = expected_output(alloc, rt, count_complete_pieces(&INPUTS, left), b"");
     expect(rt, answers.as_slice() == wanted.as_slice(), left);
 }
 
@@ -272,7 +281,7 @@ fn disk_after_cut_writing(
 fn a_stop_at_each_byte_that_is_written(rt: HostRuntime) {
     let alloc = rt.alloc();
     let script = script_of_inputs(alloc, &rt);
-    let answers = answers_to(alloc, &rt, ANSWERS.len(), b"");
+    let answers = expected_output(alloc, &rt, ANSWERS.len(), b"");
     // A command is recorded if all earlier answers were written.
     let [one, two, three, four, _] = ANSWERS;
     let earlier_pieces = [FIRST_LINE, one, two, three, four];

@@ -63,16 +63,16 @@ export class AdapterConnection extends MessageStream {
     const [seq, type, command] = ["seq", "type", "command"].map((name) => getField(message, name));
     // The adapter sends no requests and expects no events, so it ignores responses and events.
     if (type === "response" || type === "event") return;
-    const number = Number.isSafeInteger(seq) ? seq : 0;
-    if (type !== "request" || typeof command !== "string" || number !== seq) {
+    const requestSeq = Number.isSafeInteger(seq) ? seq : 0;
+    if (type !== "request" || typeof command !== "string" || requestSeq !== seq) {
       const errorText = say.MESSAGE_SYNTAX;
-      this.rejectRequest(number, typeof command === "string" ? command : "", new AdapterError(errorText));
+      this.rejectRequest(requestSeq, typeof command === "string" ? command : "", new AdapterError(errorText));
       return;
     }
-    const pending = { seq: number, command, hasBegun: false, isCancelled: false };
-    this.pendingRequests.add(pending);
-    if (command === "cancel" && this.isOpen) this.serve(pending, message.arguments);
-    else this.queueEnd = this.queueEnd.then(() => this.serve(pending, message.arguments));
+    const pendingRequest = { seq: requestSeq, command, hasBegun: false, isCancelled: false };
+    this.pendingRequests.add(pendingRequest);
+    if (command === "cancel" && this.isOpen) this.serve(pendingRequest, message.arguments);
+    else this.queueEnd = this.queueEnd.then(() => this.serve(pendingRequest, message.arguments));
   }
 
   /**
@@ -86,28 +86,28 @@ export class AdapterConnection extends MessageStream {
   }
 
   /**
-   * @param {PendingRequest} pending
+   * @param {PendingRequest} pendingRequest
    * @param {any} args
    */
-  async serve(pending, args) {
+  async serve(pendingRequest, args) {
     // A request that was cancelled in the queue already has its response.
-    if (!this.pendingRequests.has(pending)) return;
-    const { seq, command } = pending;
-    pending.hasBegun = true;
+    if (!this.pendingRequests.has(pendingRequest)) return;
+    const { seq, command } = pendingRequest;
+    pendingRequest.hasBegun = true;
     try {
       const errorText = this.lifecycleError(command);
       if (errorText) throw new AdapterError(errorText);
       const handler = Object.prototype.hasOwnProperty.call(this.requests, command) && this.requests[command];
       if (!handler) throw new AdapterError(say.unsupportedRequestMessage(command));
-      const result = await handler(args, pending);
+      const result = await handler(args, pendingRequest);
       if (command === "initialize") this.isOpen = true;
       const body = result instanceof ResponseWithFollowUp ? result.body : result;
-      this.pendingRequests.delete(pending);
+      this.pendingRequests.delete(pendingRequest);
       this.send({ type: "response", request_seq: seq, success: true, command, ...(body === undefined ? {} : { body }) });
       if (result instanceof ResponseWithFollowUp) this.runFollowUp(result);
     } catch (thrown) {
-      this.pendingRequests.delete(pending);
-      const isCancelled = pending.isCancelled && thrown instanceof CancelledError;
+      this.pendingRequests.delete(pendingRequest);
+      const isCancelled = pendingRequest.isCancelled && thrown instanceof CancelledError;
       this.rejectRequest(seq, command, isCancelled ? new AdapterError(REQUEST_CANCELLED) : thrown);
     }
   }

@@ -77,7 +77,7 @@ function readCommonFields(item) {
 function resolveAddress(reference, offset, addressOf) {
   try {
     const requestedAddress = addressOf(reference) + offset;
-    return { requestedAddress, error: requestedAddress >= 0 && requestedAddress <= LAST_ADDRESS ? "" : say.ADDRESSES_ARE };
+    return { requestedAddress, error: requestedAddress >= 0 && requestedAddress <= LAST_ADDRESS ? "" : say.ADDRESS_RANGE };
   } catch (thrown) {
     return { requestedAddress: -1, error: errorMessage(thrown) };
   }
@@ -104,7 +104,7 @@ export class ClientBreakpoints {
     /** @type {RequestedFilter[]} the exception filters that the client requested */
     this.exceptionFilters = [];
     /** @type {Map<number, RequestedBreakpoint>} the requested breakpoints, by their ids in the debugger's list */
-    this.byId = new Map();
+    this.requestedById = new Map();
   }
 
   /**
@@ -225,17 +225,19 @@ export class ClientBreakpoints {
     const isOverLimit = (/** @type {number} */ index) => index >= MAX_ENABLED_BREAKPOINTS;
     const limitMessage = say.tooManyEnabledMessage(MAX_ENABLED_BREAKPOINTS);
     breakpoints.forEach((breakpoint, index) => isOverLimit(index) && errors.set(breakpoint, limitMessage));
-    const hits = new Map([...this.byId].map(([id, { address }]) => [address, (session.breakpoints.get(id) || { hits: 0 }).hits]));
+    const hits = new Map([...this.requestedById].map(([id, { address }]) => [address, (session.breakpoints.get(id) || { hits: 0 }).hits]));
     session.breakpoints = new BreakpointList();
-    this.byId.clear();
+    this.requestedById.clear();
     for (const breakpoint of breakpoints.slice(0, Math.min(MAX_ENABLED_BREAKPOINTS, MAX_BREAKPOINTS))) {
       const { address, condition, from, note } = breakpoint;
       const addedBreakpoint = session.breakpoints.add({ address, condition, from, note });
       addedBreakpoint.hits = hits.get(address) || 0;
-      this.byId.set(addedBreakpoint.id, breakpoint);
+      this.requestedById.set(addedBreakpoint.id, breakpoint);
     }
     const { errors: compileErrors } = await session.applyBreakpoints();
-    for (const [id, message] of compileErrors) errors.set(/** @type {RequestedBreakpoint} */ (this.byId.get(id)), stopsEachTime(message));
+    for (const [id, message] of compileErrors) {
+      errors.set(/** @type {RequestedBreakpoint} */ (this.requestedById.get(id)), stopsEachTime(message));
+    }
     return errors;
   }
 
@@ -245,7 +247,7 @@ export class ClientBreakpoints {
    * @param {number} id the breakpoint id in the debugger's list
    */
   hitBreakpoint(id) {
-    const breakpoint = this.byId.get(id);
+    const breakpoint = this.requestedById.get(id);
     if (!breakpoint || breakpoint.id === 0) return { id: 0, reason: "breakpoint" };
     const { labels, addresses } = this.requestedByKind;
     if (labels.includes(breakpoint)) return { id: breakpoint.id, reason: "function breakpoint" };
@@ -337,7 +339,7 @@ export class ClientBreakpoints {
     const { commonMistakes } = session.debugger;
     commonMistakes.stoppingKinds = new Set();
     commonMistakes.conditions = new Map();
-    const answers = exceptionFilters.map(({ kind, condition: text }) => {
+    const responses = exceptionFilters.map(({ kind, condition: text }) => {
       if (!Object.prototype.hasOwnProperty.call(KINDS, kind)) return { verified: false, message: say.noFilterMessage(kind) };
       const mistake = /** @type {MistakeKind} */ (kind);
       const isUnconditional = text.trim() === "";
@@ -351,7 +353,7 @@ export class ClientBreakpoints {
     if (session.maxPieceCycles >= MAX_CYCLES_PER_CALL) {
       session.maxPieceCycles = commonMistakes.stoppingKinds.size > 0 ? MAX_CYCLES_PER_CALL : MAX_PIECE_CYCLES;
     }
-    return answers;
+    return responses;
   }
 
   /**

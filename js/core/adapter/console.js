@@ -33,8 +33,8 @@ export const CONSOLE_FIRST_WORDS = [
   "press", "release", "keys", "until", "change", "back", "forward", "set", "help", "display", ...ANSWER_FORMATS.keys(),
 ];
 /** The maximum length of a console input in characters, and the maximum number of bench lines in it. */
-const MAX_LENGTH = 65536;
-const MAX_INPUTS = 1000;
+const MAX_INPUT_LENGTH = 65536;
+const MAX_BENCH_LINES = 1000;
 /** Matches an input whose first line contains a comparison. */
 const COMPARISON_LINE = /^[^\n]*[=<>]/;
 const RUN_WORDS = new Set(["run", "step"]);
@@ -56,7 +56,7 @@ export class Console {
     this.machine = machine;
     this.context = context;
     this.errorMessages = errorMessages;
-    this.keys = listNamedKeys(context.face);
+    this.namedKeys = listNamedKeys(context.face);
   }
 
   get session() {
@@ -72,7 +72,7 @@ export class Console {
    */
   async serveLine(text, shouldContinue, base) {
     const line = text.trim();
-    if (line.length > MAX_LENGTH) fail(say.tooLongMessage(MAX_LENGTH));
+    if (line.length > MAX_INPUT_LENGTH) fail(say.tooLongMessage(MAX_INPUT_LENGTH));
     const [word, ...operands] = line.split("\n")[0].split(/[ \t]+/);
     if (line === "" || line === "help" || line === "?") return textResult(say.HELP);
     const hasRowAndColumn = operands.length === 2 && operands.every((operand) => !Number.isNaN(parseNumber(operand)));
@@ -106,8 +106,8 @@ export class Console {
    * @param {string} name
    */
   findKey(name) {
-    const names = [...this.keys.keys()].join(" ");
-    const key = this.keys.get(name);
+    const names = [...this.namedKeys.keys()].join(" ");
+    const key = this.namedKeys.get(name);
     return key || fail(noKeyMessage(name, names));
   }
 
@@ -130,7 +130,7 @@ export class Console {
    * @param {string[]} words the key names; a word that is not a key name is split into letters
    */
   typeKeys(words) {
-    const keys = words.flatMap((word) => (this.keys.has(word) ? [word] : [...word])).map((name) => this.findKey(name));
+    const keys = words.flatMap((word) => (this.namedKeys.has(word) ? [word] : [...word])).map((name) => this.findKey(name));
     return this.queueKeys(keys);
   }
 
@@ -200,7 +200,7 @@ export class Console {
     const { lines, message } = replaceNames(`${line}\n`, this.session.map);
     if (message) fail(message);
     const kinds = readInputs(lines).map(({ kind }) => kind);
-    if (kinds.length > MAX_INPUTS) fail(say.tooManyLinesMessage(MAX_INPUTS));
+    if (kinds.length > MAX_BENCH_LINES) fail(say.tooManyLinesMessage(MAX_BENCH_LINES));
     if (this.machine.isMoving && kinds.some((kind) => RUN_WORDS.has(kind))) fail(say.MACHINE_IS_RUNNING);
     if (kinds.every(isQuery)) return textResult(this.session.debugger.session.ask(lines).join("\n"));
     const result = await this.runBenchLines(lines, shouldContinue);

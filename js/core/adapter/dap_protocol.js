@@ -32,35 +32,35 @@ export function fail(message) {
 
 /**
  * Returns a required string field of a request's arguments; throws AdapterError if the field is missing or not a string.
- * @param {any} from the arguments
+ * @param {any} args the arguments
  * @param {string} name
  * @returns {string}
  */
-export function requireText(from, name) {
-  const value = getField(from, name);
+export function requireText(args, name) {
+  const value = getField(args, name);
   return typeof value === "string" ? value : fail(mustBeTextMessage(name));
 }
 
 /**
  * Returns an optional string field of a request's arguments; "" if it is missing. Throws AdapterError if the field is not a string.
- * @param {any} from the arguments
+ * @param {any} args the arguments
  * @param {string} name
  */
-export function optionalText(from, name) {
-  const value = getField(from, name);
-  return value === undefined || value === null ? "" : requireText(from, name);
+export function optionalText(args, name) {
+  const value = getField(args, name);
+  return value === undefined || value === null ? "" : requireText(args, name);
 }
 
 /**
  * Returns an integer field of a request's arguments. If the field is missing, returns the default value. Throws AdapterError if the field
  * is not an integer, or is missing without a default value.
- * @param {any} from the arguments
+ * @param {any} args the arguments
  * @param {string} name
  * @param {number} [defaultValue] returned if the field is missing
  * @returns {number}
  */
-export function requireNumber(from, name, defaultValue) {
-  const value = getField(from, name);
+export function requireNumber(args, name, defaultValue) {
+  const value = getField(args, name);
   if ((value === undefined || value === null) && defaultValue !== undefined) return defaultValue;
   return Number.isSafeInteger(value) ? value : fail(say.mustBeIntegerMessage(name));
 }
@@ -68,25 +68,25 @@ export function requireNumber(from, name, defaultValue) {
 /**
  * Returns an optional boolean field of a request's arguments; the default value if it is missing. Throws AdapterError if the field is not a
  * boolean.
- * @param {any} from the arguments
+ * @param {any} args the arguments
  * @param {string} name
  * @param {boolean} defaultValue returned if the field is missing
  * @returns {boolean}
  */
-export function optionalFlag(from, name, defaultValue) {
-  const value = getField(from, name);
+export function optionalFlag(args, name, defaultValue) {
+  const value = getField(args, name);
   if (value === undefined || value === null) return defaultValue;
   return typeof value === "boolean" ? value : fail(say.mustBeBooleanMessage(name));
 }
 
 /**
  * Returns an optional list field of a request's arguments; an empty list if it is missing. Throws AdapterError if the field is not a list.
- * @param {any} from the arguments
+ * @param {any} args the arguments
  * @param {string} name
  * @returns {any[]}
  */
-export function optionalList(from, name) {
-  const value = getField(from, name);
+export function optionalList(args, name) {
+  const value = getField(args, name);
   if (value === undefined || value === null) return [];
   return Array.isArray(value) ? value : fail(say.mustBeListMessage(name));
 }

@@ -96,7 +96,7 @@ export class DebugAdapter {
     /** True if the client supports the event `memory`. */
     this.supportsMemoryEvent = false;
     this.progress = new Progress((event, body) => connection.sendEvent(event, body));
-    this.moves = new MoveHandlers(this);
+    this.moveHandlers = new MoveHandlers(this);
     /** @type {OpenSession | null} the debug session; null before launch or attach, and after the end of debugging */
     this.openSession = null;
     /** True after the request `configurationDone`. */
@@ -108,7 +108,7 @@ export class DebugAdapter {
     /** @type {RemoteFrontPanel | null} the reports to a client that draws the front panel; null until the client asks for them */
     this.remoteFrontPanel = null;
     connection.requests = {
-      ...this.lifecycleHandlers(), ...this.breakpointHandlers(), ...this.moves.handlers(), ...this.queryRequestHandlers(),
+      ...this.lifecycleHandlers(), ...this.breakpointHandlers(), ...this.moveHandlers.handlers(), ...this.queryRequestHandlers(),
     };
     connection.stopTask = (id) => this.progress.stop(id);
   }
@@ -117,7 +117,7 @@ export class DebugAdapter {
    * The debug session. Throws AdapterError if there is none.
    * @returns {OpenSession}
    */
-  get current() {
+  get currentSession() {
     return this.openSession || fail(say.NOTHING_LAUNCHED);
   }
 
@@ -142,11 +142,11 @@ export class DebugAdapter {
       launch: (args) => this.launch(args, launch),
       attach: (args) => this.launch(args, attach),
       configurationDone: () => {
-        const { launchResult } = this.current;
+        const { launchResult } = this.currentSession;
         if (this.isConfigured) fail(say.CONFIGURED_ONCE);
         this.isConfigured = true;
         return new ResponseWithFollowUp(undefined, () => (
-          launchResult.stopsOnEntry ? this.sendStopped(this.createMoveEnd("entry")) : this.current.machine.runToGoal(null)));
+          launchResult.stopsOnEntry ? this.sendStopped(this.createMoveEnd("entry")) : this.currentSession.machine.runToGoal(null)));
       },
       restart: (args) => this.restart(args),
       terminate: () => new ResponseWithFollowUp(undefined, () => {
@@ -215,7 +215,7 @@ export class DebugAdapter {
    * @param {any} args
    */
   async restart(args) {
-    const { machine, launchResult, breakpoints } = this.current;
+    const { machine, launchResult, breakpoints } = this.currentSession;
     await this.halt();
     if (launchResult.writer) {
       await launchResult.session.debugger.session.serve("reset\n", async () => true);
@@ -225,7 +225,8 @@ export class DebugAdapter {
       const launchArgs = newArgs === undefined ? launchResult.args : newArgs;
       const createSession = launchResult.isAttached ? attach : launch;
       await this.beginSession(await createSession(this.engine, launchArgs, this.host, this.errorMessages));
-      for (const movedBreakpoint of await this.current.breakpoints.copyBreakpointsFrom(breakpoints)) this.sendBreakpoint(movedBreakpoint);
+      const movedBreakpoints = await this.currentSession.breakpoints.copyBreakpointsFrom(breakpoints);
+      for (const movedBreakpoint of movedBreakpoints) this.sendBreakpoint(movedBreakpoint);
     }
     return new ResponseWithFollowUp(undefined, () => this.sendStopped(this.createMoveEnd("entry")));
   }
@@ -278,11 +279,11 @@ export class DebugAdapter {
         this.changeBreakpoints((breakpoints) => breakpoints.setAddressBreakpoints(args, (reference) => this.resolveReference(reference)))),
       dataBreakpointInfo: (args) => this.dataBreakpointInfo(args),
       setDataBreakpoints: (args) => {
-        const { machine, breakpoints } = this.current;
+        const { machine, breakpoints } = this.currentSession;
         return machine.runWhenFree(async () => ({ breakpoints: await breakpoints.setDataBreakpoints(args) }));
       },
       setExceptionBreakpoints: (args) => {
-        const { machine, breakpoints } = this.current;
+        const { machine, breakpoints } = this.currentSession;
         return machine.runWhenFree(() => ({ breakpoints: breakpoints.setExceptionFilters(args) }));
       },
       breakpointLocations: (args) => this.breakpointLocations(args),
@@ -292,7 +293,7 @@ export class DebugAdapter {
   /** @param {any} args */
   setBreakpoints(args) {
     const source = getField(args, "source");
-    const { queryHandlers, launchResult } = this.current;
+    const { queryHandlers, launchResult } = this.currentSession;
     if (queryHandlers.isProgram(source) && launchResult.isDebugged) {
       return this.changeBreakpoints((breakpoints) => breakpoints.setLineBreakpoints(args, (line) => line + 1 - this.firstLine));
     }
@@ -304,14 +305,14 @@ export class DebugAdapter {
 
   /** @param {(breakpoints: ClientBreakpoints) => Promise<import("./client_breakpoints.js").SentBreakpoint[]>} action */
   async changeBreakpoints(action) {
-    const { machine, breakpoints } = this.current;
+    const { machine, breakpoints } = this.currentSession;
     const sentBreakpoints = await machine.runWhenFree(() => action(breakpoints));
     return { breakpoints: sentBreakpoints.map((breakpoint) => this.toProtocolBreakpoint(breakpoint)) };
   }
 
   /** @param {import("./client_breakpoints.js").SentBreakpoint} breakpoint */
   toProtocolBreakpoint({ address, line, ...breakpoint }) {
-    const sourceFields = line === undefined ? {} : { line: line - 1 + this.firstLine, source: this.current.queryHandlers.source };
+    const sourceFields = line === undefined ? {} : { line: line - 1 + this.firstLine, source: this.currentSession.queryHandlers.source };
     return { ...breakpoint, ...sourceFields, ...(address >= 0 ? { instructionReference: formatReference(address) } : {}) };
   }
 
@@ -322,7 +323,7 @@ export class DebugAdapter {
 
   /** @param {any} args */
   dataBreakpointInfo(args) {
-    const { queryHandlers, launchResult } = this.current;
+    const { queryHandlers, launchResult } = this.currentSession;
     const name = requireText(args, "name");
     const reference = requireNumber(args, "variablesReference", 0);
     const placeName = reference > 0 ? queryHandlers.findWatchPlace(reference, name) : name;
@@ -333,8 +334,8 @@ export class DebugAdapter {
 
   /** @param {any} args */
   breakpointLocations(args) {
-    const { session } = this.current.launchResult;
-    if (!this.current.queryHandlers.isProgram(getField(args, "source"))) return { breakpoints: [] };
+    const { session } = this.currentSession.launchResult;
+    if (!this.currentSession.queryHandlers.isProgram(getField(args, "source"))) return { breakpoints: [] };
     const from = requireNumber(args, "line");
     const to = Math.min(requireNumber(args, "endLine", from), from + 65536);
     const lines = [];
@@ -355,7 +356,7 @@ export class DebugAdapter {
    */
   queryRequestHandlers() {
     const requirePaused = (/** @type {(queryHandlers: QueryHandlers, args: any) => unknown} */ action) => (/** @type {any} */ args) => {
-      const { machine, queryHandlers } = this.current;
+      const { machine, queryHandlers } = this.currentSession;
       if (machine.isMoving) fail(NOT_STOPPED);
       return action(queryHandlers, args);
     };
@@ -369,9 +370,9 @@ export class DebugAdapter {
       disassemble: requirePaused((queryHandlers, args) => queryHandlers.disassemble(args, (reference) => this.resolveReference(reference))),
       readMemory: requirePaused((queryHandlers, args) => queryHandlers.readMemory(args, (reference) => this.resolveReference(reference))),
       writeMemory: requirePaused((queryHandlers, args) => this.writeMemory(queryHandlers, args)),
-      completions: (args) => this.current.queryHandlers.completions(args),
-      loadedSources: () => ({ sources: [this.current.queryHandlers.source] }),
-      source: (args) => this.current.queryHandlers.sourceText(args),
+      completions: (args) => this.currentSession.queryHandlers.completions(args),
+      loadedSources: () => ({ sources: [this.currentSession.queryHandlers.source] }),
+      source: (args) => this.currentSession.queryHandlers.sourceText(args),
       exceptionInfo: () => {
         const { reason, message } = this.lastStop || { reason: "", message: "" };
         return { exceptionId: reason || "none", description: message, breakMode: "always" };
@@ -380,7 +381,7 @@ export class DebugAdapter {
       pressKey: (args) => this.pressOrReleaseKey("press", args),
       releaseKey: (args) => this.pressOrReleaseKey("release", args),
       watchBoard: () => {
-        this.remoteFrontPanel = new RemoteFrontPanel(this.current.machine);
+        this.remoteFrontPanel = new RemoteFrontPanel(this.currentSession.machine);
         return this.remoteFrontPanel.take();
       },
       changeKey: (args) => this.changeKey(args),
@@ -393,7 +394,7 @@ export class DebugAdapter {
    * @param {string} reference
    */
   resolveReference(reference) {
-    const { console: debugConsole } = this.current;
+    const { console: debugConsole } = this.currentSession;
     return findAddress(reference, debugConsole.context);
   }
 
@@ -403,7 +404,7 @@ export class DebugAdapter {
    * @param {Result} result
    */
   async saveAfterChange(result) {
-    const { machine } = this.current;
+    const { machine } = this.currentSession;
     await machine.saveAndReport();
     return result;
   }
@@ -427,7 +428,7 @@ export class DebugAdapter {
    * @param {import("./adapter_connection.js").PendingRequest} pending
    */
   async evaluate(args, pending) {
-    const { machine, console: debugConsole, queryHandlers } = this.current;
+    const { machine, console: debugConsole, queryHandlers } = this.currentSession;
     const [expression, context, base] = [requireText(args, "expression"), optionalText(args, "context"), requestedBase(args)];
     if (context !== "repl") return machine.runWhenFree(() => queryHandlers.evaluate(expression, context, base));
     const task = this.progress.createTask(say.RUNNING_LINES, () => { pending.isCancelled = true; });
@@ -438,7 +439,7 @@ export class DebugAdapter {
     };
     const lineResult = machine.runWhenFree(() => debugConsole.serveLine(expression, shouldContinue, base));
     const { text, changes, move } = await lineResult.finally(() => task.end());
-    if (move) this.moves.checkPaused();
+    if (move) this.moveHandlers.checkPaused();
     const wasPaused = !machine.isMoving && this.isConfigured;
     if (changes && !machine.isMoving) await machine.saveAndReport();
     return new ResponseWithFollowUp({ result: text, variablesReference: 0 }, () => {
@@ -460,7 +461,7 @@ export class DebugAdapter {
    * @param {any} args
    */
   async pressOrReleaseKey(word, args) {
-    const { machine, console: debugConsole } = this.current;
+    const { machine, console: debugConsole } = this.currentSession;
     const key = requireText(args, "key");
     const { text } = await machine.runWhenFree(() => debugConsole.pressOrReleaseKeys(word, [key]));
     if (!machine.isMoving) await machine.saveAndReport();
@@ -472,7 +473,7 @@ export class DebugAdapter {
    * @param {any} args `place` (the key's row and column, or TEST) and `isDown`
    */
   async changeKey(args) {
-    const { machine, console: debugConsole } = this.current;
+    const { machine, console: debugConsole } = this.currentSession;
     const key = requireText(args, "place");
     await machine.runWhenFree(() => changeKey(machine, debugConsole, key, getField(args, "isDown") === true));
     if (!machine.isMoving) await machine.saveAndReport();
@@ -494,7 +495,7 @@ export class DebugAdapter {
    * @returns {MoveEnd}
    */
   createMoveEnd(reason) {
-    return { reason, message: stoppedAt(this.current.launchResult.session.counterText), id: 0 };
+    return { reason, message: stoppedAt(this.currentSession.launchResult.session.counterText), id: 0 };
   }
 
   /**

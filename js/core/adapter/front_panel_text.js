@@ -15,8 +15,8 @@ export class FrontPanelText {
     this.face = face;
     this.isScanned = hasScannedDisplay(face);
     this.displays = face.groups.filter(({ kind }) => kind === "display");
-    this.names = [...face.lamps].map(([lamp, { text }]) => ({ lamp, text }));
-    this.reader = new DisplayText(this.displays, this.names);
+    this.lampNames = [...face.lamps].map(([lamp, { text }]) => ({ lamp, text }));
+    this.displayText = new DisplayText(this.displays, this.lampNames);
     this.lastText = this.currentText();
   }
 
@@ -33,7 +33,7 @@ export class FrontPanelText {
   currentText() {
     const { marks } = this;
     if (marks === "") return "";
-    const { number, names } = this.isScanned ? this.perceivedText(marks.length) : this.reader.read(marks);
+    const { number, names } = this.isScanned ? this.perceivedText(marks.length) : this.displayText.read(marks);
     if (this.displays.length > 0) return `display ${number}${names && ` ${names}`}`;
     return `lamps ${marks}${names && ` ${names}`}`;
   }

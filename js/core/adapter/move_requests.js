@@ -40,14 +40,14 @@ export class MoveHandlers {
       stepIn: (args) => this.stepIn(args),
       stepInTargets: (args) => {
         this.checkPaused();
-        return this.adapter.current.queryHandlers.stepInTargets(args);
+        return this.adapter.currentSession.queryHandlers.stepInTargets(args);
       },
       stepOut: (args) => this.stepOut(args),
       stepBack: moveHandler((machine) => machine.goBack({ kind: "instruction" })),
       reverseContinue: moveHandler((machine) => machine.goBack({ kind: "arrival", place: "" })),
       restartFrame: (args) => this.restartFrame(args),
       pause: () => {
-        const { machine } = this.adapter.current;
+        const { machine } = this.adapter.currentSession;
         return new ResponseWithFollowUp(undefined, () => machine.pause());
       },
       gotoTargets: (args) => this.gotoTargets(args),
@@ -63,7 +63,7 @@ export class MoveHandlers {
   moveResponse(args, startMove) {
     this.checkPaused();
     this.checkThread(args);
-    const { machine } = this.adapter.current;
+    const { machine } = this.adapter.currentSession;
     return new ResponseWithFollowUp(undefined, () => startMove(machine));
   }
 
@@ -71,7 +71,7 @@ export class MoveHandlers {
   stepIn(args) {
     const target = requireNumber(args, "targetId", -1);
     if (target < 0) return this.moveResponse(args, (machine) => machine.stepInto());
-    const { session } = this.adapter.current.launchResult;
+    const { session } = this.adapter.currentSession.launchResult;
     if (!(target <= LAST_ADDRESS) || !isCall(session.debugger.session.romBytes[target])) fail(say.NO_TARGET);
     return this.moveResponse(args, (machine) => machine.stepIntoCall(target));
   }
@@ -79,14 +79,14 @@ export class MoveHandlers {
   /** @param {any} args */
   stepOut(args) {
     const moveResponse = this.moveResponse(args, (machine) => machine.runToGoal({ kind: "out" }));
-    if (readStackFrames(this.adapter.current.launchResult.session).length === 1) throw new AdapterError(NO_CALL_WAITS, true);
+    if (readStackFrames(this.adapter.currentSession.launchResult.session).length === 1) throw new AdapterError(NO_CALL_WAITS, true);
     return moveResponse;
   }
 
   /** @param {any} args */
   restartFrame(args) {
     this.checkPaused();
-    const { machine, queryHandlers } = this.adapter.current;
+    const { machine, queryHandlers } = this.adapter.currentSession;
     const { call, returns } = queryHandlers.requestedFrame(args);
     if (call < 0) throw new AdapterError(say.NOT_CALLED, true);
     return new ResponseWithFollowUp(undefined, () => machine.goBack({ kind: "call", call, returns }));
@@ -95,7 +95,7 @@ export class MoveHandlers {
   /** Throws AdapterError if the machine runs, or if the client has not sent `configurationDone` yet. */
   checkPaused() {
     if (!this.adapter.isConfigured) fail(say.CONFIGURED_FIRST);
-    if (this.adapter.current.machine.isMoving) fail(NOT_STOPPED);
+    if (this.adapter.currentSession.machine.isMoving) fail(NOT_STOPPED);
   }
 
   /** @param {any} args */
@@ -105,7 +105,7 @@ export class MoveHandlers {
 
   /** @param {any} args */
   gotoTargets(args) {
-    const { current: { launchResult: { session }, queryHandlers }, firstLine } = this.adapter;
+    const { currentSession: { launchResult: { session }, queryHandlers }, firstLine } = this.adapter;
     if (!queryHandlers.isProgram(getField(args, "source"))) return { targets: [] };
     const instruction = instructionForLine(requireNumber(args, "line") + 1 - firstLine, session.map);
     if (instruction.address < 0) return { targets: [] };
@@ -118,7 +118,7 @@ export class MoveHandlers {
   async goto(args) {
     this.checkPaused();
     this.checkThread(args);
-    const { machine, launchResult } = this.adapter.current;
+    const { machine, launchResult } = this.adapter.currentSession;
     const address = requireNumber(args, "targetId");
     if (!(address >= 0 && address <= LAST_ADDRESS)) fail(say.NO_TARGET);
     await launchResult.session.debugger.session.serve(`poke pc ${address}\n`, async () => true);

@@ -84,7 +84,7 @@ export class QueryHandlers {
   /** @param {any} args */
   stackTrace(args) {
     const stack = readStackFrames(this.session);
-    const from = Math.max(0, requireNumber(args, "startFrame", 0));
+    const firstFrame = Math.max(0, requireNumber(args, "startFrame", 0));
     const levels = requireNumber(args, "levels", 0);
     const [isHex, showsLine] = [readFormatFlag(args, "hex"), readFormatFlag(args, "line") === true];
     const frames = stack.map(({ address, line, name, call }, index) => ({
@@ -93,7 +93,7 @@ export class QueryHandlers {
       ...(line > 0 ? { line: line - 1 + this.firstLine, column: this.firstColumn, source: this.source }
         : { line: 0, column: 0, presentationHint: "subtle" }),
     }));
-    return { stackFrames: frames.slice(from, levels > 0 ? from + levels : undefined), totalFrames: stack.length };
+    return { stackFrames: frames.slice(firstFrame, levels > 0 ? firstFrame + levels : undefined), totalFrames: stack.length };
   }
 
   /** @param {any} args */
@@ -230,7 +230,7 @@ export class QueryHandlers {
   disassemble(args, addressOf) {
     const startAddress = addressOf(requireText(args, "memoryReference")) + requireNumber(args, "offset", 0);
     const count = requireNumber(args, "instructionCount");
-    if (!(startAddress >= 0 && startAddress <= LAST_ADDRESS)) fail(say.ADDRESSES_ARE);
+    if (!(startAddress >= 0 && startAddress <= LAST_ADDRESS)) fail(say.ADDRESS_RANGE);
     if (!(count >= 0 && count <= MAX_ROWS)) fail(say.instructionCountRangeMessage(MAX_ROWS));
     // Clients cannot read negative addresses, so the response omits rows before ROM.
     const rows = listInstructionRows(this.session, startAddress, requireNumber(args, "instructionOffset", 0), count)

@@ -80,7 +80,7 @@ export function readRequestedFiles(args, host) {
   const projectNames = project === "" ? { board: "", program: "" } : findProjectFiles(project, host);
   const program = namedProgram || projectNames.program;
   if (program === "" && session === "") {
-    const message = say.LAUNCH_NEEDS;
+    const message = say.LAUNCH_SYNTAX;
     throw new AdapterError(say.boardHint(message), true);
   }
   if (program !== "" && session === program) throw new AdapterError(say.ONE_FILE, true);
@@ -305,7 +305,7 @@ export async function launch(engine, args, host, messages) {
  * @returns {Promise<LaunchResult>}
  */
 export async function attach(engine, args, host, messages) {
-  if (optionalText(args, "session") === "") throw new AdapterError(say.ATTACH_NEEDS, true);
+  if (optionalText(args, "session") === "") throw new AdapterError(say.ATTACH_SYNTAX, true);
   const savesToFile = optionalFlag(args, "write", false);
   const requestedFiles = readRequestedFiles(args, host);
   if (!host.fileExists(requestedFiles.session)) throw new AdapterError(say.noSessionMessage(requestedFiles.session), true);

@@ -29,7 +29,7 @@ export class SessionWriter {
     /** @type {Segment | null} the segment of the timeline whose commands are in the file; null if the file contents are unknown */
     this.segment = session.timeline.lastSegment;
     /** The number of commands in the file, counted from the start of the segment. */
-    this.count = 0;
+    this.commandCount = 0;
   }
 
   /**
@@ -37,10 +37,10 @@ export class SessionWriter {
    * @param {WorkerSession} session
    */
   missingLines({ timeline, unrecordedCommands }) {
-    const from = this.segment ? timeline.segments.indexOf(this.segment) : -1;
-    if (from < 0 || timeline.segments.slice(from + 1).some(({ follows }) => !follows)) return null;
-    const entries = [...timeline.segments.slice(from).flatMap((segment) => segment.entries), ...unrecordedCommands];
-    return entries.slice(this.count).map(({ line }) => line);
+    const segmentIndex = this.segment ? timeline.segments.indexOf(this.segment) : -1;
+    if (segmentIndex < 0 || timeline.segments.slice(segmentIndex + 1).some(({ follows }) => !follows)) return null;
+    const entries = [...timeline.segments.slice(segmentIndex).flatMap((segment) => segment.entries), ...unrecordedCommands];
+    return entries.slice(this.commandCount).map(({ line }) => line);
   }
 
   /**
@@ -55,16 +55,16 @@ export class SessionWriter {
     const allLines = [...lastSegment.entries, ...session.unrecordedCommands].map(({ line }) => line);
     this.segment = null;
     /** @type {(answers: string[]) => void} */
-    const check = (answers) => {
+    const checkAnswers = (answers) => {
       const rejectedAnswer = answers.find((answer) => parseRefusal(answer));
       if (rejectedAnswer) throw new AdapterError(say.fileNotWritten(rejectedAnswer));
       const isSame = answers[answers.length - 1] === state;
       if (!isSame) throw new AdapterError(say.STATES_DIFFER);
     };
-    if (missingLines) check(await this.file.ask(`${joinLines(missingLines)}state\n`, missingLines.length + 1));
-    else await this.file.replace(lastSegment.file, `${joinLines(allLines)}state\n`, allLines.length + 1, check);
+    if (missingLines) checkAnswers(await this.file.ask(`${joinLines(missingLines)}state\n`, missingLines.length + 1));
+    else await this.file.replace(lastSegment.file, `${joinLines(allLines)}state\n`, allLines.length + 1, checkAnswers);
     this.segment = lastSegment;
-    this.count = allLines.length;
+    this.commandCount = allLines.length;
   }
 
   end() {

@@ -93,16 +93,16 @@ export class Bench {
   call(name, parameters, options = {}) {
     const { signal, progress = () => {} } = options;
     this.lastRequestNumber += 1;
-    const { lastRequestNumber: number } = this;
-    if (signal) signal.addEventListener("abort", () => this.cancel(number));
+    const { lastRequestNumber: requestNumber } = this;
+    if (signal) signal.addEventListener("abort", () => this.cancel(requestNumber));
     return new Promise((resolve, reject) => {
       if (!this.worker) {
         reject(new WorkerDiedError());
         return;
       }
-      this.pendingRequests.set(number, { resolve, reject, progress });
+      this.pendingRequests.set(requestNumber, { resolve, reject, progress });
       const spareBuffers = this.spareBuffers.splice(0);
-      this.send({ kind: "request", number, call: name, parameters, spare: spareBuffers }, spareBuffers);
+      this.send({ kind: "request", number: requestNumber, call: name, parameters, spare: spareBuffers }, spareBuffers);
     });
   }
 

@@ -17,7 +17,7 @@ export class BenchTrap extends Error {}
 /** The error of a call that the user cancelled. The call has no effect. */
 export class CancelledError extends Error {
   constructor() {
-    super(say.IT_WAS_CANCELLED);
+    super(say.CANCELLED);
   }
 }
 

@@ -35,7 +35,7 @@ export class ErrorMessages {
    * @param {unknown} error
    */
   failureMessage(error) {
-    if (error instanceof CancelledError) return say.WAS_CANCELLED;
+    if (error instanceof CancelledError) return say.CALL_CANCELLED;
     if (error instanceof BenchRefusal || error instanceof BenchTrap || error instanceof WorkerDiedError) {
       return say.notDoneMessage(this.errorMessage(error));
     }

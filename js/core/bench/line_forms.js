@@ -142,7 +142,7 @@ function findTraceError(count, places) {
 function findWordError([first, ...words]) {
   if (first === undefined) return null;
   if (!ANSWER_FORMATS.has(first)) {
-    return { number: NOT_A_COMMAND, message: say.noLineMessage(first, findSimilarWords(first, ANSWER_FORMATS.keys())) };
+    return { number: NOT_A_COMMAND, message: say.unknownCommandMessage(first, findSimilarWords(first, ANSWER_FORMATS.keys())) };
   }
   const syntaxError = { number: NOT_A_COMMAND, message: say.lineSyntax(first) };
   if (first === "trace") return words.length === 0 ? syntaxError : findTraceError(words[0], words.slice(1));

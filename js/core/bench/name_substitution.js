@@ -25,11 +25,11 @@ const SET_LINE = /^\s*set(?!\S)(.*)$/;
  * @returns {ReplacedLines}
  */
 export function replaceNames(lines, map) {
-  let [message, line] = ["", 0];
-  let isOpen = false;
+  let [message, errorLine] = ["", 0];
+  let isTextOpen = false;
   /** @type {(error: string, lineNumber: number) => void} */
   const reportError = (error, lineNumber) => {
-    if (message === "" && error !== "") [message, line] = [error, lineNumber];
+    if (message === "" && error !== "") [message, errorLine] = [error, lineNumber];
   };
   /** @type {(text: string, lineNumber: number) => string} */
   const replaceInLine = (text, lineNumber) => {
@@ -48,9 +48,9 @@ export function replaceNames(lines, map) {
   });
   const replacedLines = lines.split("\n").map((rawLine, index) => {
     const text = stripCarriageReturn(rawLine);
-    const isInText = isOpen;
-    isOpen = isOpen ? text !== "." : opensText(text);
+    const isInText = isTextOpen;
+    isTextOpen = isTextOpen ? text !== "." : opensText(text);
     return isInText ? rawLine : replaceInLine(text, index + 1);
   });
-  return { lines: replacedLines.join("\n"), message, line };
+  return { lines: replacedLines.join("\n"), message, line: errorLine };
 }

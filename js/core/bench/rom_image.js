@@ -39,7 +39,7 @@ export class ImageBytes {
    */
   put(address, data) {
     const from = address + this.offset;
-    if (from + data.length > ADDRESS_COUNT) throw new ImageError(say.PAST_LAST);
+    if (from + data.length > ADDRESS_COUNT) throw new ImageError(say.PAST_LAST_ADDRESS);
     for (let index = 0; index < data.length; index++) {
       if (this.bytes[from + index] !== NO_BYTE) throw new ImageError(say.duplicateAddress(hex(from + index, 3)));
       this.bytes[from + index] = data[index];
@@ -125,7 +125,7 @@ export function readHex(text, offset = 0) {
   readLines(text, (line) => {
     const record = line.trim();
     if (record === "") return;
-    if (isEnded) throw new ImageError(say.AFTER_LAST);
+    if (isEnded) throw new ImageError(say.AFTER_LAST_RECORD);
     const parsedRecord = readRecord(record);
     storeRecord(parsedRecord, image);
     isEnded = parsedRecord.type === END_TYPE;

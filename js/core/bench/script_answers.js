@@ -117,7 +117,7 @@ export function matchScriptAnswers(script, answers) {
   const inputs = readNumberedInputs(script);
   const unansweredInputs = inputs.map((numberedInput) => ({ ...numberedInput, answer: "" }));
   if (answers.length > 0 && parseRefusal(answers[0])) return { inputs: unansweredInputs, message: "" };
-  if (answers.length === 0 || !SESSION_ANSWER.test(answers[0])) return { inputs: unansweredInputs, message: say.FIRST_IS_SESSION };
+  if (answers.length === 0 || !SESSION_ANSWER.test(answers[0])) return { inputs: unansweredInputs, message: say.SESSION_LINE_MISSING };
   const matcher = new AnswerMatcher(answers);
   const answeredInputs = inputs.map(({ input, lineNumber }) => ({ input, lineNumber, answer: matcher.takeAnswer(input, lineNumber) }));
   const { message, isDone, nextIndex } = matcher;

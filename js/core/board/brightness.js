@@ -158,7 +158,7 @@ export class Brightness {
    */
   constructor(face, count) {
     /** @type {number[]} the duty cycle of each lamp */
-    this.lamps = new Array(count).fill(0);
+    this.lampDuties = new Array(count).fill(0);
     /** @type {boolean[]} for each lamp, whether it is perceived as on */
     this.isOn = [];
     const groups = fittingGroups(face, count);
@@ -180,11 +180,11 @@ export class Brightness {
    * @param {string} marks one mark per lamp, `*` if the lamp is on
    */
   begin(marks) {
-    this.isOn = this.lamps.map((_, lamp) => isLit(marks, lamp));
-    this.lamps = this.isOn.map(Number);
+    this.isOn = this.lampDuties.map((_, lamp) => isLit(marks, lamp));
+    this.lampDuties = this.isOn.map(Number);
     this.digits = this.displays.map(({ rows }) => Array.from({ length: rows }, () => new PerceivedDigit()));
     this.scannedGroups = this.scannedGroups.map((lamps) => lamps.map(() => 0));
-    this.lampSteadiness = this.lamps.map(() => new SteadinessDetector());
+    this.lampSteadiness = this.lampDuties.map(() => new SteadinessDetector());
     this.displaySteadiness = this.displays.map(() => new SteadinessDetector());
   }
 
@@ -197,14 +197,14 @@ export class Brightness {
     const { cycles } = litShares;
     if (cycles === 0) return;
     const remainingShare = Math.exp(-time / EYE_PERSISTENCE_MS);
-    this.updateDuties(this.lamps, litShares.lamps, cycles, remainingShare);
+    this.updateDuties(this.lampDuties, litShares.lamps, cycles, remainingShare);
     this.lampSteadiness.forEach((detector, lamp) => {
       detector.add(litShares.changeSummaries[lamp], cycles, time);
       const { isSteady } = detector;
       const isLitNow = isLit(litShares.marks, lamp);
       // A steady lamp that is on has full brightness at once. A lamp that goes off fades, so that a short flash stays visible.
-      if (isSteady && isLitNow) this.lamps[lamp] = 1;
-      this.isOn[lamp] = isSteady ? isLitNow : this.lamps[lamp] >= MIN_ON_DUTY;
+      if (isSteady && isLitNow) this.lampDuties[lamp] = 1;
+      this.isOn[lamp] = isSteady ? isLitNow : this.lampDuties[lamp] >= MIN_ON_DUTY;
     });
     this.scannedGroups.forEach((duties, index) => this.updateDuties(duties, litShares.scanned[index], cycles, remainingShare));
     litShares.displays.forEach((display, index) => {

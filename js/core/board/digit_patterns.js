@@ -76,7 +76,7 @@ function valueAt(marks, firstLamp) {
  * @returns {number[]}
  */
 export function digitPatterns(display, marks) {
-  return display.by < 0 ? findDirectPatterns(display, marks) : multiplexedPatterns(display, marks);
+  return display.firstRowLamp < 0 ? findDirectPatterns(display, marks) : multiplexedPatterns(display, marks);
 }
 
 /**
@@ -84,11 +84,11 @@ export function digitPatterns(display, marks) {
  * @param {Group} display
  * @param {string} marks one mark per lamp, `*` if the lamp is on
  */
-function multiplexedPatterns({ first, rows, columns, by }, marks) {
+function multiplexedPatterns({ first, rows, columns, firstRowLamp }, marks) {
   const value = valueAt(marks, first);
   const segments = columns >= 7 ? segmentsAt(marks, first) : value < 10 ? DIGIT_PATTERNS[value] : INVALID_DIGIT_PATTERN;
   const point = hasPoints(columns) && isLit(marks, first + columns - 1) ? POINT_BIT : 0;
-  return Array.from({ length: rows }, (_, digit) => (isLit(marks, by + digit) ? segments + point : UNLIT_PATTERN));
+  return Array.from({ length: rows }, (_, digit) => (isLit(marks, firstRowLamp + digit) ? segments + point : UNLIT_PATTERN));
 }
 
 /**

@@ -17,10 +17,10 @@ import * as say from "../../words/board.js";
  * @typedef {{ row: number, column: number, lamp: number, line: number }} GridLamp
  *
  * A group of lamps that starts at lamp `first`: a display, a die, a bar or a matrix. In a display, each row is a digit with four or seven
- * columns, plus one column if the digits have decimal points. If `by` is -1, each lamp of the group is a board lamp. Otherwise the group
- * is multiplexed: it has one board lamp per column from lamp `first` on, and one board lamp per row from lamp `by` on. A lamp of the group
- * is on while the board lamps for its row and its column are both on.
- * @typedef {{ kind: string, first: number, rows: number, columns: number, by: number, line: number }} Group
+ * columns, plus one column if the digits have decimal points. If `firstRowLamp` is -1, each lamp of the group is a board lamp. Otherwise
+ * the group is multiplexed: it has one board lamp per column from lamp `first` on, and one board lamp per row from lamp `firstRowLamp` on.
+ * A lamp of the group is on while the board lamps for its row and its column are both on.
+ * @typedef {{ kind: string, first: number, rows: number, columns: number, firstRowLamp: number, line: number }} Group
  *
  * The `button` or `switch` (`kind`) at the TEST pin. `level` is the TEST level while the button is pressed or the switch is on.
  * @typedef {{ kind: string, name: string, level: number, line: number }} TestPin
@@ -248,22 +248,22 @@ export class Face {
     const size = parseSize(kind, splitWords(words));
     const group = size && { kind: name, first: Number(first), ...size, line };
     if (!group) this.reportError(line, kind.wordsError);
-    else if (group.by < 0 || this.checkMultiplexing(group)) this.groups.push(group);
+    else if (group.firstRowLamp < 0 || this.checkMultiplexing(group)) this.groups.push(group);
   }
 
   /**
    * Returns whether a multiplexed group is within the limits and uses each lamp only once; otherwise reports an error.
    * @param {Group} group
    */
-  checkMultiplexing({ kind, first, rows, columns, by, line }) {
-    const [row, column] = kind === "display" ? ["digits", say.A_SEGMENT] : ["rows", say.A_COLUMN];
+  checkMultiplexing({ kind, first, rows, columns, firstRowLamp, line }) {
+    const [rowWord, columnWord] = kind === "display" ? ["digits", say.A_SEGMENT] : ["rows", say.A_COLUMN];
     const max = findLimit("scanned");
     const fits = rows <= max && columns <= max;
-    const sharedLamp = Math.max(first, by);
-    const isShared = sharedLamp < Math.min(first + columns, by + rows);
-    if (!fits) this.reportError(line, formatMessage("too many scanned", row));
+    const sharedLamp = Math.max(first, firstRowLamp);
+    const isShared = sharedLamp < Math.min(first + columns, firstRowLamp + rows);
+    if (!fits) this.reportError(line, formatMessage("too many scanned", rowWord));
     else if (isShared) {
-      this.reportError(line, formatMessage("scanned twice", sharedLamp, column, row === "digits" ? say.A_DIGIT : say.A_ROW));
+      this.reportError(line, formatMessage("scanned twice", sharedLamp, columnWord, rowWord === "digits" ? say.A_DIGIT : say.A_ROW));
     }
     return fits && !isShared;
   }

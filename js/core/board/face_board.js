@@ -60,21 +60,21 @@ export function findPrinter(board, { printer }) {
  * Returns the highest lamp number of a group, plus 1.
  * @param {Group} group
  */
-export function groupEnd({ first, rows, columns, by }) {
-  return by < 0 ? first + rows * columns : Math.max(first + columns, by + rows);
+export function groupEnd({ first, rows, columns, firstRowLamp }) {
+  return firstRowLamp < 0 ? first + rows * columns : Math.max(first + columns, firstRowLamp + rows);
 }
 
 /**
  * Returns the lamp numbers of a group.
  * @param {Group} group
  */
-export function groupLamps({ first, rows, columns, by }) {
+export function groupLamps({ first, rows, columns, firstRowLamp }) {
   const numbersFrom = (/** @type {number} */ start, /** @type {number} */ count) => indices(count).map((index) => start + index);
-  return by < 0 ? numbersFrom(first, rows * columns) : [...numbersFrom(first, columns), ...numbersFrom(by, rows)];
+  return firstRowLamp < 0 ? numbersFrom(first, rows * columns) : [...numbersFrom(first, columns), ...numbersFrom(firstRowLamp, rows)];
 }
 
 /** @type {(group: Group) => boolean} returns whether a group is multiplexed */
-export const isMultiplexed = ({ by }) => by >= 0;
+export const isMultiplexed = ({ firstRowLamp }) => firstRowLamp >= 0;
 
 /**
  * Returns the groups whose lamps are all on the board.
@@ -122,7 +122,7 @@ export function printerLines({ strobe, port }) {
 export function missingParts(face, board) {
   /** @type {FaceError[]} */
   const errors = [];
-  const count = board.lamps.length;
+  const lampCount = board.lamps.length;
   /** @type {(kind: string, line: number, messageName: string, ...values: (string | number)[]) => void} */
   const addError = (kind, line, messageName, ...values) => {
     errors.push({ line, message: formatMessage(messageName, ...values), isFatal: isFatal(kind) });
@@ -131,11 +131,13 @@ export function missingParts(face, board) {
     if (text === "" || (row < board.rows && column < board.columns)) continue;
     addError("row", line, board.rows ? "key not there" : "no keys", text, row, column, board.rows, board.columns);
   }
-  for (const [lamp, { text, line }] of face.lamps) if (lamp >= count) addError("lamp", line, "lamp not there", text, lamp, count);
-  for (const [line, lamp] of lastColouredLamps(face)) if (lamp >= count) addError("colour", line, "no lamp for colour", lamp, count);
-  for (const { lamp, line } of face.grid) if (lamp >= count) addError("grid", line, "no lamp for place", lamp, count);
+  for (const [lamp, { text, line }] of face.lamps) if (lamp >= lampCount) addError("lamp", line, "lamp not there", text, lamp, lampCount);
+  for (const [line, lamp] of lastColouredLamps(face)) {
+    if (lamp >= lampCount) addError("colour", line, "no lamp for colour", lamp, lampCount);
+  }
+  for (const { lamp, line } of face.grid) if (lamp >= lampCount) addError("grid", line, "no lamp for place", lamp, lampCount);
   for (const group of face.groups) {
-    if (groupEnd(group) > count) addError(group.kind, group.line, "no lamps for group", group.kind, groupEnd(group) - 1, count);
+    if (groupEnd(group) > lampCount) addError(group.kind, group.line, "no lamps for group", group.kind, groupEnd(group) - 1, lampCount);
   }
   const { buzzer } = face;
   if (buzzer && !hasOutput(board, buzzer.place)) addError("buzzer", buzzer.line, "no output line", buzzer.place);

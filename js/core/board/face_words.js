@@ -14,13 +14,13 @@ import table from "#face-table";
  */
 
 /** The rows of the table, split into columns. */
-const rows = table.split("\n").filter((line) => line !== "" && !line.startsWith("#")).map((line) => line.split("\t"));
+const allRows = table.split("\n").filter((line) => line !== "" && !line.startsWith("#")).map((line) => line.split("\t"));
 
 /**
  * Returns the table rows that start with the given word, without that word.
  * @param {string} word
  */
-const tableRows = (word) => rows.filter((row) => row[0] === word).map((row) => row.slice(1));
+const tableRows = (word) => allRows.filter((row) => row[0] === word).map((row) => row.slice(1));
 
 /**
  * Converts a table row to the first word of a line and its kind.
@@ -110,11 +110,11 @@ export function fitsWords({ pattern: expression }, words) {
  */
 export function parseSize(kind, words) {
   if (!fitsWords(kind, words)) return null;
-  const end = words.indexOf("scanned");
-  const rowLamp = end < 0 ? "" : words[words.length - 1];
+  const scannedIndex = words.indexOf("scanned");
+  const rowLamp = scannedIndex < 0 ? "" : words[words.length - 1];
   if (rowLamp && !isNumber(rowLamp)) return null;
-  const [first, second] = words.slice(0, end < 0 ? words.length : end).filter(isNumber).map(Number);
-  const size = { rows: 1, columns: first, by: rowLamp ? Number(rowLamp) : -1 };
+  const [first, second] = words.slice(0, scannedIndex < 0 ? words.length : scannedIndex).filter(isNumber).map(Number);
+  const size = { rows: 1, columns: first, firstRowLamp: rowLamp ? Number(rowLamp) : -1 };
   if (kind.size === "rows") Object.assign(size, { rows: first, columns: second });
   if (kind.size === "digits") Object.assign(size, { rows: first, columns: (second || 4) + (words.includes("points") ? 1 : 0) });
   return size.rows * size.columns > 0 ? size : null;

@@ -82,7 +82,7 @@ class LampAnswerReader {
  * @returns {DisplayTexts}
  */
 export function convertLampAnswers(face, board, name, answers) {
-  if (!face.groups.some(({ kind }) => kind === "display")) return { lines: [], error: say.hasNoDisplayMessage(name) };
+  if (!face.groups.some(({ kind }) => kind === "display")) return { lines: [], error: say.noDisplayMessage(name) };
   const reader = new LampAnswerReader(face, board, name);
   /** @type {string[]} */
   const lines = [];

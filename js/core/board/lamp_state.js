@@ -18,7 +18,7 @@ import { isLit } from "./digit_patterns.js";
  * @returns {LampReader}
  */
 export function lampAt(lamp) {
-  return { isLit: (marks) => isLit(marks, lamp), duty: ({ lamps }) => lamps[lamp], isOn: ({ isOn }) => isOn[lamp] };
+  return { isLit: (marks) => isLit(marks, lamp), duty: ({ lampDuties }) => lampDuties[lamp], isOn: ({ isOn }) => isOn[lamp] };
 }
 
 /**
@@ -29,8 +29,8 @@ export function lampAt(lamp) {
  * @param {number} index the lamp's index in the group, row by row
  * @returns {LampReader & { column: number, row: number }} `column` and `row` are the board lamps that select the lamp
  */
-export function scannedLampAt({ first, rows, columns, by }, number, index) {
-  const [column, row] = [first + (index % columns), by + Math.floor(index / columns)];
+export function scannedLampAt({ first, rows, columns, firstRowLamp }, number, index) {
+  const [column, row] = [first + (index % columns), firstRowLamp + Math.floor(index / columns)];
   /** @type {LampReader["duty"]} */
   const duty = ({ scannedGroups }) => Math.min(1, scannedGroups[number][index] * rows);
   return {

@@ -9,7 +9,7 @@
  * @typedef {[Point, Point, Point, Point]} Curve a cubic Bezier curve: its start, two control points, and its end
  */
 
-/** The horizontal distance from a pin to a control point, in arcs within one column and in detours that do not run to the right. */
+/** The horizontal distance from a pin to a control point. Used for arcs within one column, and for detours that do not run to the right. */
 const CONTROL_OFFSET = 12;
 /** The distance from pins and parts to the turning points of a wire. */
 const TURN_DISTANCE = 8;
@@ -136,10 +136,10 @@ function detourRoute(ends, y) {
  * Returns the curves of a wire. They form the first possible route that no part covers, or else the direct curve.
  * @param {Ends} ends
  * @param {Box[]} boxes the boxes of the parts
- * @param {number} number the number of the wire, which selects its offset in LANE_OFFSETS
+ * @param {number} wireNumber the number of the wire, which selects its offset in LANE_OFFSETS
  * @returns {Curve[]}
  */
-export function routeWire(ends, boxes, number) {
+export function routeWire(ends, boxes, wireNumber) {
   const { from, to } = ends;
   // A part that covers an end of the wire cannot be avoided.
   const avoidableBoxes = boxes.filter((box) => !isInside(from, box) && !isInside(to, box));
@@ -147,7 +147,7 @@ export function routeWire(ends, boxes, number) {
   const isRouteFree = (route) => !route.some((curve) => avoidableBoxes.some((box) => isCurveCovered(curve, box)));
   const directRoute = [directCurve(ends)];
   if (isRouteFree(directRoute)) return directRoute;
-  const offset = LANE_OFFSETS[number % LANE_OFFSETS.length];
+  const offset = LANE_OFFSETS[wireNumber % LANE_OFFSETS.length];
   const boxesBetween = avoidableBoxes.filter(({ x, width }) => x > from.x && x + width < to.x);
   const left = Math.min(...boxesBetween.map(({ x }) => x)) - TURN_DISTANCE;
   const right = Math.max(...boxesBetween.map(({ x, width }) => x + width)) + TURN_DISTANCE;

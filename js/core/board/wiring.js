@@ -346,17 +346,17 @@ export function layOutBoard(board, appearance = { names: [], colours: [], test: 
   const hasChips = board.roms.length + board.banks.length > 0;
   const hasFrontPanel = board.matrix !== null || board.lamps.length > 0 || Boolean(appearance.buzzer);
   const columns = layOutColumns([true, hasChips, board.chains.length > 0, hasFrontPanel]);
-  const [first, second, third, fourth] = columns;
-  const parts = [addProcessor(first, appearance.test)];
-  if (appearance.test) parts.push(addTestPart(first, appearance.test));
-  for (const rom of [...board.roms].sort((a, b) => a.chip - b.chip)) parts.push(addRom(second, rom, uses));
+  const [firstColumn, secondColumn, thirdColumn, fourthColumn] = columns;
+  const parts = [addProcessor(firstColumn, appearance.test)];
+  if (appearance.test) parts.push(addTestPart(firstColumn, appearance.test));
+  for (const rom of [...board.roms].sort((a, b) => a.chip - b.chip)) parts.push(addRom(secondColumn, rom, uses));
   for (const { bank, chips } of board.banks) {
-    for (let chip = 0; chip < chips; chip++) parts.push(addRam(second, bank, chip, uses));
+    for (let chip = 0; chip < chips; chip++) parts.push(addRam(secondColumn, bank, chip, uses));
   }
-  board.chains.forEach((chain, index) => parts.push(addChain(third, chain, index, uses)));
-  if (board.matrix) parts.push(addKeys(fourth, board.matrix));
-  if (board.lamps.length > 0) parts.push(addLamps(fourth, board.lamps, appearance));
-  if (appearance.buzzer) parts.push(addBuzzer(fourth, appearance.buzzer));
+  board.chains.forEach((chain, index) => parts.push(addChain(thirdColumn, chain, index, uses)));
+  if (board.matrix) parts.push(addKeys(fourthColumn, board.matrix));
+  if (board.lamps.length > 0) parts.push(addLamps(fourthColumn, board.lamps, appearance));
+  if (appearance.buzzer) parts.push(addBuzzer(fourthColumn, appearance.buzzer));
   moveParts(parts, positions);
   const width = Math.max(...parts.map((part) => part.x + part.width)) + MARGIN;
   const height = Math.max(...parts.map((part) => part.y + part.height)) + PART_GAP;

@@ -42,17 +42,17 @@ const COMPILERS = { lamps: compileLamps, display: compileDisplay, printed: compi
  * Compiles a comparison of two compiled values.
  * @param {Value} value
  * @param {CompareNode["sign"]} sign
- * @param {Value} required
+ * @param {Value} requiredValue
  * @returns {CompiledCondition}
  */
-function compareValues(value, sign, required) {
+function compareValues(value, sign, requiredValue) {
   const compare = COMPARISONS[sign];
   return {
     address: -1,
-    matches: (values) => compare(value.read(values), required.read(values)),
+    matches: (values) => compare(value.read(values), requiredValue.read(values)),
     explain: (values, _, isNot) => {
-      const number = required.read(values);
-      const requiredText = required.isConstant ? String(number) : say.valueIs(required.name, number);
+      const number = requiredValue.read(values);
+      const requiredText = requiredValue.isConstant ? String(number) : say.valueIs(requiredValue.name, number);
       const requirement = sign === "=" ? requiredText : `${sign} ${requiredText}`;
       return say.mustBeMessage(value.name, String(value.read(values)), requirement, false, isNot);
     },
@@ -60,14 +60,14 @@ function compareValues(value, sign, required) {
 }
 
 /**
- * Throws `ConditionError` if `required` is a constant that exceeds the maximum of `value`.
+ * Throws `ConditionError` if `requiredValue` is a constant that exceeds the maximum of `value`.
  * @param {Value} value
  * @param {ValueNode} node the syntax node of the constant
- * @param {Value} required the constant
+ * @param {Value} requiredValue the constant
  */
-function checkRange(value, node, required) {
-  if (value.isConstant || !required.isConstant) return;
-  const number = required.read([]);
+function checkRange(value, node, requiredValue) {
+  if (value.isConstant || !requiredValue.isConstant) return;
+  const number = requiredValue.read([]);
   if (number <= value.maxValue) return;
   fail(say.valueRangeMessage(value.name, value.maxValue, node.kind === "number" ? node.text : say.valueIs(node.text, number)), node.column);
 }
@@ -81,11 +81,11 @@ function checkRange(value, node, required) {
  */
 function compileComparison({ sign, left, right }, names, dependencies) {
   const value = compileValue(left, names, dependencies);
-  const required = compileValue(right, names, dependencies);
-  checkRange(value, right, required);
-  checkRange(required, left, value);
-  if (value.name !== "pc" || !required.isConstant || (sign !== "=" && sign !== "!=")) return compareValues(value, sign, required);
-  const address = required.read([]);
+  const requiredValue = compileValue(right, names, dependencies);
+  checkRange(value, right, requiredValue);
+  checkRange(requiredValue, left, value);
+  if (value.name !== "pc" || !requiredValue.isConstant || (sign !== "=" && sign !== "!=")) return compareValues(value, sign, requiredValue);
+  const address = requiredValue.read([]);
   const condition = compileCounter(address, String(address), names, dependencies);
   return sign === "=" ? condition : negateCondition(condition, "");
 }
@@ -99,12 +99,12 @@ function compileComparison({ sign, left, right }, names, dependencies) {
  * @returns {CompiledCondition}
  */
 function compilePlaceValues({ place, values, text, column }, names, dependencies) {
-  const [first] = values;
+  const [firstValue] = values;
   if (values.length === 1) {
-    return compileComparison({ kind: "compare", sign: "=", left: place, right: first, text, column }, names, dependencies);
+    return compileComparison({ kind: "compare", sign: "=", left: place, right: firstValue, text, column }, names, dependencies);
   }
   const nibbles = nibbleValues(place, values.length, names, dependencies);
-  const required = values.map((value, index) => {
+  const requiredValues = values.map((value, index) => {
     const requiredValue = compileValue(value, names, dependencies);
     checkRange(nibbles[index], value, requiredValue);
     return requiredValue;
@@ -113,9 +113,9 @@ function compilePlaceValues({ place, values, text, column }, names, dependencies
   const joinValues = (compiledValues, answers) => compiledValues.map((value) => value.read(answers)).join(" ");
   return {
     address: -1,
-    matches: (answers) => nibbles.every((value, index) => value.read(answers) === required[index].read(answers)),
+    matches: (answers) => nibbles.every((value, index) => value.read(answers) === requiredValues[index].read(answers)),
     explain: (answers, _, isNot) => (
-      say.mustBeMessage(nibbles[0].name, joinValues(nibbles, answers), joinValues(required, answers), false, isNot)
+      say.mustBeMessage(nibbles[0].name, joinValues(nibbles, answers), joinValues(requiredValues, answers), false, isNot)
     ),
   };
 }

@@ -153,11 +153,11 @@ export function compileTestCondition(conditionText, names) {
     const places = allPlaces.filter((place) => !isStatePlace(place));
     checkPlaceCount(places);
     /** @type {(values: string[], extraValues: ExtraValues) => string[]} returns the values of all places, in the order of `allPlaces` */
-    const allValues = (values, extraValues) => {
+    const joinAllValues = (values, extraValues) => {
       let index = 0;
       return allPlaces.map((place) => (isStatePlace(place) ? extraValues[place] : values[index++]));
     };
-    const selectValues = statePlaces.length === 0 ? (/** @type {string[]} */ values) => values : allValues;
+    const selectValues = statePlaces.length === 0 ? (/** @type {string[]} */ values) => values : joinAllValues;
     return {
       text, negation, places, needs: [...dependencies.needs, ...statePlaces], address,
       holds: (values, extraValues = DEFAULT_VALUES) => matches(selectValues(values, extraValues), extraValues),

@@ -343,9 +343,9 @@ class Parser {
    * @returns {"" | "in" | "out"}
    */
   parseDirection(word) {
-    const next = this.scanner.peek();
-    const direction = next.text.toLowerCase();
-    if (!PORT_NAME.test(word) || next.kind !== "word" || (direction !== "in" && direction !== "out")) return "";
+    const nextToken = this.scanner.peek();
+    const direction = nextToken.text.toLowerCase();
+    if (!PORT_NAME.test(word) || nextToken.kind !== "word" || (direction !== "in" && direction !== "out")) return "";
     this.scanner.next();
     return direction;
   }
@@ -356,10 +356,10 @@ class Parser {
    * @returns {AtNode}
    */
   parseLabel(column) {
-    const name = this.scanner.peek();
-    if (name.kind !== "word") fail(say.AT_SYNTAX, column);
+    const nameToken = this.scanner.peek();
+    if (nameToken.kind !== "word") fail(say.AT_SYNTAX, column);
     this.scanner.next();
-    return { kind: "at", label: name.text.replace(/^@/, ""), text: this.textFrom(column), column };
+    return { kind: "at", label: nameToken.text.replace(/^@/, ""), text: this.textFrom(column), column };
   }
 
   // --- Keywords followed by names ---
@@ -376,9 +376,9 @@ class Parser {
     scanner.goTo(token.end);
     const name = scanner.nextRawWord(this.depth > 0);
     if (!name) return fail(PANEL_MESSAGES[kind], token.column);
-    const state = this.peekName();
-    const isOn = state.kind === "word" ? PANEL_STATES.get(state.text.toLowerCase()) : undefined;
-    if (isOn !== undefined && (kind === "key") === /^(down|up)$/i.test(state.text)) {
+    const stateToken = this.peekName();
+    const isOn = stateToken.kind === "word" ? PANEL_STATES.get(stateToken.text.toLowerCase()) : undefined;
+    if (isOn !== undefined && (kind === "key") === /^(down|up)$/i.test(stateToken.text)) {
       scanner.next();
       return { kind: "panel", subject: kind, name: name.text, isOn, text: this.textFrom(token.column), column: token.column };
     }
@@ -386,7 +386,7 @@ class Parser {
       scanner.goTo(token.column);
       return null;
     }
-    if (state.kind === "word") return fail(PANEL_MESSAGES[kind], token.column);
+    if (stateToken.kind === "word") return fail(PANEL_MESSAGES[kind], token.column);
     return { kind, text: name.text, column: token.column };
   }
 

@@ -88,9 +88,9 @@ function hasRam({ banks }, bank, chip) {
  */
 function registerPlace(name) {
   if (/^(acc|cy|pc|dcl|src|ret|r\d|r1[0-5])$/.test(name)) return singlePlace(name);
-  const pair = /^p([0-7])$/.exec(name);
-  if (!pair) return null;
-  const halves = [0, 1].map((half) => `r${2 * Number(pair[1]) + half}`);
+  const pairMatch = /^p([0-7])$/.exec(name);
+  if (!pairMatch) return null;
+  const halves = [0, 1].map((half) => `r${2 * Number(pairMatch[1]) + half}`);
   return { ...singlePlace(name), probesOn: () => halves, value: (answers) => answers.join("") };
 }
 
@@ -146,18 +146,18 @@ function lampPlace(name) {
       probesOn: ({ lamps }) => (lamps.length > 0 ? ["lamps"] : []), value: firstAnswer, number: marksToNumber,
     };
   }
-  const lamp = /^lamp[ .]?(\d+)$/.exec(name);
-  if (lamp) {
-    const lampNumber = Number(lamp[1]);
+  const lampMatch = /^lamp[ .]?(\d+)$/.exec(name);
+  if (lampMatch) {
+    const lampNumber = Number(lampMatch[1]);
     // The value of a lamp is the level of its signal line.
     return {
       ...linePlace(`lamp ${lampNumber}`, () => true), probesOn: ({ lamps }) => lamps.slice(lampNumber, lampNumber + 1),
       value: ([answer]) => (answer === "1" ? "*" : "."),
     };
   }
-  const chain = /^chain([0-3])(?:\.(\d+))?$/.exec(name);
-  if (!chain) return null;
-  const [, number, bit] = chain;
+  const chainMatch = /^chain([0-3])(?:\.(\d+))?$/.exec(name);
+  if (!chainMatch) return null;
+  const [, number, bit] = chainMatch;
   if (bit === undefined) return { ...singlePlace(name, ({ chains }) => Number(number) < chains.length), maxValue: () => -1 };
   return linePlace(name, ({ chains }) => Number(number) < chains.length && Number(bit) < chains[Number(number)].chips * BITS_PER_CHIP);
 }

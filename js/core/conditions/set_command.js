@@ -27,8 +27,8 @@ const SETTABLE_PLACE = /^(acc|cy|pc|dcl|r\d+|p\d|(ram|st)\..*)$/;
 export function settablePlace(text) {
   const word = text.trim().toLowerCase();
   if (word === "test") return word;
-  const address = /^rom\.(\w+)$/.exec(word);
-  if (address) return parseNumber(address[1]) <= LAST_ADDRESS ? `rom.0x${hex(parseNumber(address[1]), 3)}` : "";
+  const addressMatch = /^rom\.(\w+)$/.exec(word);
+  if (addressMatch) return parseNumber(addressMatch[1]) <= LAST_ADDRESS ? `rom.0x${hex(parseNumber(addressMatch[1]), 3)}` : "";
   const place = parsePlace(word);
   return place && SETTABLE_PLACE.test(place.name) ? place.name : "";
 }
@@ -40,9 +40,9 @@ export function settablePlace(text) {
  */
 export function settingLines(place, value) {
   if (place === "test") return `test ${value}\n`;
-  const pair = /^p(\d)$/.exec(place);
-  if (!pair) return `poke ${place} ${value}\n`;
-  const register = 2 * Number(pair[1]);
+  const pairMatch = /^p(\d)$/.exec(place);
+  if (!pairMatch) return `poke ${place} ${value}\n`;
+  const register = 2 * Number(pairMatch[1]);
   return `poke r${register} ${value >> 4}\npoke r${register + 1} ${value & 15}\n`;
 }
 

@@ -204,11 +204,11 @@ function portValue({ text, direction }, { board }, dependencies) {
   const rom = board.roms.find(({ chip }) => `rom${Number(chip)}` === place.name);
   const mask = rom ? [...rom.port] : [];
   const sumBits = (/** @type {string} */ mark) => mask.reduce((sum, bitMark, index) => sum + (bitMark === mark ? 2 ** (3 - index) : 0), 0);
-  const [inputs, ones] = [sumBits("i"), sumBits("1")];
+  const [inputMask, constantOnes] = [sumBits("i"), sumBits("1")];
   const valueIndex = dependencies.addPlace(place.name);
   const read = (/** @type {string[]} */ values) => {
     const levels = parseInt(values[valueIndex], 16);
-    return direction === "in" ? (levels & inputs) | ones : levels & ~inputs;
+    return direction === "in" ? (levels & inputMask) | constantOnes : levels & ~inputMask;
   };
   return { name: `${place.name} ${direction}`, maxValue: 15, isConstant: false, read };
 }
@@ -218,9 +218,9 @@ function portValue({ text, direction }, { board }, dependencies) {
  * @param {string} text
  */
 export function hintFor(text) {
-  if (/^r\d+$/i.test(text)) return say.REGISTERS_ARE;
-  if (/^(ram|st)\b/i.test(text)) return say.CHARACTERS_ARE;
-  return /^(ram|rom)\d/i.test(text) ? say.PORTS_ARE : NAME_HINTS.get(text.toLowerCase()) || "";
+  if (/^r\d+$/i.test(text)) return say.REGISTERS_HINT;
+  if (/^(ram|st)\b/i.test(text)) return say.RAM_PLACES_HINT;
+  return /^(ram|rom)\d/i.test(text) ? say.PORTS_HINT : NAME_HINTS.get(text.toLowerCase()) || "";
 }
 
 /**
@@ -233,7 +233,7 @@ function suggestionFor(text, { map, watched, face }) {
   if (hint) return hint;
   const knownNames = [...(map ? map.names.keys() : []), ...(watched ? watched.keys() : []), ...face.lampNumbers.keys()];
   const similarNames = findSimilarWords(text, knownNames);
-  return similarNames.length > 0 ? say.suggestion(similarNames.join(" ")) : say.PLACES_ARE;
+  return similarNames.length > 0 ? say.suggestion(similarNames.join(" ")) : say.PLACES_HINT;
 }
 
 /**

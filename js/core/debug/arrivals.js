@@ -44,7 +44,7 @@ export class Arrivals {
   /** @param {SoftBreakpoint[]} breakpoints the soft breakpoints, at most one per address */
   constructor(breakpoints) {
     this.breakpoints = breakpoints;
-    this.byAddress = new Map(breakpoints.map((breakpoint) => [breakpoint.address, breakpoint]));
+    this.breakpointsByAddress = new Map(breakpoints.map((breakpoint) => [breakpoint.address, breakpoint]));
     this.places = ["pc", ...new Set(breakpoints.flatMap(({ places }) => places))];
     this.placeIndexes = new Map(breakpoints.map(({ id, places }) => [id, places.map((place) => this.places.indexOf(place))]));
     /** The bench lines that set the breakpoints. */
@@ -54,7 +54,7 @@ export class Arrivals {
     /** The number of arrivals per cycle in the previous run. */
     this.arrivalsPerCycle = 0;
     /** The copy of the session that runs in advance. */
-    this.copy = new Uint8Array(0);
+    this.fileCopy = new Uint8Array(0);
   }
 
   get isEmpty() {
@@ -72,21 +72,21 @@ export class Arrivals {
     const events = createEmptyEvents();
     if (this.isEmpty) return events;
     if (this.arrivalsPerCycle === 0 && this.hasNoArrival(engine, file, plannedLines)) return events;
-    if (this.copy.length !== file.length) this.copy = new Uint8Array(file.length);
-    this.copy.set(file);
-    let [lines, count, done] = [this.setupLines, this.breakpoints.length, 0];
+    if (this.fileCopy.length !== file.length) this.fileCopy = new Uint8Array(file.length);
+    this.fileCopy.set(file);
+    let [lines, answerCount, doneCycles] = [this.setupLines, this.breakpoints.length, 0];
     for (const plannedLine of plannedLines) {
       if (plannedLine.change) {
         lines += `${plannedLine.line}\n`;
-        count += 1;
+        answerCount += 1;
         continue;
       }
-      const cyclesBefore = done;
-      const cyclesRun = this.run(engine, this.copy, { lines, count, cycles: plannedCycles(plannedLine) },
+      const cyclesBefore = doneCycles;
+      const cyclesRun = this.run(engine, this.fileCopy, { lines, count: answerCount, cycles: plannedCycles(plannedLine) },
         (end, row, partCycles) => end !== "break" || this.recordArrival(row, cyclesBefore + partCycles, events));
       if (cyclesRun < 0) return events;
-      done += cyclesRun;
-      [lines, count] = ["", 0];
+      doneCycles += cyclesRun;
+      [lines, answerCount] = ["", 0];
     }
     return events;
   }
@@ -116,9 +116,9 @@ export class Arrivals {
     let [linesBefore, skippedCount, cyclesRun, arrivalCount] = [lines, count, 0, 0];
     while (cyclesRun < cycles) {
       const cyclesLeft = cycles - cyclesRun;
-      const runs = Math.min(cyclesLeft, MAX_RUNS, Math.max(1, Math.round(2 * this.arrivalsPerCycle * cyclesLeft)));
-      const runWithQueries = `run ${Math.floor(cyclesLeft / runs)}\n${this.probes.lines}`;
-      const answers = new ForecastAnswers(engine.serve(file, linesBefore + runWithQueries.repeat(runs), file).answers);
+      const runCount = Math.min(cyclesLeft, MAX_RUNS, Math.max(1, Math.round(2 * this.arrivalsPerCycle * cyclesLeft)));
+      const runWithQueries = `run ${Math.floor(cyclesLeft / runCount)}\n${this.probes.lines}`;
+      const answers = new ForecastAnswers(engine.serve(file, linesBefore + runWithQueries.repeat(runCount), file).answers);
       answers.skip(skippedCount);
       [linesBefore, skippedCount] = ["", 0];
       while (!answers.isEmpty) {
@@ -139,7 +139,7 @@ export class Arrivals {
    * @param {string[]} row the values of `places`, beginning with the program counter
    */
   breakpointAt(row) {
-    const breakpoint = this.byAddress.get(parseInt(row[0], 16));
+    const breakpoint = this.breakpointsByAddress.get(parseInt(row[0], 16));
     return breakpoint && breakpoint.holds(this.breakpointValues(breakpoint, row)) ? breakpoint : null;
   }
 
@@ -159,7 +159,7 @@ export class Arrivals {
    * @param {BreakpointEvents} events receives the hit, and the note or the stop
    */
   recordArrival(row, cycles, events) {
-    const breakpoint = this.byAddress.get(parseInt(row[0], 16));
+    const breakpoint = this.breakpointsByAddress.get(parseInt(row[0], 16));
     // A breakpoint that is not in this list is a hard breakpoint of the session, which always stops the machine.
     if (!breakpoint) return true;
     const { id, holds, noteText, from } = breakpoint;

@@ -38,7 +38,7 @@ export class BreakpointManager {
     this.callbacks = callbacks;
     this.list = new BreakpointList();
     /** @type {Map<string, BreakpointList>} the lists of recent sessions, by session id, in the order in which they were last opened */
-    this.lists = new Map();
+    this.listsById = new Map();
     /** @type {SourceMap | null} the source map; null if the source is not the program in ROM */
     this.map = null;
     /** The reason why ROM does not contain the assembled source; "" if it does. */
@@ -57,7 +57,7 @@ export class BreakpointManager {
     this.pendingCount = 0;
     this.lastRequest = "";
     /** @type {Promise<void>} resolves after all requests are answered */
-    this.allSent = Promise.resolve();
+    this.sendingEnd = Promise.resolve();
     /**
      * @type {{ id: number, changes: Partial<SavedBreakpoint> } | null} the fields that the user is editing, with the id of their breakpoint
      */
@@ -74,13 +74,13 @@ export class BreakpointManager {
    *   used
    */
   open(id, savedBreakpoints) {
-    const storedList = this.lists.get(id);
+    const storedList = this.listsById.get(id);
     const isReusable = storedList && JSON.stringify(storedList.savedBreakpoints) === JSON.stringify(savedBreakpoints);
     this.list = storedList && isReusable ? storedList : new BreakpointList(savedBreakpoints);
     this.list.resetHits();
-    this.lists.delete(id);
-    this.lists.set(id, this.list);
-    for (const oldestId of [...this.lists.keys()].slice(0, -MAX_LISTS)) this.lists.delete(oldestId);
+    this.listsById.delete(id);
+    this.listsById.set(id, this.list);
+    for (const oldestId of [...this.listsById.keys()].slice(0, -MAX_LISTS)) this.listsById.delete(oldestId);
     this.hasSavedList = savedBreakpoints !== undefined;
     this.map = null;
     this.mapError = "";
@@ -352,7 +352,7 @@ export class BreakpointManager {
     this.apply();
   }
 
-  /** Sends the list to the bench, unless the bench already has this list. `allSent` resolves after the bench has set the breakpoints. */
+  /** Sends the list to the bench, unless the bench already has this list. `sendingEnd` resolves after the bench has set the breakpoints. */
   apply() {
     this.callbacks.handleChange();
     const { locatedBreakpoints } = this.list;
@@ -373,7 +373,7 @@ export class BreakpointManager {
   send(breakpoints) {
     const { list, hardAddresses } = this;
     this.pendingCount += 1;
-    this.allSent = Promise.all([this.callbacks.setBreakpoints(breakpoints), this.allSent])
+    this.sendingEnd = Promise.all([this.callbacks.setBreakpoints(breakpoints), this.sendingEnd])
       .finally(() => {
         this.pendingCount -= 1;
       })

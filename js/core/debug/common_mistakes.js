@@ -148,8 +148,8 @@ export class CommonMistakes {
     if (plannedLines.some(({ change }) => change !== null)) this.remainingCycles = FULLY_CHECKED_CYCLES;
     this.callCount += 1;
     const checksAll = this.stoppingKinds.size > 0 && cycles <= MAX_CYCLES_PER_CALL;
-    const sample = this.callCount % CALLS_PER_SAMPLE === 0 ? SAMPLE_CYCLES : 0;
-    const maxCycles = checksAll ? cycles : Math.min(cycles, MAX_CYCLES_PER_CALL, Math.max(this.remainingCycles, sample));
+    const sampleCycles = this.callCount % CALLS_PER_SAMPLE === 0 ? SAMPLE_CYCLES : 0;
+    const maxCycles = checksAll ? cycles : Math.min(cycles, MAX_CYCLES_PER_CALL, Math.max(this.remainingCycles, sampleCycles));
     this.remainingCycles = Math.max(0, this.remainingCycles - maxCycles);
     return maxCycles;
   }
@@ -252,10 +252,10 @@ export class CommonMistakes {
     if (this.isOutsideProgram(address)) return { kind: "bytes", message: say.LEFT_PROGRAM };
     if (!isCall(code) && !isReturn(code)) return null;
     const returns = values[2].split(",").map((digits) => parseInt(digits, 16));
-    const [newest, , oldest] = returns.map((returnAddress) => hex(returnAddress, 3));
+    const [newestDigits, , oldestDigits] = returns.map((returnAddress) => hex(returnAddress, 3));
     const liveFlags = findLiveReturns(returns, returns.map((returnAddress) => hex(codes[callAddress(returnAddress)], 2)), this.map);
-    if (isReturn(code)) return liveFlags[0] ? null : { kind: "return", message: say.returnWithoutCall(newest) };
-    return liveFlags[2] ? { kind: "calls", message: say.returnAddressLost(oldest) } : null;
+    if (isReturn(code)) return liveFlags[0] ? null : { kind: "return", message: say.returnWithoutCall(newestDigits) };
+    return liveFlags[2] ? { kind: "calls", message: say.returnAddressLost(oldestDigits) } : null;
   }
 
   /**

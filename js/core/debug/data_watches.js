@@ -185,12 +185,12 @@ export class DataWatches {
    * @param {Engine} engine
    */
   createFinders(engine) {
-    return this.watches.map((watch) => new LastWatchedChange(engine, watch));
+    return this.watches.map((watch) => new LastWatchedChangeFinder(engine, watch));
   }
 }
 
 /** Finds the last change of a watched place. */
-class LastWatchedChange extends LastChangeFinder {
+class LastWatchedChangeFinder extends LastChangeFinder {
   /**
    * @param {Engine} engine
    * @param {DataWatch} watch

@@ -238,6 +238,11 @@ export class DebugSession {
     return { ...result, message: describeTimeTravel(goal, result, this.counterText, this.breakpoints.get(result.id)) };
   }
 
+  /** Joins the last two moves back into one move, which `goForward` undoes as a whole. */
+  joinMovesBack() {
+    this.debugger.session.timeline.joinMovesBack();
+  }
+
   /** Undoes the last move back: returns to the moment from which that move started. */
   goForward() {
     const result = this.debugger.goForward();

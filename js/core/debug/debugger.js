@@ -376,8 +376,8 @@ export class Debugger {
     const { engine, file } = this.session;
     const copy = file.slice();
     for (let doneCycles = 0; doneCycles < cycles;) {
-      const piece = Math.min(SEARCH_PIECE_CYCLES, cycles - doneCycles);
-      const plannedLines = runLines(piece).trimEnd().split("\n").map((line) => ({ line, change: null }));
+      const pieceCycles = Math.min(SEARCH_PIECE_CYCLES, cycles - doneCycles);
+      const plannedLines = runLines(pieceCycles).trimEnd().split("\n").map((line) => ({ line, change: null }));
       const events = this.arrivals.searchLines(engine, copy, plannedLines);
       for (const [id, hits] of events.hits) allEvents.hits.set(id, (allEvents.hits.get(id) || 0) + hits);
       allEvents.notes = [...allEvents.notes, ...events.notes.map((note) => ({ ...note, cycles: note.cycles + doneCycles }))];
@@ -386,8 +386,8 @@ export class Debugger {
       if (events.cycles >= 0) {
         return { ...events, ...allEvents, cycles: doneCycles + events.cycles, id: events.id, reason: events.reason, change: events.change };
       }
-      engine.serve(copy, runLines(piece), copy);
-      doneCycles += piece;
+      engine.serve(copy, runLines(pieceCycles), copy);
+      doneCycles += pieceCycles;
       if (doneCycles < cycles && !(await shouldContinue(doneCycles))) break;
     }
     return allEvents;

@@ -119,10 +119,10 @@ export function truncateLines(plannedLines, cycles) {
   const result = [];
   let cyclesLeft = cycles;
   for (const plannedLine of plannedLines) {
-    const run = plannedCycles(plannedLine);
+    const lineCycles = plannedCycles(plannedLine);
     if (cyclesLeft === 0) break;
-    result.push(run > cyclesLeft ? { line: `run ${cyclesLeft}`, change: null } : plannedLine);
-    cyclesLeft -= Math.min(run, cyclesLeft);
+    result.push(lineCycles > cyclesLeft ? { line: `run ${cyclesLeft}`, change: null } : plannedLine);
+    cyclesLeft -= Math.min(lineCycles, cyclesLeft);
   }
   return result;
 }

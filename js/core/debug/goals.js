@@ -51,10 +51,10 @@ export function parseCounter(regs) {
 /**
  * Returns a watcher that examines the lines of a trace.
  * @param {string} places the trace places, each preceded by a blank
- * @param {(traced: TracedInstruction) => number} goal returns the cycles up to the goal if an instruction reaches it, otherwise -1
+ * @param {(traced: TracedInstruction) => number} cyclesToGoal returns the cycles up to the goal if an instruction reaches it, otherwise -1
  * @returns {Watcher}
  */
-function traceWatcher(places, goal) {
+function traceWatcher(places, cyclesToGoal) {
   return {
     setupLine: "",
     maxRun: () => MAX_PIECE_CYCLES,
@@ -64,7 +64,7 @@ function traceWatcher(places, goal) {
       const { lines } = answers.takeTrace();
       const run = answers.takeRun();
       for (const line of lines) {
-        const cycles = goal(parseTraceLine(line));
+        const cycles = cyclesToGoal(parseTraceLine(line));
         if (cycles >= 0) return { cycles, isReached: true, end: "" };
       }
       return { ...run, isReached: false };
@@ -90,9 +90,9 @@ function conditionWatcher(condition) {
       if (lastRow !== "" && becomesTrue(condition, lastRow, row)) return { cycles: 1, isReached: true, end: "" };
       lastRow = row;
       for (const line of lines) {
-        const { cycles, row: after } = parseTraceLine(line);
-        if (becomesTrue(condition, lastRow, after)) return { cycles: cycles + 1, isReached: true, end: "" };
-        lastRow = after;
+        const { cycles, row: nextRow } = parseTraceLine(line);
+        if (becomesTrue(condition, lastRow, nextRow)) return { cycles: cycles + 1, isReached: true, end: "" };
+        lastRow = nextRow;
       }
       return { ...run, isReached: false };
     },
@@ -175,9 +175,9 @@ function addressWatcher(engine, file, address) {
 function instructionWatcher(address) {
   let isFirst = true;
   return traceWatcher("", (instruction) => {
-    const isHere = isFirst && instruction.cycles === 0;
+    const isStartInstruction = isFirst && instruction.cycles === 0;
     isFirst = false;
-    return instruction.address === address && !isHere ? instruction.cycles : -1;
+    return instruction.address === address && !isStartInstruction ? instruction.cycles : -1;
   });
 }
 

@@ -34,8 +34,8 @@ class LastArrivalFinder {
     this.arrivals = new Arrivals(breakpoints);
     /** The cycle count and the program counter at present. An arrival at the present moment does not count. */
     this.presentMoment = { total: session.count.total, counter: parseCounter(session.ask("regs\n")[0]).counter };
-    this.copy = new Uint8Array(0);
-    this.total = 0;
+    this.fileCopy = new Uint8Array(0);
+    this.totalCycles = 0;
     /** The cycle count at the last arrival that was found. */
     this.lastArrivalTotal = 0;
   }
@@ -49,9 +49,9 @@ class LastArrivalFinder {
     const [breaks, watches] = engine.ask(file, "breaks\nwatches\n").answers.map(readItems);
     const removalLines = [
       ...breaks.map((address) => `unbreak 0x${address}\n`), ...watches.map((item) => `unwatch ${item.replace(".", " 0x")}\n`)];
-    this.copy = file.slice();
-    engine.serve(this.copy, removalLines.join("") + arrivals.setupLines, this.copy);
-    this.total = count.total;
+    this.fileCopy = file.slice();
+    engine.serve(this.fileCopy, removalLines.join("") + arrivals.setupLines, this.fileCopy);
+    this.totalCycles = count.total;
   }
 
   /**
@@ -61,32 +61,32 @@ class LastArrivalFinder {
    * @returns {BackSearchResult | null}
    */
   findLastIn(units) {
-    const { engine, arrivals, copy, presentMoment } = this;
+    const { engine, arrivals, fileCopy, presentMoment } = this;
     /** @type {BackSearchResult | null} */
     let lastArrival = null;
-    let [lines, count] = ["", 0];
+    let [lines, answerCount] = ["", 0];
     for (const { line, cycles, moment } of units) {
       if (cycles === 0) {
         // The replay skips lines that changed breakpoints or watches in the past, and `run` and `step` lines of 0 cycles.
         if (BREAKPOINT_OR_WATCH_LINE.test(line) || /^(run|step)\b/.test(line)) continue;
-        [lines, count] = [`${lines}${line}\n`, count + 1];
+        [lines, answerCount] = [`${lines}${line}\n`, answerCount + 1];
         continue;
       }
-      const countBefore = this.total;
-      arrivals.run(engine, copy, { lines, count, cycles }, (_, row, cyclesRun) => {
+      const cyclesBefore = this.totalCycles;
+      arrivals.run(engine, fileCopy, { lines, count: answerCount, cycles }, (_, row, cyclesRun) => {
         const breakpoint = arrivals.breakpointAt(row);
-        const isNow = countBefore + cyclesRun === presentMoment.total
+        const isNow = cyclesBefore + cyclesRun === presentMoment.total
           && breakpoint !== null && breakpoint.address === presentMoment.counter;
         if (breakpoint && !isNow) {
           lastArrival = searchResult({ moment: { ...moment, cycles: moment.cycles + cyclesRun }, end: "break", id: breakpoint.id });
-          this.lastArrivalTotal = countBefore + cyclesRun;
+          this.lastArrivalTotal = cyclesBefore + cyclesRun;
         }
         return false;
       });
-      [lines, count] = ["", 0];
-      this.total += cycles;
+      [lines, answerCount] = ["", 0];
+      this.totalCycles += cycles;
     }
-    if (lines !== "") engine.serve(copy, lines, copy);
+    if (lines !== "") engine.serve(fileCopy, lines, fileCopy);
     return lastArrival;
   }
 }

@@ -43,7 +43,7 @@ function findSteppedLine({ registers: before }, { registers: after }, cycles, ma
   const address = parseInt(before.counter, 16);
   if (!map.beginsInstruction(address) || before.owed !== "0" || after.owed !== "0") return 0;
   const line = map.lineOf(address);
-  const { head } = splitStatement(map.sources[line - 1]);
+  const { head } = splitStatement(map.sourceLines[line - 1]);
   const name = head ? head.text.toUpperCase() : "";
   const size = map.sizes[line];
   if (cycles === (name === "FIN" ? 2 : size)) return line;

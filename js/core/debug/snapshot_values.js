@@ -34,8 +34,8 @@ function romLevels(chip, machineState, { roms }) {
  */
 function registerValue(place, machineState) {
   const { registers, parts, ports } = machineState;
-  const register = /^r(\d+)$/.exec(place);
-  if (register) return machineState.register(Number(register[1]));
+  const registerMatch = /^r(\d+)$/.exec(place);
+  if (registerMatch) return machineState.register(Number(registerMatch[1]));
   switch (place) {
     case "acc": return registers.accumulator;
     case "cy": return registers.carry;
@@ -62,19 +62,19 @@ export function readPlaceValue(place, machineState, board) {
   if (registerText !== undefined) return registerText;
   const [word, ...numberWords] = place.split(".");
   const numbers = numberWords.map(parseNumber);
-  const rom = /^rom(\d+)$/.exec(word);
-  const ram = /^ram(\d)$/.exec(word);
-  const chain = /^chain(\d)$/.exec(word);
-  if (rom) {
-    const levels = romLevels(Number(rom[1]), machineState, board);
+  const romMatch = /^rom(\d+)$/.exec(word);
+  const ramMatch = /^ram(\d)$/.exec(word);
+  const chainMatch = /^chain(\d)$/.exec(word);
+  if (romMatch) {
+    const levels = romLevels(Number(romMatch[1]), machineState, board);
     return numbers.length === 0 ? hex(levels, 1) : formatBit(levels, numbers[0]);
   }
-  if (ram) {
-    const output = machineState.ramPort(Number(ram[1]), numbers[0]) || "0";
+  if (ramMatch) {
+    const output = machineState.ramPort(Number(ramMatch[1]), numbers[0]) || "0";
     return numbers.length === 1 ? output : formatBit(parseInt(output, 16), numbers[1]);
   }
-  if (chain) {
-    const bits = machineState.ports.chains[Number(chain[1])] || "";
+  if (chainMatch) {
+    const bits = machineState.ports.chains[Number(chainMatch[1])] || "";
     return numbers.length === 0 ? bits || "-" : bits[numbers[0]] || "0";
   }
   return (word === "ram" ? machineState.character(numbers[0], numbers[1]) : machineState.status(numbers[0], numbers[1], numbers[2])) || "0";

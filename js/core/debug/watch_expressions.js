@@ -34,12 +34,12 @@ const MAX_DECIMAL_ONLY_VALUE = 9;
 /**
  * Returns the reader of a place whose value the user can edit.
  * @param {string} place
- * @param {(machineState: MachineState) => string} value returns the value in a machine state, "" if the board lacks the place
+ * @param {(machineState: MachineState) => string} readValue returns the value in a machine state, "" if the board lacks the place
  * @returns {ValueReader}
  */
-function editableReader(place, value) {
+function editableReader(place, readValue) {
   return (machineState) => {
-    const text = value(machineState);
+    const text = readValue(machineState);
     return text === "" ? [say.BOARD_LACKS_IT] : [{ place, name: place, value: text }];
   };
 }
@@ -59,11 +59,11 @@ const REGISTERS = {
  */
 function registerReader(place) {
   if (Object.prototype.hasOwnProperty.call(REGISTERS, place)) return editableReader(place, REGISTERS[place]);
-  const register = /^r(\d+)$/.exec(place);
-  if (register) return editableReader(place, (machineState) => machineState.register(Number(register[1])));
-  const pair = /^p(\d)$/.exec(place);
-  if (!pair) return null;
-  const halves = [0, 1].map((half) => 2 * Number(pair[1]) + half);
+  const registerMatch = /^r(\d+)$/.exec(place);
+  if (registerMatch) return editableReader(place, (machineState) => machineState.register(Number(registerMatch[1])));
+  const pairMatch = /^p(\d)$/.exec(place);
+  if (!pairMatch) return null;
+  const halves = [0, 1].map((half) => 2 * Number(pairMatch[1]) + half);
   return (machineState) => halves.map((half) => ({ place: `r${half}`, name: `R${half}`, value: machineState.register(half) }));
 }
 
@@ -85,17 +85,17 @@ function memoryReader(place) {
  * @returns {ValueReader | null}
  */
 function portReader(place) {
-  const rom = /^rom(\d+)$/.exec(place);
-  if (rom) {
+  const romMatch = /^rom(\d+)$/.exec(place);
+  if (romMatch) {
     return (machineState) => {
-      const port = machineState.romPort(Number(rom[1]));
+      const port = machineState.romPort(Number(romMatch[1]));
       return [port ? say.outAndIn(port.out, port.in) : say.BOARD_LACKS_IT];
     };
   }
-  const ram = /^ram(\d)\.(\d)$/.exec(place);
-  if (!ram) return null;
+  const ramMatch = /^ram(\d)\.(\d)$/.exec(place);
+  if (!ramMatch) return null;
   return (machineState) => {
-    const output = machineState.ramPort(Number(ram[1]), Number(ram[2]));
+    const output = machineState.ramPort(Number(ramMatch[1]), Number(ramMatch[2]));
     return [output === "" ? say.BOARD_LACKS_IT : `out ${output}`];
   };
 }

@@ -61,7 +61,7 @@ export class Drawing {
     this.shelf = new Map();
     /** The text that the board editor last read from the text editor; null before the first read. */
     this.text = /** @type {string | null} */ (null);
-    this.selected = "";
+    this.selectedPart = "";
     this.wireStart = "";
     this.lastMessage = "";
     /** The positions of dragged parts. */
@@ -81,7 +81,7 @@ export class Drawing {
   /** Forgets the text, the selection and the message, for another session. */
   reset() {
     this.text = null;
-    this.selected = "";
+    this.selectedPart = "";
     this.wireStart = "";
     this.lastMessage = "";
   }
@@ -127,7 +127,7 @@ export class Drawing {
     this.error = error;
     this.wireStart = "";
     if (error === "") this.shelf = new Map(SHELF_PARTS.map((part) => [part, reasonNotToAdd(text, part)]));
-    if (!this.isOnBoard(this.selected)) this.selected = "";
+    if (!this.isOnBoard(this.selectedPart)) this.selectedPart = "";
   }
 
   /**
@@ -160,7 +160,7 @@ export class Drawing {
   }
 
   /** The pins at which the unfinished wire can end; none if there is no unfinished wire. */
-  get ends() {
+  get possibleEnds() {
     const { board, wireStart } = this;
     if (wireStart === "" || this.error) return new Set(/** @type {string[]} */ ([]));
     const currentLine = inputLines(board).get(wireStart);
@@ -170,7 +170,7 @@ export class Drawing {
 
   /** Passes the current state to the view. */
   reportChange() {
-    const { board, face, error, shelf, selected, wireStart, ends, lastMessage } = this;
+    const { board, face, error, shelf, selectedPart: selected, wireStart, possibleEnds: ends, lastMessage } = this;
     const isWired = this.answers.join("\n") === this.wiredAnswers;
     this.show({ board, face, isWired, error, shelf, selected, fields: selectionForm(board, face, selected), wireStart, ends, lastMessage });
   }
@@ -190,12 +190,12 @@ export class Drawing {
    * @param {string} name
    */
   handleClick(name) {
-    if (this.ends.has(name)) return this.endWire(name);
+    if (this.possibleEnds.has(name)) return this.endWire(name);
     const isSamePin = this.wireStart === name;
-    this.selected = name;
+    this.selectedPart = name;
     this.wireStart = isSamePin ? "" : name;
-    if (this.ends.size === 0) this.wireStart = "";
-    const count = this.ends.size;
+    if (this.possibleEnds.size === 0) this.wireStart = "";
+    const count = this.possibleEnds.size;
     this.showMessage(this.wireStart ? say.wireBegins(pinName(name), formatQuantity(count, "pin")) : "");
     return Promise.resolve();
   }
@@ -213,7 +213,7 @@ export class Drawing {
   /** Removes the unfinished wire. If there is none, clears the selection. */
   cancelWire() {
     const message = this.wireStart ? say.NO_WIRE : "";
-    if (!this.wireStart) this.selected = "";
+    if (!this.wireStart) this.selectedPart = "";
     this.wireStart = "";
     this.showMessage(message);
   }
@@ -243,7 +243,7 @@ export class Drawing {
     this.callbacks.edit(result.edits);
     this.movedParts.recordDeletion(text, result.text, result.deletedChains);
     this.storeText(result.text, answers, "");
-    this.selected = this.isOnBoard(result.part) ? result.part : "";
+    this.selectedPart = this.isOnBoard(result.part) ? result.part : "";
     return this.showMessage(result.message);
   }
 

@@ -92,7 +92,7 @@ function addTestPinPart(editedBoard, kind) {
 function connectLine(editedBoard, name, target) {
   const { board, draft } = editedBoard;
   const line = boardLines(board).find((boardLine) => boardLine.name === name);
-  if (!line || !inputLines(board).has(target)) throw new ImpossibleAction(say.boardHasNo(line ? target : name));
+  if (!line || !inputLines(board).has(target)) throw new ImpossibleAction(say.boardHasNoMessage(line ? target : name));
   if (!canConnect(board, line, target)) throw new ImpossibleAction(wireErrorMessage(line, target));
   const [kind, number] = splitTarget(target);
   if (kind === "clock" || kind === "data") editedBoard.edit([setValue(draft, draft.requirePart("chain", number), kind, name)]);

@@ -104,8 +104,8 @@ export function setKeyName(draft, { row, column }, name) {
   const count = line ? line.words.length : 0;
   if (line && column < count) return setWord(line.words[column], word);
   const missingNames = Array.from({ length: column - count }, (_, index) => `${row}.${count + index}`);
-  const words = [...missingNames, word].join(" ");
-  return line ? [{ from: line.end, to: line.end, insert: ` ${words}` }] : addFaceLine(draft, "row", `# row ${row}: ${words}`);
+  const joinedNames = [...missingNames, word].join(" ");
+  return line ? [{ from: line.end, to: line.end, insert: ` ${joinedNames}` }] : addFaceLine(draft, "row", `# row ${row}: ${joinedNames}`);
 }
 
 /**

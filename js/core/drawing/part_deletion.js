@@ -145,17 +145,17 @@ function removeKeyColumns(editedBoard, columns) {
  */
 function removeChain(editedBoard, chain) {
   /** @type {(line: string) => string} */
-  const rename = (line) => line.replace(/^chain(\d+)/, (_, number) => `chain${Number(number) - (Number(number) > chain ? 1 : 0)}`);
+  const renumberChain = (line) => line.replace(/^chain(\d+)/, (_, number) => `chain${Number(number) - (Number(number) > chain ? 1 : 0)}`);
   const { draft } = editedBoard;
-  const values = draft.partsOfKind("lamp").map((entry) => draft.requireKey(entry, "line").value);
-  const bits = values.filter(({ inner }) => rename(String(inner)) !== inner);
+  const lineValues = draft.partsOfKind("lamp").map((entry) => draft.requireKey(entry, "line").value);
+  const renamedValues = lineValues.filter(({ inner }) => renumberChain(String(inner)) !== inner);
   const chainNumbers = draft.partsOfKind("keys").map((entry) => draft.requireKey(entry, "chain").value)
     .filter(({ inner }) => Number(inner) > chain);
   editedBoard.edit([
-    ...bits.map((value) => replaceValue(draft, value, rename(String(value.inner)))),
+    ...renamedValues.map((value) => replaceValue(draft, value, renumberChain(String(value.inner)))),
     ...chainNumbers.map((value) => replaceValue(draft, value, Number(value.inner) - 1)),
   ]);
-  editedBoard.edit(renamePorts(editedBoard.draft, (port) => (port === `chain${chain}` ? "" : rename(port))));
+  editedBoard.edit(renamePorts(editedBoard.draft, (port) => (port === `chain${chain}` ? "" : renumberChain(port))));
   editedBoard.edit(removePart(editedBoard.draft, "chain", chain));
 }
 

@@ -97,11 +97,11 @@ function appendTable({ text, lines }, gap, block) {
 function tokensAround(draft, from, to) {
   const tokens = tomlWords(draft.lines).filter(({ kind }) => kind !== "end");
   /** @type {(word: TomlWord | undefined) => { text: string, from: number, to: number } | null} */
-  const withOffsets = (word) => (word
+  const addOffsets = (word) => (word
     ? { text: word.text, from: draft.offsetAt(word.line, word.from), to: draft.offsetAt(word.line, word.to) } : null);
   const next = tokens.find((word) => draft.offsetAt(word.line, word.from) >= to);
   const before = tokens.filter((word) => draft.offsetAt(word.line, word.to) <= from).pop();
-  return { before: withOffsets(before), next: withOffsets(next) };
+  return { before: addOffsets(before), next: addOffsets(next) };
 }
 
 /**
@@ -158,12 +158,12 @@ export function removeLines({ lines, lineOffsets, text }, first, last) {
  * @returns {TextEdit}
  */
 function removeRange({ text }, from, to) {
-  const [before] = /** @type {RegExpExecArray} */ (/[ \t]*$/.exec(text.slice(0, from)));
-  const [after] = /** @type {RegExpExecArray} */ (/^[ \t]*/.exec(text.slice(to)));
-  const isFirst = from === before.length || text[from - before.length - 1] === "\n";
-  const isLast = to + after.length === text.length || text[to + after.length] === "\n";
-  if (isFirst && isLast) return { from: from - before.length, to: Math.min(text.length, to + after.length + 1), insert: "" };
-  return isLast ? { from: from - before.length, to, insert: "" } : { from, to: to + after.length, insert: "" };
+  const [blanksBefore] = /** @type {RegExpExecArray} */ (/[ \t]*$/.exec(text.slice(0, from)));
+  const [blanksAfter] = /** @type {RegExpExecArray} */ (/^[ \t]*/.exec(text.slice(to)));
+  const isFirst = from === blanksBefore.length || text[from - blanksBefore.length - 1] === "\n";
+  const isLast = to + blanksAfter.length === text.length || text[to + blanksAfter.length] === "\n";
+  if (isFirst && isLast) return { from: from - blanksBefore.length, to: Math.min(text.length, to + blanksAfter.length + 1), insert: "" };
+  return isLast ? { from: from - blanksBefore.length, to, insert: "" } : { from, to: to + blanksAfter.length, insert: "" };
 }
 
 /**

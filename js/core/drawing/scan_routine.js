@@ -83,14 +83,14 @@ class Labels {
 function firstRowLines(first, labels) {
   if (first === 0) return [];
   const rounds = Math.ceil(first / REGISTER_VALUES);
-  const [loopLabel, shift] = [labels.labelFor("first"), labels.labelFor("shift")];
+  const [loopLabel, shiftLabel] = [labels.labelFor("first"), labels.labelFor("shift")];
   /** @type {Line[]} */
   const counters = [
     ["", ["LDM", String((REGISTER_VALUES - (first % REGISTER_VALUES)) % REGISTER_VALUES)]], ["", ["XCH", "R8"], say.movesTo(first)],
   ];
   if (rounds > 1) counters.push(["", ["LDM", String(REGISTER_VALUES - rounds)]], ["", ["XCH", "R9"]]);
   /** @type {Line[]} */
-  const loop = [[loopLabel, ["LDM", "0"]], ["", ["JMS", shift]], ["", ["ISZ", "R8,", loopLabel]]];
+  const loop = [[loopLabel, ["LDM", "0"]], ["", ["JMS", shiftLabel]], ["", ["ISZ", "R8,", loopLabel]]];
   return [...counters, ...loop, .../** @type {Line[]} */ (rounds > 1 ? [["", ["ISZ", "R9,", loopLabel]]] : [])];
 }
 
@@ -167,20 +167,21 @@ export function keyScanSource({ matrix, chains }, text) {
   const { rows, first, columns } = matrix;
   const [clock, data] = [portForLine(chains[matrix.chain].clock), portForLine(chains[matrix.chain].data)];
   const labels = new Labels(text);
-  const [scan, row, shift, out] = ["scan", "row", "shift", "out"].map((suffix) => labels.labelFor(suffix));
+  const [scanLabel, rowLabel, shiftLabel, outLabel] = ["scan", "row", "shift", "out"].map((suffix) => labels.labelFor(suffix));
   /** @type {Line[]} */
-  const callingProgram = /^\s*[^\s;]/m.test(text) ? [] : [["start", ["JMS", scan], say.PROGRAM_CONTINUES], ["", ["JUN", "start"]]];
+  const callingProgram = /^\s*[^\s;]/m.test(text) ? [] : [["start", ["JMS", scanLabel], say.PROGRAM_CONTINUES], ["", ["JUN", "start"]]];
   /** @type {Line[]} */
   const lines = [
-    [scan, ["LDM", "0"]], ["", ["XCH", "R4"], say.FIRST_ROW],
+    [scanLabel, ["LDM", "0"]], ["", ["XCH", "R4"], say.FIRST_ROW],
     ["", ["LDM", String(REGISTER_VALUES - rows)]], ["", ["XCH", "R7"], say.countsRows(rows)],
-    ["", ["LDM", String(data.bit)]], ["", ["JMS", shift], say.ONE_ENTERS], ...firstRowLines(first, labels),
-    ...columnLines(columns, labels).map((line, index) => /** @type {Line} */ (index === 0 ? [row, line[1], line[2]] : line)),
-    ["", ["LDM", "0"]], ["", ["JMS", shift], say.NEXT_ROW], ["", ["INC", "R4"]], ["", ["ISZ", "R7,", row]], ["", ["BBL", "0"], say.NO_KEY],
+    ["", ["LDM", String(data.bit)]], ["", ["JMS", shiftLabel], say.ONE_ENTERS], ...firstRowLines(first, labels),
+    ...columnLines(columns, labels).map((line, index) => /** @type {Line} */ (index === 0 ? [rowLabel, line[1], line[2]] : line)),
+    ["", ["LDM", "0"]], ["", ["JMS", shiftLabel], say.NEXT_ROW], ["", ["INC", "R4"]], ["", ["ISZ", "R7,", rowLabel]],
+    ["", ["BBL", "0"], say.NO_KEY],
     ...columns.flatMap((_, column) => /** @type {Line[]} */ ([
       [labels.labelFor(String(column)), ["LDM", String(column)], say.columnIsDown(column)], ["", ["JUN", labels.labelFor("down")]]])),
-    [labels.labelFor("down"), ["XCH", "R5"]], [out, ["LDM", "0"]], ["", ["JMS", shift], say.LEAVES_ROWS], ["", ["ISZ", "R7,", out]],
-    ["", ["BBL", "1"], say.KEY_IS_DOWN], ...shiftLines(clock, data, labels),
+    [labels.labelFor("down"), ["XCH", "R5"]], [outLabel, ["LDM", "0"]], ["", ["JMS", shiftLabel], say.LEAVES_ROWS],
+    ["", ["ISZ", "R7,", outLabel]], ["", ["BBL", "1"], say.KEY_IS_DOWN], ...shiftLines(clock, data, labels),
   ];
   const headerComments = headerLines(matrix, clock, data, labels);
   const blankLine = callingProgram.length > 0 ? [""] : [];

@@ -87,7 +87,7 @@ function portNameField(face, part) {
 function directionField(line, port) {
   const lineNumber = Number(line.split(".")[1]);
   const options = say.DIRECTIONS.map(([value, optionLabel]) => ({ value, label: optionLabel }));
-  return choiceField(say.lineIsA(lineNumber), port[3 - lineNumber], options, (mode) => ({ kind: "port", line, mode }));
+  return choiceField(say.lineDirectionLabel(lineNumber), port[3 - lineNumber], options, (mode) => ({ kind: "port", line, mode }));
 }
 
 /** @type {(part: string) => Button} returns the button that copies a part */
@@ -106,8 +106,8 @@ function romForm(board, face, part) {
   const chip = splitTarget(part)[1];
   const rom = board.roms.find((romChip) => Number(romChip.chip) === chip);
   const port = rom ? rom.port : "0000";
-  const lines = indices(4).map((portLine) => directionField(`rom${chip}.${portLine}`, port));
-  const fields = [portNameField(face, part), ...lines];
+  const lineFields = indices(4).map((portLine) => directionField(`rom${chip}.${portLine}`, port));
+  const fields = [portNameField(face, part), ...lineFields];
   return { title: say.romWithPort(chip), part, fields, buttons: [copyButton(part), deleteButton(part)] };
 }
 
@@ -120,10 +120,10 @@ function romForm(board, face, part) {
  */
 function chainForm(board, face, part) {
   const chainNumber = splitTarget(part)[1];
-  const chips = choiceField("chips", String(board.chains[chainNumber].chips), rangeNumbers(VALUE_RANGES["chain.chips"]), (value) => (
+  const chipsField = choiceField("chips", String(board.chains[chainNumber].chips), rangeNumbers(VALUE_RANGES["chain.chips"]), (value) => (
     { kind: "chips", chain: chainNumber, chips: Number(value) }));
-  const lines = [lineField(board, `clock ${chainNumber}`, "clock"), lineField(board, `data ${chainNumber}`, "data")];
-  const fields = [portNameField(face, part), ...lines, chips];
+  const lineFields = [lineField(board, `clock ${chainNumber}`, "clock"), lineField(board, `data ${chainNumber}`, "data")];
+  const fields = [portNameField(face, part), ...lineFields, chipsField];
   return { title: say.chainOf(chainNumber), part, fields, buttons: [copyButton(part), deleteButton(part)] };
 }
 
@@ -134,16 +134,16 @@ function chainForm(board, face, part) {
  * @returns {SelectionForm}
  */
 function keysForm(board, face) {
-  const rows = choiceField("rows", String(board.rows), rangeNumbers(VALUE_RANGES["keys.rows"]), (value) => (
+  const rowsField = choiceField("rows", String(board.rows), rangeNumbers(VALUE_RANGES["keys.rows"]), (value) => (
     { kind: "rows", rows: Number(value) }));
-  const columns = indices(board.columns).map((column) => lineField(board, `column ${column}`, `column ${column}`));
-  const names = indices(board.rows).flatMap((row) => indices(board.columns).map((column) => {
+  const columnFields = indices(board.columns).map((column) => lineField(board, `column ${column}`, `column ${column}`));
+  const nameFields = indices(board.rows).flatMap((row) => indices(board.columns).map((column) => {
     const faceText = face.keys.get(`${row} ${column}`);
     return textField(`key ${row}.${column}`, faceText ? faceText.text : "", (name) => (
       { kind: "name", part: `key ${row} ${column}`, name }));
   }));
   const columnButton = { label: say.ANOTHER_COLUMN, action: /** @type {DrawingAction} */ ({ kind: "column" }) };
-  const fields = [rows, lineField(board, "row 0", "row 0"), ...columns, ...names];
+  const fields = [rowsField, lineField(board, "row 0", "row 0"), ...columnFields, ...nameFields];
   return { title: say.KEYS, part: "keys", fields, buttons: [columnButton, deleteButton("keys")] };
 }
 

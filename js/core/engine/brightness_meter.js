@@ -96,9 +96,9 @@ class PatternTimes {
    * @param {number} cycles the cycles before the change
    */
   recordChange(marks, marksBefore, cycles) {
-    const { first, rows, columns, by } = this.group;
-    const hasChanged = by < 0 ? lampsDiffer(marks, marksBefore, first, rows * columns)
-      : lampsDiffer(marks, marksBefore, first, columns) || lampsDiffer(marks, marksBefore, by, rows);
+    const { first, rows, columns, firstRowLamp } = this.group;
+    const hasChanged = firstRowLamp < 0 ? lampsDiffer(marks, marksBefore, first, rows * columns)
+      : lampsDiffer(marks, marksBefore, first, columns) || lampsDiffer(marks, marksBefore, firstRowLamp, rows);
     if (!hasChanged) return;
     this.countTimeUntil(cycles);
     this.changeTimes.add(cycles);
@@ -153,9 +153,9 @@ class ScannedLampTimes {
     const cycles = now - this.lastCountTime;
     this.lastCountTime = now;
     if (cycles === 0) return;
-    const { first, rows, columns, by } = this.group;
+    const { first, rows, columns, firstRowLamp } = this.group;
     for (let row = 0; row < rows; row++) {
-      if (!isLit(marks, by + row)) continue;
+      if (!isLit(marks, firstRowLamp + row)) continue;
       for (let column = 0; column < columns; column++) if (isLit(marks, first + column)) this.litCycles[row * columns + column] += cycles;
     }
   }
@@ -222,13 +222,13 @@ export class BrightnessMeter {
    */
   take(answerLists) {
     for (const answers of answerLists) if (answers.length > 0) this.add(answers);
-    const { number: face, cycles, marks, litCycles, lastCountTime, changeTimes } = this;
+    const { number: faceNumber, cycles, marks, litCycles, lastCountTime, changeTimes } = this;
     for (let lamp = 0; lamp < litCycles.length; lamp++) {
       if (isLit(marks, lamp)) litCycles[lamp] += cycles - lastCountTime[lamp];
       lastCountTime[lamp] = 0;
     }
     const litShares = {
-      face, cycles, marks, lamps: litCycles.slice(), changeSummaries: changeTimes.map((times) => times.take(cycles)),
+      face: faceNumber, cycles, marks, lamps: litCycles.slice(), changeSummaries: changeTimes.map((times) => times.take(cycles)),
       displays: this.displays.map((display) => display.take(cycles)),
       scanned: this.scannedLamps.map((group) => group.take(marks, cycles)),
     };

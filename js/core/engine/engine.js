@@ -37,10 +37,10 @@ class Instance {
     this.size = Number(this.exports.bench_file_size());
     this.bytes = new Uint8Array(this.exports.memory.buffer);
     // The additional byte lets the module detect a file that is too long.
-    this.file = this.allocate(this.size + 1);
-    this.input = this.allocate(FIRST_CAPACITY);
-    this.answers = this.allocate(FIRST_CAPACITY);
-    this.report = this.allocate(REPORT_SIZE);
+    this.fileBuffer = this.allocate(this.size + 1);
+    this.inputBuffer = this.allocate(FIRST_CAPACITY);
+    this.answersBuffer = this.allocate(FIRST_CAPACITY);
+    this.reportBuffer = this.allocate(REPORT_SIZE);
   }
 
   /**
@@ -85,12 +85,12 @@ class Instance {
    */
   copyLines(lines, encoder) {
     // A UTF-16 code unit needs at most three bytes in UTF-8.
-    if (lines.length * 3 <= this.input.capacity) {
-      return encoder.encodeInto(lines, this.view(this.input, this.input.capacity)).written || 0;
+    if (lines.length * 3 <= this.inputBuffer.capacity) {
+      return encoder.encodeInto(lines, this.view(this.inputBuffer, this.inputBuffer.capacity)).written || 0;
     }
     const bytes = encoder.encode(lines);
-    this.input = this.ensureCapacity(this.input, bytes.length);
-    this.view(this.input, bytes.length).set(bytes);
+    this.inputBuffer = this.ensureCapacity(this.inputBuffer, bytes.length);
+    this.view(this.inputBuffer, bytes.length).set(bytes);
     return bytes.length;
   }
 
@@ -99,8 +99,8 @@ class Instance {
    * @param {Uint8Array} file
    */
   copyFile(file) {
-    this.file = this.ensureCapacity(this.file, file.length);
-    this.view(this.file, file.length).set(file);
+    this.fileBuffer = this.ensureCapacity(this.fileBuffer, file.length);
+    this.view(this.fileBuffer, file.length).set(file);
   }
 
   /**
@@ -108,7 +108,7 @@ class Instance {
    * if the answers do not fit into the buffer.
    */
   readReport() {
-    const report = new DataView(this.exports.memory.buffer, Number(this.report.offset), REPORT_SIZE);
+    const report = new DataView(this.exports.memory.buffer, Number(this.reportBuffer.offset), REPORT_SIZE);
     return { number: report.getUint32(0, true), count: Number(report.getBigUint64(COUNT_OFFSET, true)) };
   }
 }
@@ -169,8 +169,8 @@ export class Engine {
    */
   begin(target = new Uint8Array(this.size)) {
     const { instance } = this;
-    if (!this.call((calls) => calls.bench_begin(instance.file.offset, BigInt(this.size)))) throw new BenchRefusal(OUT_OF_MEMORY);
-    target.set(instance.view(instance.file, this.size));
+    if (!this.call((calls) => calls.bench_begin(instance.fileBuffer.offset, BigInt(this.size)))) throw new BenchRefusal(OUT_OF_MEMORY);
+    target.set(instance.view(instance.fileBuffer, this.size));
     return target;
   }
 
@@ -184,7 +184,7 @@ export class Engine {
    */
   serve(file, lines, target) {
     const servedAnswers = this.callForAnswers("bench_serve_and_settle", file, lines);
-    target.set(this.instance.view(this.instance.file, file.length));
+    target.set(this.instance.view(this.instance.fileBuffer, file.length));
     return servedAnswers;
   }
 
@@ -207,10 +207,10 @@ export class Engine {
     const size = instance.copyLines(question, this.encoder);
     let { isDone, number, count } = this.tryToProve(size);
     if (!isDone && number === 0) {
-      instance.answers = instance.ensureCapacity(instance.answers, count);
+      instance.answersBuffer = instance.ensureCapacity(instance.answersBuffer, count);
       ({ isDone, number, count } = this.tryToProve(size));
     }
-    return isDone ? this.decoder.decode(instance.view(instance.answers, count)) : `no ${number}`;
+    return isDone ? this.decoder.decode(instance.view(instance.answersBuffer, count)) : `no ${number}`;
   }
 
   /**
@@ -219,9 +219,9 @@ export class Engine {
    */
   tryToProve(size) {
     const { instance } = this;
-    const { input, answers, report } = instance;
+    const { inputBuffer, answersBuffer, reportBuffer } = instance;
     const isDone = this.call((calls) => (
-      calls.bench_prove(input.offset, BigInt(size), answers.offset, BigInt(answers.capacity), report.offset)));
+      calls.bench_prove(inputBuffer.offset, BigInt(size), answersBuffer.offset, BigInt(answersBuffer.capacity), reportBuffer.offset)));
     return { isDone, ...instance.readReport() };
   }
 
@@ -258,10 +258,10 @@ export class Engine {
     const inputSize = instance.copyLines(lines, this.encoder);
     let report = this.tryToServe(name, file, inputSize);
     if (report.requiredSize > 0) {
-      instance.answers = instance.ensureCapacity(instance.answers, report.requiredSize);
+      instance.answersBuffer = instance.ensureCapacity(instance.answersBuffer, report.requiredSize);
       report = this.tryToServe(name, file, inputSize);
     }
-    const answers = this.decoder.decode(instance.view(instance.answers, report.count)).split("\n");
+    const answers = this.decoder.decode(instance.view(instance.answersBuffer, report.count)).split("\n");
     answers.pop();
     const [openingAnswer] = answers.splice(0, 1);
     return { status: report.number, openingAnswer, answers };
@@ -277,9 +277,9 @@ export class Engine {
   tryToServe(name, file, inputSize) {
     const { instance } = this;
     instance.copyFile(file);
-    const { file: bytes, input, answers, report } = instance;
-    const isServed = this.call((calls) => calls[name](bytes.offset, BigInt(file.length), input.offset, BigInt(inputSize),
-      answers.offset, BigInt(answers.capacity), report.offset));
+    const { fileBuffer, inputBuffer, answersBuffer, reportBuffer } = instance;
+    const isServed = this.call((calls) => calls[name](fileBuffer.offset, BigInt(file.length), inputBuffer.offset, BigInt(inputSize),
+      answersBuffer.offset, BigInt(answersBuffer.capacity), reportBuffer.offset));
     const { number, count } = instance.readReport();
     if (!isServed && number !== 0) throw new BenchRefusal(number);
     return { number, count, requiredSize: isServed ? 0 : count };

@@ -65,7 +65,7 @@ export function splitAnswers(plannedLines, querySources, allAnswers) {
 const OTHER_CHANGE = {};
 
 /**
- * Returns the line that repeats an accepted command: a run, or the command itself.
+ * Returns a line with the same effect as an accepted command: `run N` if the command took N cycles, or else the command itself.
  * @param {AcceptedCommand} command
  * @returns {SentLine}
  */

@@ -14,7 +14,7 @@ const BATCH_MILLISECONDS = 50;
 const MIN_BATCH_CYCLES = 50000;
 const MAX_BATCH_CYCLES = 8000000;
 /** The interval between reports to a hidden page, in milliseconds. The page saves the session at each report. */
-const HIDDEN_REPORT_INTERVAL = 1000;
+const HIDDEN_REPORT_INTERVAL_MS = 1000;
 
 /**
  * Returns an empty report. `end` is the answer that ended the run early ("" for none), `stop` is the reason why the machine stopped, and
@@ -33,7 +33,7 @@ export class FullSpeed {
     this.isOn = false;
     this.isHidden = false;
     this.batchCycles = MIN_BATCH_CYCLES;
-    this.lastReport = 0;
+    this.lastReportTime = 0;
     this.runLog = new RunLog();
     this.pendingReport = createEmptyFrame();
   }
@@ -82,7 +82,7 @@ export class FullSpeed {
   isReportDue(isPageReady) {
     if (!this.isOn) return true;
     if (!isPageReady) return false;
-    return !this.isHidden || this.pendingReport.changesKeys || performance.now() - this.lastReport >= HIDDEN_REPORT_INTERVAL;
+    return !this.isHidden || this.pendingReport.changesKeys || performance.now() - this.lastReportTime >= HIDDEN_REPORT_INTERVAL_MS;
   }
 
   /**
@@ -90,7 +90,7 @@ export class FullSpeed {
    * @returns {DebugFrame}
    */
   takeReport() {
-    this.lastReport = performance.now();
+    this.lastReportTime = performance.now();
     const { pendingReport } = this;
     this.pendingReport = createEmptyFrame();
     return { ...pendingReport, runEntries: this.runLog.take() };

@@ -74,19 +74,19 @@ export class KeyQueue {
     const plannedLines = [];
     let { remainingWait } = this;
     let cyclesLeft = cycles;
-    let nextChange = 0;
+    let changeIndex = 0;
     while (cyclesLeft > 0) {
-      const change = this.changes[nextChange];
+      const change = this.changes[changeIndex];
       if (change && remainingWait === 0) {
         plannedLines.push({ line: keyLine(change.word, change.key), change });
         remainingWait = minCyclesAfter(change);
-        nextChange += 1;
+        changeIndex += 1;
       }
-      const maxRun = this.changes[nextChange] ? Math.min(remainingWait, MAX_RUN_CYCLES) : MAX_RUN_CYCLES;
-      const run = Math.min(cyclesLeft, maxRun);
-      plannedLines.push({ line: `run ${run}`, change: null });
-      cyclesLeft -= run;
-      remainingWait = Math.max(0, remainingWait - run);
+      const maxRun = this.changes[changeIndex] ? Math.min(remainingWait, MAX_RUN_CYCLES) : MAX_RUN_CYCLES;
+      const runCycles = Math.min(cyclesLeft, maxRun);
+      plannedLines.push({ line: `run ${runCycles}`, change: null });
+      cyclesLeft -= runCycles;
+      remainingWait = Math.max(0, remainingWait - runCycles);
     }
     return plannedLines;
   }

@@ -148,7 +148,7 @@ export class LiveRecorder {
     const { builder, trigger } = this;
     const startMoment = builder.elapsed;
     const instructionCount = builder.moments.count;
-    const counts = trigger ? trigger.members.map((member) => builder.tracks[member].moments.count) : [];
+    const momentCounts = trigger ? trigger.members.map((member) => builder.tracks[member].moments.count) : [];
     plannedLines.forEach(({ change }, index) => {
       const lineAnswers = new ForecastAnswers(tracedAnswers[index]);
       if (change) {
@@ -161,7 +161,7 @@ export class LiveRecorder {
       builder.takeEnd(readRun(answers[index]) || { cycles: 0, end: answers[index] });
     });
     builder.takeState(answers[plannedLines.length]);
-    if (trigger && trigger.edge) this.triggerOnEdge(trigger, counts);
+    if (trigger && trigger.edge) this.triggerOnEdge(trigger, momentCounts);
     else if (trigger && trigger.address >= 0) this.triggerOnArrival(trigger.address, instructionCount);
     return this.endIfComplete(startMoment, instructionCount);
   }

@@ -154,14 +154,14 @@ class LastTrueFinder extends LastChangeFinder {
  */
 export async function searchPast(engine, timeline, finder, shouldContinue) {
   let to = timeline.presentMoment;
-  for (let size = FIRST_BLOCK_CYCLES; ; size = Math.min(MAX_BLOCK_CYCLES, size * BLOCK_GROWTH)) {
+  for (let blockCycles = FIRST_BLOCK_CYCLES; ; blockCycles = Math.min(MAX_BLOCK_CYCLES, blockCycles * BLOCK_GROWTH)) {
     // At the start of a segment, the search continues at the end of the previous segment.
     if (to.entry === 0 && to.cycles === 0) {
       if (!timeline.segments[to.segment].follows) return { lastMatch: null, start: to };
       const { entries } = timeline.segments[to.segment - 1];
       to = { segment: to.segment - 1, entry: entries.length, cycles: 0 };
     }
-    const requestedStart = timeline.momentBefore(size, to);
+    const requestedStart = timeline.momentBefore(blockCycles, to);
     const from = requestedStart && requestedStart.segment === to.segment ? requestedStart : { segment: to.segment, entry: 0, cycles: 0 };
     finder.begin(await timeline.sessionAt(engine, from, shouldContinue));
     /** @type {BackSearchResult | null} */

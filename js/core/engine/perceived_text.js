@@ -41,9 +41,9 @@ export class PerceivedText {
    */
   constructor(face, count) {
     this.face = face;
-    this.count = count;
+    this.lampCount = count;
     const displays = face.groups.filter(({ kind }) => kind === "display");
-    this.text = new DisplayText(displays, [...face.lamps].map(([lamp, { text }]) => ({ lamp, text })));
+    this.displayText = new DisplayText(displays, [...face.lamps].map(([lamp, { text }]) => ({ lamp, text })));
   }
 
   /**
@@ -51,7 +51,7 @@ export class PerceivedText {
    * @param {string[]} answers the answer to LAMPS_FORECAST_QUERY
    */
   read(answers) {
-    return this.readBrightness(forecastBrightness(this.face, this.count, answers));
+    return this.readBrightness(forecastBrightness(this.face, this.lampCount, answers));
   }
 
   /**
@@ -59,6 +59,6 @@ export class PerceivedText {
    * @param {Brightness} brightness
    */
   readBrightness(brightness) {
-    return this.text.readPerceived(brightness.patterns, (lamp) => brightness.isOn[lamp]);
+    return this.displayText.readPerceived(brightness.patterns, (lamp) => brightness.isOn[lamp]);
   }
 }

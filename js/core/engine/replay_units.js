@@ -18,12 +18,12 @@ export function unitsBetween(timeline, from, to) {
   const { entries } = timeline.segments[from.segment];
   /** @type {Unit[]} */
   const units = [];
-  for (let entry = from.entry; entry < entries.length && entry <= to.entry; entry++) {
-    const { line, cycles } = entries[entry];
-    const start = entry === from.entry ? from.cycles : 0;
-    const end = entry === to.entry ? to.cycles : cycles;
-    const moment = { ...from, entry, cycles: start };
-    if (cycles === 0 && entry < to.entry) units.push({ line, cycles, moment });
+  for (let entryIndex = from.entry; entryIndex < entries.length && entryIndex <= to.entry; entryIndex++) {
+    const { line, cycles } = entries[entryIndex];
+    const start = entryIndex === from.entry ? from.cycles : 0;
+    const end = entryIndex === to.entry ? to.cycles : cycles;
+    const moment = { ...from, entry: entryIndex, cycles: start };
+    if (cycles === 0 && entryIndex < to.entry) units.push({ line, cycles, moment });
     else if (end > start) units.push({ line: end - start === cycles ? line : `run ${end - start}`, cycles: end - start, moment });
   }
   return units;

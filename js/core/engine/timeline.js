@@ -104,9 +104,9 @@ export class Timeline {
     for (let count = entries.length, tries = 0; count >= 0 && cycles >= first.count.total && tries < MAX_TRIES; count--) {
       if (cycles === first.count.total) {
         tries += 1;
-        const end = file.slice();
-        engine.serve(end, entries.slice(0, count).map(({ line }) => `${line}\n`).join(""), end);
-        if (queryState(engine, end) === expectedState) return this.prepend(storedSegments, count);
+        const restoredFile = file.slice();
+        engine.serve(restoredFile, entries.slice(0, count).map(({ line }) => `${line}\n`).join(""), restoredFile);
+        if (queryState(engine, restoredFile) === expectedState) return this.prepend(storedSegments, count);
       }
       if (count > 0) cycles -= entries[count - 1].cycles;
     }
@@ -273,6 +273,11 @@ export class Timeline {
     this.segments = [...segments.slice(0, moment.segment), { ...oldSegment, entries, cycles, marks }];
     this.unreportedChanges = { isNewPast: true, entries: [] };
     this.isStopped = true;
+  }
+
+  /** Joins the last two moves back into one move, which `goForward` undoes as a whole. */
+  joinMovesBack() {
+    if (this.future.length > 1) this.future.pop();
   }
 
   /**

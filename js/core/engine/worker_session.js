@@ -303,28 +303,28 @@ export class WorkerSession {
     const report = new LinesReport(this.count.copy());
     const fileBefore = this.recording ? this.file.slice() : null;
     const printerCodes = this.printerCodes && this.printerCodes.copy();
-    // Each piece runs on `from` and writes to `to`. The session file does not change until all pieces are done.
-    let [from, to] = [this.file, this.nextFile];
-    const size = new PieceSize(FIRST_PIECE_LENGTH, MIN_PIECE_LENGTH, MAX_PIECE_LENGTH);
+    // Each piece runs on `sourceFile` and writes to `targetFile`. The session file does not change until all pieces are done.
+    let [sourceFile, targetFile] = [this.file, this.nextFile];
+    const pieceSize = new PieceSize(FIRST_PIECE_LENGTH, MIN_PIECE_LENGTH, MAX_PIECE_LENGTH);
     for (let offset = 0; offset < lines.length;) {
-      const end = findInputEnd(lines, offset, size.size);
-      const piece = lines.slice(offset, end);
-      const servedAnswers = size.measure(() => {
-        const result = this.engine.serve(from, piece, to);
+      const end = findInputEnd(lines, offset, pieceSize.size);
+      const pieceLines = lines.slice(offset, end);
+      const servedAnswers = pieceSize.measure(() => {
+        const result = this.engine.serve(sourceFile, pieceLines, targetFile);
         const { total } = report.count;
-        const acceptedCommands = report.add(piece, result);
-        if (printerCodes) printerCodes.collectCodes(this.engine, from.slice(), acceptedCommands, total);
+        const acceptedCommands = report.add(pieceLines, result);
+        if (printerCodes) printerCodes.collectCodes(this.engine, sourceFile.slice(), acceptedCommands, total);
         return result;
       });
-      [from, to] = [to, from === this.file ? new Uint8Array(from.length) : from];
+      [sourceFile, targetFile] = [targetFile, sourceFile === this.file ? new Uint8Array(sourceFile.length) : sourceFile];
       offset = end;
       if (servedAnswers.status !== 0) break;
       if (offset < lines.length && !(await shouldContinue(offset))) throw new CancelledError();
     }
-    const statusQueries = report.hasChangedBoard ? makeStatusQueries(this.engine, from) : this.statusQueries;
-    const snapshot = takeSnapshotOf(this.engine, from, statusQueries);
+    const statusQueries = report.hasChangedBoard ? makeStatusQueries(this.engine, sourceFile) : this.statusQueries;
+    const snapshot = takeSnapshotOf(this.engine, sourceFile, statusQueries);
     // Nothing below can fail. The session changes now.
-    if (from !== this.file) [this.file, this.nextFile] = [from, this.file];
+    if (sourceFile !== this.file) [this.file, this.nextFile] = [sourceFile, this.file];
     this.statusQueries = statusQueries;
     if (report.hasChangedRom) this.cachedRomBytes = null;
     this.timeline.recordStop();

@@ -28,7 +28,7 @@ import { noKeyMessage } from "../../words/testing.js";
  * A campaign: the parsed contents of a properties text. Times are in cycles.
  * - `inputWords`: the first words of the lines that name the inputs, `press` and `test`; [] if the inputs are those of the front panel;
  * - `maxKeysDown`: the maximum number of keys that are down at the same time; `canReset`: true if the search can cut the power;
- * - `minWait`, `maxWait`: the range of waits between two changes;
+ * - `minWait`, `maxWait`: the range of waits between two changes; `hasWait`: true if a line `wait` sets the range;
  * - `maxHoldTime`, `minReleaseTime`: the maximum time for which an input stays down, and the minimum time for which it stays up;
  * - `checkStart`: the time at which the check of the properties starts;
  * - `command`: the external command of the model ("" for none); `downTime`, `upTime`: the times for which each key in a sequence for the
@@ -37,8 +37,8 @@ import { noKeyMessage } from "../../words/testing.js";
  * - `from`: the start state, null to start at power-on; `leadingLines`: the test lines that lead to the start state;
  * - `calls`: the minimum and the maximum number of calls that have not returned in the start state.
  * @typedef {{ inputs: Input[], inputWords: string[], maxKeysDown: number, canReset: boolean, minWait: number, maxWait: number,
- *   maxHoldTime: number, minReleaseTime: number, checkStart: number, downTime: number, upTime: number, notedPlaces: string[],
- *   properties: Property[], command: string, from: StartState | null, leadingLines: string[],
+ *   hasWait: boolean, maxHoldTime: number, minReleaseTime: number, checkStart: number, downTime: number, upTime: number,
+ *   notedPlaces: string[], properties: Property[], command: string, from: StartState | null, leadingLines: string[],
  *   calls: { min: number, max: number } }} Campaign
  *
  * The start state of a search: its name, the test file that saves it ("" for the tests that belong to the program), and the number of the
@@ -87,6 +87,7 @@ class PropertiesReader {
     this.canReset = false;
     this.minWait = DEFAULT_WAITS.minWait;
     this.maxWait = DEFAULT_WAITS.maxWait;
+    this.hasWait = false;
     this.downTime = DEFAULT_PACE.downTime;
     this.upTime = DEFAULT_PACE.upTime;
     this.maxHoldTime = Infinity;
@@ -179,7 +180,7 @@ class PropertiesReader {
  * @param {string[]} words
  * @param {string} syntax the error message if the words are not two times
  */
-function parseTwoTimes(words, syntax) {
+function parseTimePair(words, syntax) {
   const first = parseDuration(words, 0);
   const timeWords = words.slice(first.wordCount).filter((word, index) => index > 0 || word !== "to");
   const secondCycles = parseExactDuration(timeWords);
@@ -212,9 +213,10 @@ const SETTING_PARSERS = {
     reader.maxKeysDown = Number(words[0]);
   },
   wait: (reader, words) => {
-    [reader.minWait, reader.maxWait] = parseTwoTimes(words, say.WAIT_SYNTAX);
+    [reader.minWait, reader.maxWait] = parseTimePair(words, say.WAIT_SYNTAX);
     // A wait cannot be longer than one `run` of the bench.
     if (reader.maxWait > MAX_RUN_CYCLES || reader.minWait > reader.maxWait) fail(say.WAIT_SYNTAX);
+    reader.hasWait = true;
   },
   held: (reader, words) => {
     const syntax = say.HELD_SYNTAX;
@@ -241,7 +243,7 @@ const SETTING_PARSERS = {
   },
   pace: (reader, words) => {
     const syntax = say.PACE_SYNTAX;
-    [reader.downTime, reader.upTime] = parseTwoTimes(words, syntax);
+    [reader.downTime, reader.upTime] = parseTimePair(words, syntax);
   },
   note: (reader, words) => {
     if (words.length === 0) fail(say.NOTE_SYNTAX);
@@ -495,10 +497,11 @@ export function readCampaign(text, subject, needsInputs = true) {
     const { line } = reader.properties.find(({ form }) => form === "model") || { line: 1 };
     errors.push({ line, column: -1, words: say.MODEL_NEEDS_KEYS });
   }
-  const { inputs, maxKeysDown, canReset, minWait, maxWait, maxHoldTime, minReleaseTime } = reader;
+  const { inputs, maxKeysDown, canReset, minWait, maxWait, hasWait, maxHoldTime, minReleaseTime } = reader;
   const { checkStart, downTime, upTime, notedPlaces, command } = reader;
-  const campaign = { inputs, inputWords: [...reader.inputWords].sort(), maxKeysDown, canReset, minWait, maxWait, maxHoldTime,
-    minReleaseTime, checkStart, downTime, upTime, notedPlaces, command, from: reader.from && { ...reader.from, line: fromLine },
-    leadingLines: [], calls: { min: 0, max: 0 }, properties: [...reader.properties, ...standardProperties()] };
+  const campaign = { inputs, inputWords: [...reader.inputWords].sort(), maxKeysDown, canReset, minWait, maxWait, hasWait,
+    maxHoldTime, minReleaseTime, checkStart, downTime, upTime, notedPlaces, command,
+    from: reader.from && { ...reader.from, line: fromLine }, leadingLines: [], calls: { min: 0, max: 0 },
+    properties: [...reader.properties, ...standardProperties()] };
   return { campaign, errors };
 }

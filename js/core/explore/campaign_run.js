@@ -27,7 +27,7 @@ import { createRandom } from "./walks.js";
 /** The initial proof gets at most 1 / PROOF_TIME_DIVISOR of the search time. */
 const PROOF_TIME_DIVISOR = 10;
 /** The search stops checking a property after this number of counterexamples whose confirmation failed. */
-const MAX_UNCONFIRMED = 3;
+const MAX_UNCONFIRMED_COUNTEREXAMPLES = 3;
 /**
  * The maximum number of cycles to run while a counterexample is minimised: `perSecond` cycles for each second of search time, but at least
  * `min` and at most `max`.
@@ -95,7 +95,7 @@ export class CampaignRun {
   /** True if the search still compares the display with the model's output. */
   get usesModel() {
     return this.model !== null && this.counterexamples[this.modelIndex] === null
-      && this.unconfirmedCounts[this.modelIndex] < MAX_UNCONFIRMED;
+      && this.unconfirmedCounts[this.modelIndex] < MAX_UNCONFIRMED_COUNTEREXAMPLES;
   }
 
   /** The error message of the model command, or "". */
@@ -188,7 +188,7 @@ export class CampaignRun {
   recordUnconfirmed(property, test) {
     this.unconfirmedTests.push(test);
     this.unconfirmedCounts[property] += 1;
-    if (this.unconfirmedCounts[property] >= MAX_UNCONFIRMED) this.search.closeProperty(property);
+    if (this.unconfirmedCounts[property] >= MAX_UNCONFIRMED_COUNTEREXAMPLES) this.search.closeProperty(property);
     return null;
   }
 

@@ -2,7 +2,7 @@
 // inputs. If there is none, asks for a proof for only the inputs that the properties text allows. The prover gets a part of the search
 // time. Each round asks about all properties that are not proved yet, with twice the previous bound on the number of states.
 
-import { findInputLimits } from "../prove/input_limits.js";
+import { listInputLimits } from "../prove/input_limits.js";
 import { listMistakes } from "../prove/mistakes.js";
 import {
   createQuestion, listBounds, combineQuestions, mistakeQuestion, needsSeparateQuestion, questionText, readAnswer,
@@ -37,8 +37,8 @@ export class InitialProof {
     this.states = campaign.properties.map(() => 0);
     /** @type {string[][]} for each property, the lines of the properties text with the input limits that the proof of the property needs */
     this.limits = campaign.properties.map(() => []);
-    /** The limits that the properties text sets on the inputs; null if a proof cannot use them. */
-    this.inputLimits = findInputLimits(campaign, subject.names.board);
+    /** The limits that the properties text sets on the inputs, for successive attempts of a proof. */
+    this.inputLimits = listInputLimits(campaign, subject.names.board);
     const separateQuestions = this.timeLeft > 0 ? createQuestions(subject, campaign) : [];
     const combinableQuestions = separateQuestions.filter(({ properties: [at], question }) => (
       !needsSeparateQuestion(campaign.properties[at], question)));
@@ -88,13 +88,14 @@ export class InitialProof {
   }
 
   /**
-   * Returns a list with one new question: the same question with limits on the inputs. The list is empty if there are no limits, or if the
-   * question already has limits or is about several properties.
+   * Returns a list with one new question: the same question with the next limits on the inputs. The list is empty if there are no further
+   * limits, or if the question is about several properties.
    * @param {PropertyQuestion} propertyQuestion
    */
   createLimitedQuestions({ properties, question }) {
-    const { inputLimits } = this;
-    return inputLimits && !question.inputLimits && properties.length === 1 ? [{ properties, question: { ...question, inputLimits } }] : [];
+    const next = question.inputLimits ? this.inputLimits.indexOf(question.inputLimits) + 1 : 0;
+    if (next === this.inputLimits.length || properties.length > 1) return [];
+    return [{ properties, question: { ...question, inputLimits: this.inputLimits[next] } }];
   }
 
   /**

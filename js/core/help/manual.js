@@ -27,7 +27,7 @@ const BENCH_LINE_SECTIONS = say.SECTIONS_OF_LINES;
  * @returns {Piece[]}
  */
 export function splitCell(cell) {
-  return cell.split("`").map((text, at) => ({ text, isCode: at % 2 === 1 })).filter(({ text }) => text !== "");
+  return cell.split("`").map((text, index) => ({ text, isCode: index % 2 === 1 })).filter(({ text }) => text !== "");
 }
 
 /**

@@ -36,19 +36,19 @@ export const TOUR_EXAMPLE = {
 export const TOUR = [
   {
     ...say.STEP_LAMP,
-    program: say.LAMP,
+    program: say.LAMP_PROGRAM,
     target: "send",
     isDone: ({ lamps }) => lamps[0] === "*",
   },
   {
     ...say.STEP_COUNT,
-    program: say.COUNT,
+    program: say.COUNT_PROGRAM,
     target: "send",
     isDone: ({ patterns }) => patterns >= 4,
   },
   {
     ...say.STEP_KEY,
-    program: say.KEY,
+    program: say.KEY_PROGRAM,
     target: "key",
     isDone: ({ lamps, keysDown }) => keysDown > 0 && lamps.includes("*"),
   },
@@ -60,7 +60,7 @@ export const TOUR = [
   },
   {
     ...say.STEP_WATCH,
-    program: say.REMEMBER,
+    program: say.REMEMBER_PROGRAM,
     target: "ram",
     isDone: ({ end }) => end === "watch",
   },
@@ -89,10 +89,10 @@ export class TourProgress {
 
   /**
    * Starts a step of the tour, and forgets the state of the previous step.
-   * @param {number} at the index of the step
+   * @param {number} stepIndex the index of the step
    */
-  begin(at) {
-    this.stepIndex = at;
+  begin(stepIndex) {
+    this.stepIndex = stepIndex;
     this.state = { lamps: "", patterns: 0, keysDown: 0, end: "" };
     this.patterns.clear();
     this.isDone = false;

@@ -55,7 +55,7 @@ function parseDigits(digits, base) {
   return value;
 }
 
-/** The evaluation of one expression, by recursive descent. `at` is the index of the next character. */
+/** The evaluation of one expression, by recursive descent. `index` is the index of the next character. */
 class Evaluation {
   /**
    * @param {string} text
@@ -66,7 +66,7 @@ class Evaluation {
     this.text = text;
     this.address = address;
     this.names = names;
-    this.at = 0;
+    this.index = 0;
     this.depth = 0;
     this.isKnown = true;
     this.error = "";
@@ -82,13 +82,13 @@ class Evaluation {
 
   /** Skips blanks and tabs. */
   skipBlanks() {
-    while (/[ \t]/.test(this.text[this.at] || "")) this.at += 1;
+    while (/[ \t]/.test(this.text[this.index] || "")) this.index += 1;
   }
 
   /** Returns the next non-blank character; "" at the end. */
   peek() {
     this.skipBlanks();
-    return this.text[this.at] || "";
+    return this.text[this.index] || "";
   }
 
   /**
@@ -96,7 +96,7 @@ class Evaluation {
    * @param {RegExp} pattern
    */
   match(pattern) {
-    pattern.lastIndex = this.at;
+    pattern.lastIndex = this.index;
     return pattern.exec(this.text);
   }
 
@@ -104,7 +104,7 @@ class Evaluation {
   parseSum() {
     let value = this.parseProduct();
     for (let sign = this.peek(); sign === "+" || sign === "-"; sign = this.peek()) {
-      this.at += 1;
+      this.index += 1;
       const right = this.parseProduct();
       value = sign === "+" ? value + right : value - right;
     }
@@ -115,7 +115,7 @@ class Evaluation {
   parseProduct() {
     let value = this.parseFactor();
     for (let sign = this.peek(); sign === "*" || sign === "/" || sign === "&"; sign = this.peek()) {
-      this.at += 1;
+      this.index += 1;
       const right = this.parseFactor();
       if (sign === "*") value *= right;
       else if (sign === "&") value = bitwiseAnd(value, right);
@@ -131,7 +131,7 @@ class Evaluation {
     let value = 0;
     if (this.depth > MAX_DEPTH) {
       this.fail(say.tooDeepMessage(MAX_DEPTH));
-      this.at = this.text.length;
+      this.index = this.text.length;
     } else {
       value = this.parseOperand();
     }
@@ -146,7 +146,7 @@ class Evaluation {
     if (nextCharacter !== "" && "-+<>".includes(nextCharacter)) return this.parsePrefixed(nextCharacter);
     const byteFunction = this.match(BYTE_FUNCTION);
     if (byteFunction) {
-      this.at += byteFunction[0].length - 1;
+      this.index += byteFunction[0].length - 1;
       const value = this.parseBracketed();
       return /^l/i.test(byteFunction[0]) ? value % BYTE_VALUES : Math.trunc(value / BYTE_VALUES);
     }
@@ -157,13 +157,13 @@ class Evaluation {
       if (match) return this.parseNumber(match, base);
     }
     if (nextCharacter === "$" || nextCharacter === "*") {
-      this.at += 1;
+      this.index += 1;
       return this.address;
     }
     const name = this.match(NAME);
     if (name) return this.parseName(name[0]);
-    this.fail(nextCharacter === "" ? say.NO_OPERAND : say.notUnderstoodMessage(this.text.slice(this.at)));
-    this.at += 1;
+    this.fail(nextCharacter === "" ? say.NO_OPERAND : say.notUnderstoodMessage(this.text.slice(this.index)));
+    this.index += 1;
     return 0;
   }
 
@@ -172,7 +172,7 @@ class Evaluation {
    * @param {string} sign the prefix; `-` and `+` apply to the next factor, `<` and `>` apply to the next sum
    */
   parsePrefixed(sign) {
-    this.at += 1;
+    this.index += 1;
     if (sign === "-") return -this.parseFactor();
     if (sign === "+") return this.parseFactor();
     const value = this.parseSum();
@@ -181,10 +181,10 @@ class Evaluation {
 
   /** Parses an expression in parentheses, and returns its value. */
   parseBracketed() {
-    this.at += 1;
+    this.index += 1;
     const value = this.parseSum();
     if (this.peek() !== ")") this.fail(say.NO_BRACKET);
-    this.at += 1;
+    this.index += 1;
     return value;
   }
 
@@ -193,7 +193,7 @@ class Evaluation {
    * @param {string} quoted the character with its quotes
    */
   parseCharacter(quoted) {
-    this.at += quoted.length;
+    this.index += quoted.length;
     if (!isAscii(quoted)) this.fail(say.noCharacterMessage(quoted));
     return quoted.charCodeAt(1);
   }
@@ -204,8 +204,8 @@ class Evaluation {
    * @param {number} base
    */
   parseNumber([numeral, digits], base) {
-    this.at += numeral.length;
-    if (/\w/.test(this.text[this.at] || "")) this.error = say.noNumberMessage(this.text);
+    this.index += numeral.length;
+    if (/\w/.test(this.text[this.index] || "")) this.error = say.noNumberMessage(this.text);
     return parseDigits(digits, base);
   }
 
@@ -214,7 +214,7 @@ class Evaluation {
    * @param {string} spelling the name as in the source
    */
   parseName(spelling) {
-    this.at += spelling.length;
+    this.index += spelling.length;
     const name = toAsciiUpperCase(spelling);
     const value = this.names.valueOf(name);
     if (!this.names.isDefined(name)) this.fail(say.noNameMessage(spelling));
@@ -242,7 +242,7 @@ export function evaluate(text, address, names) {
   const evaluation = new Evaluation(text, address, names);
   const value = evaluation.parseSum();
   evaluation.skipBlanks();
-  if (evaluation.at < text.length) evaluation.fail(say.notUnderstoodMessage(text.slice(evaluation.at)));
+  if (evaluation.index < text.length) evaluation.fail(say.notUnderstoodMessage(text.slice(evaluation.index)));
   const { error, isKnown } = evaluation;
   return { value, isKnown: isKnown && error === "", error };
 }

@@ -79,13 +79,13 @@ class ProgramImport {
 
   /** Converts the program. Returns the output lines; an empty list if a name is defined twice or a line is too long. */
   convertLines() {
-    this.lines.forEach((line, at) => this.recordDefinition(line, at + 1));
+    this.lines.forEach((line, index) => this.recordDefinition(line, index + 1));
     if (this.errors.length > 0) return [];
     this.chooseSpellings();
     let passes = MAX_PASSES;
     // The value of a name can depend on later lines, so the passes are repeated until no value changes, at most MAX_PASSES times.
     while (passes > 0 && this.computeValues()) passes -= 1;
-    return this.lines.map((line, at) => this.attemptLine(at + 1, () => this.formatOutputLine(line), ""));
+    return this.lines.map((line, index) => this.attemptLine(index + 1, () => this.formatOutputLine(line), ""));
   }
 
   /**
@@ -158,15 +158,15 @@ class ProgramImport {
 
   /** Runs one pass over the lines that computes the values of the names. Returns whether any value has changed. */
   computeValues() {
-    let [at, hasChanged] = [0, false];
+    let [address, hasChanged] = [0, false];
     for (const line of this.lines) {
-      const { value, isKnown } = line.word === "EQU" ? this.evaluateText(line.operand, at) : { value: at, isKnown: true };
+      const { value, isKnown } = line.word === "EQU" ? this.evaluateText(line.operand, address) : { value: address, isKnown: true };
       const name = toAsciiUpperCase(line.label);
       if (name !== "" && isKnown && this.values.get(name) !== value) {
         this.values.set(name, value);
         hasChanged = true;
       }
-      at = this.findAddressAfter(line, at);
+      address = this.findAddressAfter(line, address);
     }
     return hasChanged;
   }
@@ -174,19 +174,19 @@ class ProgramImport {
   /**
    * Returns the address after a line.
    * @param {SourceLine} line
-   * @param {number} at the address of the line
+   * @param {number} address the address of the line
    */
-  findAddressAfter({ word, operand }, at) {
+  findAddressAfter({ word, operand }, address) {
     if (word === "ORG" || word === "ALIGN" || RESERVE_DIRECTIVES.has(word)) {
-      const { value, isKnown } = this.evaluateText(operand, at);
-      if (!isKnown) return at;
+      const { value, isKnown } = this.evaluateText(operand, address);
+      if (!isKnown) return address;
       if (word === "ORG") return value;
-      if (word !== "ALIGN") return at + value;
-      return value > 0 ? Math.trunc((at + value - 1) / value) * value : at;
+      if (word !== "ALIGN") return address + value;
+      return value > 0 ? Math.trunc((address + value - 1) / value) * value : address;
     }
-    if (BYTE_DIRECTIVES.has(word)) return splitList(operand).reduce((sum, part) => sum + (quotedCharacters(part) || " ").length, at);
+    if (BYTE_DIRECTIVES.has(word)) return splitList(operand).reduce((sum, part) => sum + (quotedCharacters(part) || " ").length, address);
     const kinds = OPERAND_KINDS.get(word);
-    return kinds ? at + (kinds.length > 1 || kinds.includes("target") ? 2 : 1) : at;
+    return kinds ? address + (kinds.length > 1 || kinds.includes("target") ? 2 : 1) : address;
   }
 
   // --- lines ---
@@ -252,7 +252,7 @@ class ProgramImport {
     this.convertExpression(operand, { to: LAST_ADDRESS + 1, isNumber: true });
     this.originalTexts = [`${word} ${operand}`];
     const nextAddress = this.findAddressAfter({ text: "", label: "", word, operand, comment: "", isLong: false }, this.address);
-    if (nextAddress > LAST_ADDRESS) throw new LineError(say.PAST_LAST);
+    if (nextAddress > LAST_ADDRESS) throw new LineError(say.PAST_LAST_ADDRESS);
     return `ORG 0x${hex(nextAddress, 3)}`;
   }
 
@@ -284,7 +284,7 @@ class ProgramImport {
     if (operandPair) parts = [operandPair[1], operandPair[2]];
     if (word === "BBL" && parts.length === 0) parts = ["0"];
     if (parts.length !== kinds.length) throw new LineError(say.wrongOperandCountMessage(word, kinds.length));
-    return [word, kinds.map((kind, at) => this.convertOperand(kind, parts[at])).join(", ")].filter(Boolean).join(" ");
+    return [word, kinds.map((kind, index) => this.convertOperand(kind, parts[index])).join(", ")].filter(Boolean).join(" ");
   }
 
   /**

@@ -77,12 +77,12 @@ export function trimBlanks(text) {
  */
 function findCommentStart(line) {
   let quote = "";
-  for (let at = 0; at < line.length; at++) {
-    const character = line[at];
+  for (let index = 0; index < line.length; index++) {
+    const character = line[index];
     if (quote !== "") {
       if (character === quote) quote = "";
     } else if (character === '"' || character === "'") quote = character;
-    else if (character === ";" || (character === "/" && (at === 0 || /[ \t]/.test(line[at - 1])))) return at;
+    else if (character === ";" || (character === "/" && (index === 0 || /[ \t]/.test(line[index - 1])))) return index;
   }
   return -1;
 }

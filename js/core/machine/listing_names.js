@@ -36,7 +36,7 @@ export function addLineNames({ address, line }, map) {
   fields.labels = map.labelsAt(address).map((label) => `${label}:`).join(" ");
   const lineNumber = map.lineOf(address);
   if (lineNumber === 0) return fields;
-  const source = map.sources[lineNumber - 1];
+  const source = map.sourceLines[lineNumber - 1];
   fields.instruction = replaceTarget(fields.instruction, source, map);
   fields.source = `${lineReference(lineNumber)}: ${source.trim().replace(/\s+/g, " ")}`;
   return fields;

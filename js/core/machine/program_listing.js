@@ -50,11 +50,11 @@ function formatTextBefore(line, address, map) {
  * @param {Int16Array} bytes the bytes, by address
  */
 function formatSourceRows(text, map, bytes) {
-  return text.replace(/\n$/, "").split("\n").flatMap((line, at) => {
+  return text.replace(/\n$/, "").split("\n").flatMap((line, index) => {
     const source = line.replace(/\t/g, TAB);
-    const address = map.addressOf(at + 1);
-    if (address === undefined) return [formatRow(formatTextBefore(line, map.addresses[at + 1], map), source)];
-    return formatByteRows(address, [...bytes.subarray(address, address + map.sizes[at + 1])], source);
+    const address = map.addressOf(index + 1);
+    if (address === undefined) return [formatRow(formatTextBefore(line, map.addresses[index + 1], map), source)];
+    return formatByteRows(address, [...bytes.subarray(address, address + map.sizes[index + 1])], source);
   });
 }
 

@@ -16,7 +16,7 @@ import { PAIR, splitStatement } from "../text/assembly.js";
  * @returns {{ name: string, byte: number }[]}
  */
 export function namedSrcBytes(map) {
-  const lines = map.sources.map(splitStatement).filter(({ head }) => head !== null);
+  const lines = map.sourceLines.map(splitStatement).filter(({ head }) => head !== null);
   /** @type {(name: string) => import("../text/assembly.js").Word[][]} */
   const findOperands = (name) => lines.filter(({ head }) => head && head.text.toUpperCase() === name).map(({ operands }) => operands);
   const srcPairs = new Set(findOperands("SRC").flatMap(([pair]) => (pair && PAIR.test(pair.text) ? [pair.text.toUpperCase()] : [])));
@@ -32,7 +32,7 @@ export function namedSrcBytes(map) {
  * Returns the names of RAM nibbles, by their place name in `poke`, such as `ram.0.0x12`. An SRC byte selects one nibble in each bank.
  * @param {Board} board
  * @param {Pick<WatchExpression, "name" | "place">[]} watchExpressions
- * @param {SourceMap | null} map null if the source is not the program in ROM
+ * @param {SourceMap | null} map the source's map; null if the source is not the program in ROM
  * @returns {Map<string, string[]>}
  */
 export function nibbleNames({ banks }, watchExpressions, map) {

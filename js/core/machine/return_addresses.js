@@ -32,12 +32,12 @@ export function callAddress(address) {
  * @param {SourceMap | null} map the source map of the program in ROM; null if unknown
  */
 export function findLiveReturns(addresses, bytes, map) {
-  const firstStale = addresses.findIndex((address, at) => {
+  const firstStale = addresses.findIndex((address, index) => {
     const call = callAddress(address);
     const isInProgram = map !== null && map.lineOf(call) > 0;
-    return bytes[at][0] !== JMS_DIGIT || (isInProgram && !map.beginsInstruction(call));
+    return bytes[index][0] !== JMS_DIGIT || (isInProgram && !map.beginsInstruction(call));
   });
-  return addresses.map((_, at) => firstStale < 0 || at < firstStale);
+  return addresses.map((_, index) => firstStale < 0 || index < firstStale);
 }
 
 /**
@@ -49,7 +49,7 @@ export function findLiveReturns(addresses, bytes, map) {
 export function describeCounter(address, map) {
   const line = map ? map.lineOf(address) : 0;
   if (!map || line === 0) return { isLive: true, description: "", title: "" };
-  return { isLive: true, description: joinWords([map.nameOf(address), lineReference(line)]), title: map.sources[line - 1].trim() };
+  return { isLive: true, description: joinWords([map.nameOf(address), lineReference(line)]), title: map.sourceLines[line - 1].trim() };
 }
 
 /**
@@ -63,7 +63,7 @@ export function describeReturn(address, isLive, map) {
   if (!isLive) return { isLive, description: say.STALE_RETURN, title: say.NO_CALL_WAITS };
   const line = map ? map.lineOf(callAddress(address)) : 0;
   if (!map || line === 0) return { isLive, description: "", title: "" };
-  return { isLive, description: joinWords([map.nameOf(address), say.callInLine(line)]), title: map.sources[line - 1].trim() };
+  return { isLive, description: joinWords([map.nameOf(address), say.callInLine(line)]), title: map.sourceLines[line - 1].trim() };
 }
 
 /**

@@ -30,7 +30,7 @@ export class SourceMap {
     this.labels = new Map();
     /** The line number of each byte in ROM, by address; 0 for none. */
     this.lines = new Uint16Array(ADDRESS_COUNT);
-    this.sources = text.split("\n");
+    this.sourceLines = text.split("\n");
     this.read(answers);
     /** For each address, the nearest labelled address at or below it in the same contiguous range of program bytes; -1 for none. */
     this.labelledAddresses = this.findLabelledAddresses();
@@ -41,7 +41,7 @@ export class SourceMap {
    * @param {string[]} answers
    */
   read(answers) {
-    const labels = new Set(this.sources.map((line) => (LABEL_LINE.exec(line) || ["", ""])[1]));
+    const labels = new Set(this.sourceLines.map((line) => (LABEL_LINE.exec(line) || ["", ""])[1]));
     const { lines, names } = readMap(answers);
     for (const line of lines) this.addLine(line);
     for (const { name, value } of names) this.addName({ name, value, isLabel: labels.has(name) });
@@ -105,7 +105,7 @@ export class SourceMap {
    * @param {string} label
    */
   lineOfLabel(label) {
-    return this.sources.findIndex((line) => (LABEL_LINE.exec(line) || ["", ""])[1] === label) + 1;
+    return this.sourceLines.findIndex((line) => (LABEL_LINE.exec(line) || ["", ""])[1] === label) + 1;
   }
 
   /**
@@ -114,7 +114,7 @@ export class SourceMap {
    */
   beginsInstruction(address) {
     const line = this.lineOf(address);
-    return line > 0 && this.addresses[line] === address && !DATA_LINE.test(this.sources[line - 1]);
+    return line > 0 && this.addresses[line] === address && !DATA_LINE.test(this.sourceLines[line - 1]);
   }
 
   /**
@@ -123,7 +123,7 @@ export class SourceMap {
    */
   isInsideInstruction(address) {
     const line = this.lineOf(address);
-    return line > 0 && this.addresses[line] !== address && !DATA_LINE.test(this.sources[line - 1]);
+    return line > 0 && this.addresses[line] !== address && !DATA_LINE.test(this.sourceLines[line - 1]);
   }
 
   /**

@@ -69,10 +69,10 @@ export class SourceSync {
   /** Checks whether the source is the program in ROM. Ignores the result if a later check has started meanwhile. */
   async check() {
     this.lastCheck += 1;
-    const { lastCheck: check } = this;
+    const { lastCheck: checkNumber } = this;
     const text = this.callbacks.text();
     const result = await this.callbacks.check(text);
-    if (check === this.lastCheck) this.handleResult(text, result);
+    if (checkNumber === this.lastCheck) this.handleResult(text, result);
   }
 
   /**
@@ -157,5 +157,5 @@ export class SourceSync {
  * @param {SourceMap} map
  */
 function listLineAddresses(map) {
-  return map.sizes.slice(1).map((size, at) => (size > 0 ? hex(map.addresses[at + 1], 3) : ""));
+  return map.sizes.slice(1).map((size, index) => (size > 0 ? hex(map.addresses[index + 1], 3) : ""));
 }

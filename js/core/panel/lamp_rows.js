@@ -85,9 +85,9 @@ class LampRows {
   addGroup(group, multiplexedIndex) {
     const { kind, first, rows, columns } = group;
     const width = kind === "die" ? DIE_WIDTH : columns < MIN_NARROW_COLUMNS ? 2 : 1;
-    const cells = indices(rows * columns).map((at) => {
-      if (multiplexedIndex < 0) return this.makeCell(lampAt(first + at), first + at, width, "");
-      const lamp = scannedLampAt(group, multiplexedIndex, at);
+    const cells = indices(rows * columns).map((index) => {
+      if (multiplexedIndex < 0) return this.makeCell(lampAt(first + index), first + index, width, "");
+      const lamp = scannedLampAt(group, multiplexedIndex, index);
       return this.makeCell(lamp, lamp.column, width, "");
     });
     if (kind === "die") this.addDie(cells);
@@ -111,8 +111,8 @@ class LampRows {
   addGrid(grid) {
     if (grid.length === 0) return;
     const columns = indices(Math.max(...grid.map(({ column }) => column)) + 1);
-    const widths = columns.map((at) => {
-      const lampsInColumn = grid.filter(({ column }) => column === at);
+    const widths = columns.map((gridColumn) => {
+      const lampsInColumn = grid.filter(({ column }) => column === gridColumn);
       return Math.max(2, ...lampsInColumn.map(({ lamp }) => this.findCellWidth(lamp)));
     });
     for (const row of indices(Math.max(...grid.map((cell) => cell.row)) + 1)) {

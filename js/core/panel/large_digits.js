@@ -28,5 +28,5 @@ function formatCharacter(character) {
  */
 export function largeDigitRows(number) {
   const characters = [...number].map(formatCharacter);
-  return Array.from({ length: LARGE_ROWS }, (_, at) => characters.map((rows) => rows[at]).join(""));
+  return Array.from({ length: LARGE_ROWS }, (_, index) => characters.map((rows) => rows[index]).join(""));
 }

@@ -158,7 +158,7 @@ export class PanelSnapshot {
 
   /** The state of the displays and named lamps as text. */
   get display() {
-    const { text } = this.text;
+    const { displayText: text } = this.text;
     return joinDisplayText(this.brightness ? this.text.readBrightness(this.brightness) : text.read(this.marks));
   }
 }

@@ -99,14 +99,14 @@ export class Screen {
     const [titleRow, ...otherTopRows] = this.buildTopRows();
     const helpRow = say.keyLine(this.test ? testName(this.test) : say.TEST_PIN, hasMore);
     const frontRows = this.buildFrontRows(countMiddleRows(size));
-    const middle = indices(countMiddleRows(size)).map((at) => [
-      ...fitToWidth([makePlainPiece(this.formatRam(at))], RAM_WIDTH), makePlainPiece(" "), ...frontRows[at], makePlainPiece(" "),
-      makePlainPiece(this.formatListing(at)),
+    const middleRows = indices(countMiddleRows(size)).map((index) => [
+      ...fitToWidth([makePlainPiece(this.formatRam(index))], RAM_WIDTH), makePlainPiece(" "), ...frontRows[index], makePlainPiece(" "),
+      makePlainPiece(this.formatListing(index)),
     ]);
     return [
       { pieces: [makePlainPiece(titleRow)], isInverse: true },
       ...otherTopRows.map((text) => ({ pieces: [makePlainPiece(text)], isInverse: false })),
-      ...middle.map((pieces) => ({ pieces, isInverse: false })),
+      ...middleRows.map((pieces) => ({ pieces, isInverse: false })),
       { pieces: [makePlainPiece(escapeControls(panel.message))], isInverse: false },
       { pieces: [makePlainPiece(helpRow)], isInverse: true },
     ].map((row) => ({ ...row, pieces: fitToWidth(row.pieces, size.columns) }));
@@ -137,7 +137,7 @@ export class Screen {
     const { snapshot, subject: { source } } = this.panel;
     if (!snapshot.registers) return ["", "", ""];
     const { accumulator, carry, counter, owed, bank, test, registers, returns } = snapshot.registers;
-    const pairs = indices(registers.length / 2).map((at) => `P${at} ${registers[2 * at]}${registers[2 * at + 1]}`).join("  ");
+    const pairs = indices(registers.length / 2).map((index) => `P${index} ${registers[2 * index]}${registers[2 * index + 1]}`).join("  ");
     const returnAddress = parseInt(returns[0], 16);
     const isNamed = source !== null && returnAddress > 0 && source.map.lineOf(returnAddress) > 0;
     return [
@@ -213,7 +213,7 @@ export class Screen {
     }));
     const rows = [...keys, ...(keys.length > 0 ? [[]] : []), ...lamps];
     const printout = this.buildPrintoutRows(count - rows.length);
-    const visibleRows = indices(count).map((at) => rows[at] || []);
+    const visibleRows = indices(count).map((index) => rows[index] || []);
     visibleRows.splice(count - printout.length, printout.length, ...printout.map((text) => [makePlainPiece(text)]));
     return visibleRows.map((pieces) => fitToWidth(pieces, FRONT_PANEL_WIDTH));
   }

@@ -145,11 +145,11 @@ export class Panel {
    * @param {number} cycles the maximum number of cycles
    */
   async runNextEvent(cycles) {
-    const [planned] = this.queue.plan(cycles);
+    const [plannedLine] = this.queue.plan(cycles);
     let cyclesRun = 0;
-    if (planned.change) await this.changeKey(planned.change);
-    else cyclesRun = await this.runPlannedLine(planned);
-    this.queue.markExecuted([planned], () => cyclesRun);
+    if (plannedLine.change) await this.changeKey(plannedLine.change);
+    else cyclesRun = await this.runPlannedLine(plannedLine);
+    this.queue.markExecuted([plannedLine], () => cyclesRun);
     return cyclesRun;
   }
 

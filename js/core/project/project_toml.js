@@ -24,11 +24,11 @@ export const MAX_PROJECT_TOML_BYTES = 16384;
 const SPEED_NAMES = SPEEDS.map(({ id }) => `"${id}"`);
 /** The descriptions of the TOML keys in a project file, for error messages. */
 const KEY_TEXTS = new Map([
-  ["board", say.BOARD_IS],
-  ["program", say.PROGRAM_IS],
-  ["tests", say.TESTS_ARE],
-  ["properties", say.PROPERTIES_ARE],
-  ["speed", say.speedIs(SPEED_NAMES.slice(0, -1).join(", "), SPEED_NAMES[SPEED_NAMES.length - 1])],
+  ["board", say.BOARD_SYNTAX],
+  ["program", say.PROGRAM_SYNTAX],
+  ["tests", say.TESTS_SYNTAX],
+  ["properties", say.PROPERTIES_SYNTAX],
+  ["speed", say.speedSyntax(SPEED_NAMES.slice(0, -1).join(", "), SPEED_NAMES[SPEED_NAMES.length - 1])],
 ]);
 const LIST_KEYS = ["tests", "properties"];
 const REQUIRED_KEYS = ["board", "program"];

@@ -11,7 +11,7 @@ import { matchLines, readLineForms, cellText, sectionRows } from "../help/manual
 import { findSendingErrors, sentText } from "../text/sendable_text.js";
 import { FILE_WORDS, completeLine } from "./line_completion.js";
 import { SourceCommand } from "./source_command.js";
-import { LINES_BY_GROUPS, noLineMessage } from "../../words/lines.js";
+import { LINES_BY_GROUPS, unknownCommandMessage } from "../../words/lines.js";
 import { NO_KEYS, noRamAtMessage } from "../../words/prompt.js";
 import * as say from "../../words/session_prompt.js";
 
@@ -68,7 +68,7 @@ export class SessionPrompt {
     this.isEnded = false;
     /** @type {UnfinishedText | null} the text that the user is entering */
     this.openText = null;
-    this.sources = new SourceCommand(this, callbacks);
+    this.sourceCommand = new SourceCommand(this, callbacks);
   }
 
   /** The prompt text before a line. */
@@ -103,7 +103,7 @@ export class SessionPrompt {
       return await (this.openText ? this.addTextLine(line, this.openText) : this.handleLine(line));
     } catch (error) {
       if (!(error instanceof RejectedLine)) throw error;
-      this.sources.printError(error.message);
+      this.sourceCommand.printError(error.message);
       return false;
     }
   }
@@ -121,7 +121,7 @@ export class SessionPrompt {
     this.openText = null;
     const { word, lines, commandLine } = openText;
     const text = lines.map((textLine) => `${textLine}\n`).join("");
-    const { file } = this.sources;
+    const { file } = this.sourceCommand;
     const place = file ? { name: file.name, linesBefore: commandLine } : { name: "", linesBefore: 0 };
     return this.serveText(word, text, text, place);
   }
@@ -142,7 +142,7 @@ export class SessionPrompt {
     if (word === "help") return this.printHelp(argumentText);
     if (word === "source") return this.serveSourceFile(argumentText);
     if (opensText(line)) {
-      const { file } = this.sources;
+      const { file } = this.sourceCommand;
       this.openText = { word: /** @type {TextWord} */ (word), lines: [], commandLine: file ? file.lineNumber : 0 };
       return true;
     }
@@ -157,7 +157,7 @@ export class SessionPrompt {
   async serve(line) {
     const refusal = parseRefusal(await this.callbacks.serve(`${line}\n`));
     if (!refusal) return true;
-    this.sources.printError(await this.explainRefusal(line, refusal));
+    this.sourceCommand.printError(await this.explainRefusal(line, refusal));
     return false;
   }
 
@@ -204,8 +204,8 @@ export class SessionPrompt {
     const isTextRefusal = number >= TEXT_ERROR_NUMBERS.first && number <= TEXT_ERROR_NUMBERS.last;
     const errors = isTextRefusal ? await this.callbacks.findErrors(word, text, board) : [];
     // For a board, the bench reports the line of a table, but the error can be in one of its keys.
-    const isSameLine = line === 0 || COMMENT_MARKS[word] === "#" || errors.some((error) => error.line === line);
-    return isSameLine && errors.length > 0 ? errors : [{ line, words: this.callbacks.messageOf(number) }];
+    const isLineConfirmed = line === 0 || COMMENT_MARKS[word] === "#" || errors.some((error) => error.line === line);
+    return isLineConfirmed && errors.length > 0 ? errors : [{ line, words: this.callbacks.messageOf(number) }];
   }
 
   /**
@@ -249,7 +249,7 @@ export class SessionPrompt {
    */
   async serveSourceFile(name) {
     try {
-      return await this.sources.serve(name);
+      return await this.sourceCommand.serve(name);
     } catch (error) {
       throw new RejectedLine(error instanceof Error ? error.message : String(error));
     }
@@ -284,7 +284,7 @@ export class SessionPrompt {
   printHelp(topic) {
     const [word = ""] = topic.split(/[ \t]+/);
     const helpText = word === "" ? listAllLines() : this.describeTopic(word);
-    if (helpText === "") throw new RejectedLine(noLineMessage(word, []));
+    if (helpText === "") throw new RejectedLine(unknownCommandMessage(word, []));
     this.callbacks.print(helpText);
     return true;
   }

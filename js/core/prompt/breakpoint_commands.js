@@ -76,14 +76,14 @@ export class BreakpointCommands {
     const { session, machine, callbacks } = this.prompt;
     const [, place, from = "1", condition = "", note = ""] = /** @type {RegExpExecArray} */ (BREAKPOINT_ARGUMENTS.exec(argumentText));
     const { line, address } = findInstruction(place, session);
-    const previous = this.list.findByAddress(address);
-    if (previous) this.list.remove(previous.id);
+    const previousBreakpoint = this.list.findByAddress(address);
+    if (previousBreakpoint) this.list.remove(previousBreakpoint.id);
     const newBreakpoint = this.list.add({ line, address, from: Math.max(1, Number(from)), condition, note });
     const { errors } = await session.applyBreakpoints();
     const breakpointError = errors.find(([id]) => id === newBreakpoint.id);
     if (breakpointError) {
       this.list.remove(newBreakpoint.id);
-      if (previous) this.list.add(previous);
+      if (previousBreakpoint) this.list.add(previousBreakpoint);
       await this.applyBreakpoints();
       rejectCommand(breakpointError[1]);
     }
@@ -184,6 +184,6 @@ export class BreakpointCommands {
 
   /** The text of `info breakpoints`. */
   get breakpointsText() {
-    return formatBreakpointList(this.prompt.session, (id) => this.prompt.stops.describeActions(id));
+    return formatBreakpointList(this.prompt.session, (id) => this.prompt.stopCommands.describeActions(id));
   }
 }

@@ -99,19 +99,19 @@ export class Prompt {
       session: this.session, face: this.face, instructions: readInstructions(manual),
       frontPanelText: () => this.machine.frontPanelText.currentText(),
     };
-    this.breakpoints = new BreakpointCommands(this);
+    this.breakpointCommands = new BreakpointCommands(this);
     this.inspectCommands = new InspectCommands(this);
-    this.stops = new StopCommands(this);
-    this.sources = new SourceCommand(this, callbacks);
-    const consoleCalls = { handleBreakpointChange: () => this.breakpoints.syncWithBench(), handleRomChange: () => {} };
+    this.stopCommands = new StopCommands(this);
+    this.sourceCommand = new SourceCommand(this, callbacks);
+    const consoleCalls = { handleBreakpointChange: () => this.breakpointCommands.syncWithBench(), handleRomChange: () => {} };
     this.console = new Console(this.machine, this.expressionContext, new ErrorMessages(refusals), consoleCalls);
     this.keys = new BoardKeyNames(this.session, this.face);
     /** @type {Record<string, CommandHandler>} */
     this.handlers = {
-      ...new MoveCommands(this).handlers, ...this.breakpoints.handlers, ...this.stops.handlers, ...this.inspectCommands.handlers,
-      ...new ChangeCommands(this).handlers,
+      ...new MoveCommands(this).handlers, ...this.breakpointCommands.handlers, ...this.stopCommands.handlers,
+      ...this.inspectCommands.handlers, ...new ChangeCommands(this).handlers,
       source: async (name) => {
-        if (!(await this.sources.serve(name))) throw new ReportedError();
+        if (!(await this.sourceCommand.serve(name))) throw new ReportedError();
       },
     };
   }
@@ -129,12 +129,12 @@ export class Prompt {
 
   /** The register, port or lamp whose change stops `continue`; "" for none. */
   get watchedPlace() {
-    return this.breakpoints.watchedPlace;
+    return this.breakpointCommands.watchedPlace;
   }
 
   /** Adds the session's breakpoints to the list, and shows the current position. */
   async begin() {
-    this.breakpoints.syncWithBench();
+    this.breakpointCommands.syncWithBench();
     await this.session.applyBreakpoints();
     this.showStop(stoppedAt(this.session.counterText));
   }
@@ -152,7 +152,7 @@ export class Prompt {
    * @param {"console" | "stdout" | "stderr"} category
    */
   output(text, category) {
-    if (category === "stderr") this.sources.printError(text.trimEnd());
+    if (category === "stderr") this.sourceCommand.printError(text.trimEnd());
     // This method ignores the message about a move that did nothing, because `makeMove` reports the same message.
     else if (!text.startsWith(say.NOTHING_DONE)) this.callbacks.print(text.trimEnd());
   }
@@ -165,7 +165,7 @@ export class Prompt {
    * @param {string} text
    */
   async enterLine(text) {
-    const line = text.trim() || (this.callbacks.isInteractive && !this.stops.unfinishedCommands ? this.repeatedLine : "");
+    const line = text.trim() || (this.callbacks.isInteractive && !this.stopCommands.unfinishedCommands ? this.repeatedLine : "");
     this.startCycles = this.session.debugger.session.count.total;
     this.isInterrupted = false;
     const name = this.findCommandName(line);
@@ -183,11 +183,11 @@ export class Prompt {
   async executeLine(line) {
     this.stopActions = NO_STOP_ACTIONS;
     try {
-      if (this.stops.unfinishedCommands) this.stops.addLine(line);
+      if (this.stopCommands.unfinishedCommands) this.stopCommands.addLine(line);
       else if (line !== "" && !line.startsWith("#")) await this.runCommand(line);
       return true;
     } catch (error) {
-      if (!(error instanceof ReportedError)) this.sources.printError(error instanceof Error ? error.message : String(error));
+      if (!(error instanceof ReportedError)) this.sourceCommand.printError(error instanceof Error ? error.message : String(error));
       return false;
     }
   }
@@ -198,7 +198,7 @@ export class Prompt {
    */
   findCommandName(line) {
     const { command } = findCommand((COMMAND.exec(line) || ["", ""])[1]);
-    return command && !this.stops.unfinishedCommands ? command.name : "";
+    return command && !this.stopCommands.unfinishedCommands ? command.name : "";
   }
 
   /**
@@ -239,7 +239,7 @@ export class Prompt {
     await this.machine.move;
     const message = this.lastStop.message.replace(say.PAGE_REMEMBERS, say.SESSION_REMEMBERS);
     if (message.startsWith(say.NOTHING_DONE)) rejectCommand(message);
-    const nextActions = await this.stops.finishStop();
+    const nextActions = await this.stopCommands.finishStop();
     this.stopActions = { ...nextActions, hasMoved: true };
     return nextActions.words ? `${message} ${nextActions.words}` : message;
   }
@@ -282,7 +282,7 @@ export class Prompt {
 
   /** The prompt text before a line. */
   get label() {
-    return this.stops.unfinishedCommands ? "> " : "(mcs4) ";
+    return this.stopCommands.unfinishedCommands ? "> " : "(mcs4) ";
   }
 
   /** Interrupts the current move. Returns false if no move is in progress. */
@@ -295,7 +295,7 @@ export class Prompt {
 
   /** Discards the unfinished breakpoint commands. Returns a message about the commands; "" if there are none. */
   discardUnfinished() {
-    return this.stops.discardUnfinished();
+    return this.stopCommands.discardUnfinished();
   }
 
   // --- completion ---

@@ -106,8 +106,8 @@ export class InspectCommands {
    * @param {number} [startIndex] the index of the first expression to print
    */
   showDisplays(startIndex = 0) {
-    this.displays.slice(startIndex).forEach((expression, at) => {
-      this.prompt.callbacks.print(`${startIndex + at + 1}: ${expression} = ${this.evaluateOrExplain(expression)}`);
+    this.displays.slice(startIndex).forEach((expression, index) => {
+      this.prompt.callbacks.print(`${startIndex + index + 1}: ${expression} = ${this.evaluateOrExplain(expression)}`);
     });
   }
 
@@ -130,7 +130,7 @@ export class InspectCommands {
     const ids = argumentText.split(/\s+/).filter(Boolean).map(Number);
     const hasInvalidNumber = ids.some((id) => !(id >= 1 && id <= this.displays.length));
     if (hasInvalidNumber) rejectCommand(say.NO_DISPLAY);
-    this.displays = argumentText === "" ? [] : this.displays.filter((_, at) => !ids.includes(at + 1));
+    this.displays = argumentText === "" ? [] : this.displays.filter((_, index) => !ids.includes(index + 1));
   }
 
   /**
@@ -180,15 +180,15 @@ export class InspectCommands {
    * @returns {Record<string, (argumentText: string) => string>}
    */
   get infoTexts() {
-    const { session, keys, launchResult, breakpoints, lastStop } = this.prompt;
+    const { session, keys, launchResult, breakpointCommands, lastStop } = this.prompt;
     return {
       registers: () => stateText.formatRegisters(session),
       ram: () => stateText.formatRam(session),
       ports: () => stateText.formatPorts(session),
       keys: () => keys.formatInfo(),
-      breakpoints: () => breakpoints.breakpointsText,
-      watches: () => breakpoints.watchesText,
-      display: () => this.displays.map((expression, at) => `${at + 1}: ${expression}`).join("\n") || say.NOTHING_DISPLAYED,
+      breakpoints: () => breakpointCommands.breakpointsText,
+      watches: () => breakpointCommands.watchesText,
+      display: () => this.displays.map((expression, index) => `${index + 1}: ${expression}`).join("\n") || say.NOTHING_DISPLAYED,
       names: () => stateText.formatNames(session),
       source: () => say.linesOf(launchResult.program || DISASSEMBLED_FROM_ROM, stateText.countSourceLines(session)),
       session: () => (launchResult.writer ? say.SESSION_FILE : say.IN_MEMORY),

@@ -132,7 +132,7 @@ export class MoveCommands {
     const { prompt } = this;
     const { machine, session } = prompt;
     const keys = prompt.keys.parseKeys(argumentText, "press");
-    for (const [at, { key }] of keys.entries()) {
+    for (const [index, { key }] of keys.entries()) {
       let stopReason = "";
       const stopText = await prompt.makeMove(() => machine.beginMove(async () => {
         const stop = await runKeyPress(session, key, (_, tally) => machine.finishPiece(tally));
@@ -140,7 +140,7 @@ export class MoveCommands {
         return stop;
       }, () => true));
       if (stopReason === "passed") continue;
-      const remainingKeys = keys.slice(at + 1).map(({ name }) => name).join(" ");
+      const remainingKeys = keys.slice(index + 1).map(({ name }) => name).join(" ");
       prompt.showStop(remainingKeys === "" ? stopText : say.notPressedMessage(stopText, remainingKeys));
       return;
     }

@@ -27,8 +27,8 @@ export class BoardKeyNames {
     const { rows, columns } = readBoard(this.session.debugger.session.statusQueries.board);
     const namedPositions = new Set([...this.namedKeys.values()].map(({ key }) => formatKey(key)));
     const unnamedKeys = [];
-    for (let at = 0; at < rows * columns; at++) {
-      const [row, column] = [Math.floor(at / columns), at % columns];
+    for (let index = 0; index < rows * columns; index++) {
+      const [row, column] = [Math.floor(index / columns), index % columns];
       if (!namedPositions.has(formatKey(matrixKey(row, column)))) unnamedKeys.push(`${row}.${column}`);
     }
     return [...this.namedKeys.keys(), ...unnamedKeys];

@@ -12,8 +12,8 @@ import { describeTimeTravel } from "../../words/stops.js";
  */
 
 /**
- * Steps back over several instructions, or over fewer if the stored past contains fewer. In the result, `message` contains the total number
- * of cycles of these steps.
+ * Steps back over several instructions, or over fewer if the stored past contains fewer. `goForward` then undoes all these steps. In the
+ * result, `message` contains the total number of cycles of these steps.
  * @param {DebugSession} session
  * @param {number} count at least 1
  * @param {ShouldContinue} shouldContinue
@@ -25,10 +25,11 @@ export async function stepBackBy(session, count, shouldContinue) {
   if (!result.isDone) return result;
   let { cycles } = result;
   for (let done = 1; done < count && await shouldContinue(0); done++) {
-    const next = await session.goBack(goal, shouldContinue);
-    if (!next.isDone) return { ...result, message: say.fewerStepsBackMessage(session.counterText, cycles, done, count) };
-    result = next;
-    cycles += next.cycles;
+    const nextResult = await session.goBack(goal, shouldContinue);
+    if (!nextResult.isDone) return { ...result, message: say.fewerStepsBackMessage(session.counterText, cycles, done, count) };
+    session.joinMovesBack();
+    result = nextResult;
+    cycles += nextResult.cycles;
   }
   return { ...result, message: describeTimeTravel(goal, { ...result, cycles }, session.counterText) };
 }
@@ -44,7 +45,7 @@ function readNextOpcode(session) {
 /**
  * Steps back over an instruction. If the instruction returns from a subroutine, goes back to the call of this subroutine. To find the call,
  * goes back from change to change of the return addresses, and counts the calls and returns. If the stored past begins inside the
- * subroutine, stops there.
+ * subroutine, stops there. `goForward` then undoes all these moves.
  * @param {DebugSession} session
  * @param {ShouldContinue} shouldContinue
  */
@@ -55,6 +56,7 @@ export async function stepBackOver(session, shouldContinue) {
     result = await session.goBack({ kind: "change", place: "ret" }, shouldContinue);
     const message = say.backInSubroutine(session.counterText);
     if (!result.isDone) return { ...result, message, isDone: true };
+    session.joinMovesBack();
     const code = readNextOpcode(session);
     depth += Number(isReturn(code)) - Number(isCall(code));
   }

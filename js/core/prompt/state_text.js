@@ -52,7 +52,7 @@ export function countSourceLines({ program }) {
 export function formatSourceLines(session, firstLine, lastLine) {
   const last = Math.min(lastLine, countSourceLines(session));
   if (firstLine > last) rejectCommand(say.sourceLineCountMessage(countSourceLines(session)));
-  return indices(last - firstLine + 1).map((at) => formatSourceLine(session, firstLine + at)).join("\n");
+  return indices(last - firstLine + 1).map((index) => formatSourceLine(session, firstLine + index)).join("\n");
 }
 
 /**
@@ -84,7 +84,7 @@ export function formatCode(session, address, count) {
  */
 export function formatRegisters(session) {
   const { registers } = readState(session);
-  const pairs = indices(8).map((at) => `P${at} ${registers.registers[2 * at]}${registers.registers[2 * at + 1]}`).join("  ");
+  const pairs = indices(8).map((index) => `P${index} ${registers.registers[2 * index]}${registers.registers[2 * index + 1]}`).join("  ");
   const { accumulator, carry, bank, test, owed } = registers;
   const owedText = owed === "1" ? "  owed 1" : "";
   return `acc ${accumulator}  cy ${carry}  pc ${session.counterText}  dcl ${bank}  test ${test}${owedText}\n${pairs}`;
@@ -115,7 +115,7 @@ export function formatPorts(session) {
   return [
     `src ${srcBytes.join(" ")}`,
     ...roms.map(({ chip, out, in: reads }) => `rom ${chip} out ${out} in ${reads}`),
-    ...chains.map((bits, at) => `chain ${at} ${bits.replace(/.{10}(?=.)/g, "$& ")}`),
+    ...chains.map((bits, index) => `chain ${index} ${bits.replace(/.{10}(?=.)/g, "$& ")}`),
     `keys ${keys.join(" ") || "-"}`,
   ].join("\n");
 }
@@ -161,8 +161,8 @@ export function formatLineInfo(session, { line, address }) {
  * @param {DebugSession} session
  */
 export function formatFrames(session) {
-  return readStackFrames(session).map(({ address, line, name }, at) => (
-    `#${at}  ${hex(address, 3)}  ${name}${line > 0 ? `, line ${line}` : ""}${at > 0 ? say.CALL_SUFFIX : ""}`)).join("\n");
+  return readStackFrames(session).map(({ address, line, name }, index) => (
+    `#${index}  ${hex(address, 3)}  ${name}${line > 0 ? `, line ${line}` : ""}${index > 0 ? say.CALL_SUFFIX : ""}`)).join("\n");
 }
 
 /**
@@ -185,8 +185,8 @@ export function formatBreakpointList({ breakpoints }, extraText) {
   const { all, savedBreakpoints } = breakpoints;
   if (all.length === 0) return say.NO_BREAKPOINTS;
   const lines = formatBreakpoints(savedBreakpoints);
-  return all.map(({ id, hits }, at) => (
-    `${id}  ${lines[at].slice("break ".length)}${hits > 0 ? `, ${formatQuantity(hits, "hit")}` : ""}${extraText(id)}`)).join("\n");
+  return all.map(({ id, hits }, index) => (
+    `${id}  ${lines[index].slice("break ".length)}${hits > 0 ? `, ${formatQuantity(hits, "hit")}` : ""}${extraText(id)}`)).join("\n");
 }
 
 /**

@@ -50,7 +50,7 @@ export class StopCommands {
   get handlers() {
     return {
       tbreak: async (argumentText) => {
-        const id = await this.prompt.breakpoints.add(argumentText);
+        const id = await this.prompt.breakpointCommands.add(argumentText);
         this.change(id, { isTemporary: true });
       },
       condition: (argumentText) => this.setCondition(argumentText),
@@ -85,7 +85,7 @@ export class StopCommands {
    */
   parseBreakpoint(argumentText, usage) {
     const [, word = "", remainingText = ""] = /^(\S*)\s*(.*)$/.exec(argumentText) || [];
-    const [id] = this.prompt.breakpoints.parseNumbers(word || rejectCommand(usage));
+    const [id] = this.prompt.breakpointCommands.parseNumbers(word || rejectCommand(usage));
     return { breakpoint: /** @type {Breakpoint} */ (this.list.get(id)), remainingText };
   }
 
@@ -95,7 +95,7 @@ export class StopCommands {
    */
   async setCondition(argumentText) {
     const { breakpoint: { id }, remainingText } = this.parseBreakpoint(argumentText, say.CONDITION_SYNTAX);
-    await this.prompt.breakpoints.change(id, { condition: remainingText.replace(/^if\s+/, "") });
+    await this.prompt.breakpointCommands.change(id, { condition: remainingText.replace(/^if\s+/, "") });
     if (remainingText === "") this.prompt.callbacks.print(say.conditionRemovedMessage(id));
   }
 
@@ -107,7 +107,7 @@ export class StopCommands {
     const { breakpoint: { id, hits }, remainingText } = this.parseBreakpoint(argumentText, say.IGNORE_SYNTAX);
     const count = /^\d{1,9}$/.test(remainingText) ? Number(remainingText) : -1;
     if (count < 0) rejectCommand(say.hitCountRangeMessage(MAX_IGNORED_HITS.toLocaleString("en"), remainingText || say.NOTHING));
-    await this.prompt.breakpoints.change(id, { from: count === 0 ? 1 : hits + count + 1 });
+    await this.prompt.breakpointCommands.change(id, { from: count === 0 ? 1 : hits + count + 1 });
     this.prompt.callbacks.print(say.breakpointWillIgnore(id, count));
   }
 
@@ -151,10 +151,10 @@ export class StopCommands {
    * @returns {Promise<{ commands: string[], isSilent: boolean, words: string }>}
    */
   async finishStop() {
-    const { lastStop: { reason, id }, session, breakpoints } = this.prompt;
+    const { lastStop: { reason, id }, session, breakpointCommands } = this.prompt;
     const breakpoint = reason === "breakpoint" ? this.list.get(id) || this.list.findByAddress(session.address) : undefined;
     const { isTemporary, commands } = breakpoint ? this.getActions(breakpoint.id) : NO_ACTIONS;
-    if (breakpoint && isTemporary) await breakpoints.remove(String(breakpoint.id));
+    if (breakpoint && isTemporary) await breakpointCommands.remove(String(breakpoint.id));
     const isSilent = commands[0] === SILENT_COMMAND;
     return { commands: isSilent ? commands.slice(1) : commands, isSilent,
       words: breakpoint && isTemporary ? say.temporaryDeleted(breakpoint.id) : "" };
@@ -178,7 +178,7 @@ export class StopCommands {
   saveBreakpoints(argumentText) {
     const [, word = "", name = ""] = /^(\S*)\s*(.*)$/.exec(argumentText) || [];
     if (!/^b(r(e(akpoints?)?)?)?$/.test(word) || name === "") rejectCommand(say.SAVE_SYNTAX);
-    const watches = this.prompt.breakpoints.watchedPlaces.map((place) => `watch ${place}`);
+    const watches = this.prompt.breakpointCommands.watchedPlaces.map((place) => `watch ${place}`);
     const lines = [...this.list.all.flatMap((breakpoint) => this.formatBreakpoint(breakpoint)), ...watches];
     this.prompt.callbacks.write(name, `${[say.SAVED_HEAD, ...lines].join("\n")}\n`);
     this.prompt.callbacks.print(say.savedIn(name, this.list.all.length));

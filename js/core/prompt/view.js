@@ -77,14 +77,14 @@ export class View {
   lines({ rows, columns }, { head, nextInstruction, changedValue }) {
     this.readRegisters();
     const isWide = columns >= WIDE_COLUMNS;
-    const registers = isWide ? this.formatRegistersBeside(changedValue) : this.formatRegistersBelow(columns, changedValue);
-    const linesBelow = [...(isWide ? [] : registers), ...this.formatBoardLines(columns)];
+    const registerLines = isWide ? this.formatRegistersBeside(changedValue) : this.formatRegistersBelow(columns, changedValue);
+    const linesBelow = [...(isWide ? [] : registerLines), ...this.formatBoardLines(columns)];
     const height = Math.max(1, rows - 2 - linesBelow.length);
     const width = isWide ? columns - SIDE_COLUMNS : columns;
-    const bodyLines = this.listSourceLines(height).map((line, at) => {
+    const bodyLines = this.listSourceLines(height).map((line, index) => {
       const text = cutText(line, width);
       const shownText = line.startsWith(">") ? nextInstruction(text) : text;
-      return isWide && registers[at] ? `${shownText}${" ".repeat(width - text.length)}  ${registers[at]}` : shownText;
+      return isWide && registerLines[index] ? `${shownText}${" ".repeat(width - text.length)}  ${registerLines[index]}` : shownText;
     });
     return [head(this.formatHeadLine(columns)), ...bodyLines, ...linesBelow, "-".repeat(columns)].slice(0, rows);
   }
@@ -96,7 +96,7 @@ export class View {
     const { registers, ports } = new MachineState(session.debugger.session.takeSnapshot());
     const { accumulator, carry, bank, test } = registers;
     const newValues = new Map([["acc", accumulator], ["cy", carry], ["test", test], ["dcl", bank], ["SRC", ports.srcBytes[0]]]);
-    for (const at of indices(8)) newValues.set(`P${at}`, `${registers.registers[2 * at]}${registers.registers[2 * at + 1]}`);
+    for (const index of indices(8)) newValues.set(`P${index}`, `${registers.registers[2 * index]}${registers.registers[2 * index + 1]}`);
     if (total !== this.valuesCycleCount) this.previousValues = this.currentValues.size > 0 ? this.currentValues : newValues;
     this.currentValues = newValues;
     this.valuesCycleCount = total;
@@ -121,7 +121,7 @@ export class View {
     if (session.line === 0) return formatCode(session, session.address, height).split("\n");
     const count = countSourceLines(session);
     const first = Math.max(1, Math.min(session.line - Math.floor(height / 2), count - height + 1));
-    return indices(height).map((at) => (first + at <= count ? formatSourceLine(session, first + at) : "~"));
+    return indices(height).map((index) => (first + index <= count ? formatSourceLine(session, first + index) : "~"));
   }
 
   /**
@@ -143,12 +143,12 @@ export class View {
   formatRegistersBeside(highlight) {
     const { session } = this.prompt;
     const formatValue = (/** @type {string} */ name) => this.formatValue(name, highlight);
-    const calls = session.registers.returns.join(" ");
+    const returnAddresses = session.registers.returns.join(" ");
     return [
       `${formatValue("acc")}   ${formatValue("cy")}   ${formatValue("test")}`,
       `${formatValue("dcl")}   ${formatValue("SRC")}`,
-      ...indices(4).map((at) => `${formatValue(`P${2 * at}`)}  ${formatValue(`P${2 * at + 1}`)}`),
-      `returns ${calls}`,
+      ...indices(4).map((index) => `${formatValue(`P${2 * index}`)}  ${formatValue(`P${2 * index + 1}`)}`),
+      `returns ${returnAddresses}`,
     ];
   }
 
@@ -159,7 +159,7 @@ export class View {
    */
   formatRegistersBelow(columns, highlight) {
     const formatValues = (/** @type {string[]} */ names) => names.map((name) => this.formatValue(name, highlight)).join(" ");
-    const pairs = indices(8).map((at) => `P${at}`);
+    const pairs = indices(8).map((index) => `P${index}`);
     const line = ["acc", "cy", "test", "dcl", "SRC"];
     if (columns >= 60) return [formatValues(line), formatValues(pairs)];
     return [formatValues(line), formatValues(pairs.slice(0, 4)), formatValues(pairs.slice(4))];

@@ -1,4 +1,4 @@
-// Converts a counterexample of the prover, which is a list of input values, to steps. Runs the steps on the bench to confirm the violation,
+// Converts a counterexample of the prover, which is a list of inputs, to steps. Runs the steps on the bench to confirm the violation,
 // minimises the steps, and formats them as a test.
 
 import { readCounter } from "../bench/answers.js";
@@ -9,7 +9,7 @@ import { Minimiser } from "../explore/minimiser.js";
 import { Watcher } from "../explore/walk_watcher.js";
 import { initialDownInputs, areStepsAllowed, walkLines } from "../explore/walks.js";
 import { countCyclesToMistake } from "./mistakes.js";
-import { listInputs, replayValues } from "./input_replay.js";
+import { listInputs, replayReads } from "./input_replay.js";
 
 /**
  * @typedef {import("../explore/campaign.js").Campaign} Campaign
@@ -17,6 +17,7 @@ import { listInputs, replayValues } from "./input_replay.js";
  * @typedef {import("../explore/search.js").Violation} Violation
  * @typedef {import("../explore/subject.js").Subject} Subject
  * @typedef {import("../explore/walks.js").WalkStep} WalkStep
+ * @typedef {import("./question.js").Reads} Reads
  *
  * A counterexample. `steps`: the number of changes of inputs. `cycles`: the time of the violation. `isAllowed`: true if the properties text
  * allows these changes. `text`: a test, or bench lines if a pressed key has no name (`isTest` is then false). `linesBefore`: the bench
@@ -49,20 +50,22 @@ function createFreeCampaign(campaign, property, inputs) {
 }
 
 /**
- * Separates simultaneous changes of inputs: returns steps with waits of at least one cycle, as runs on the bench require. Moves the first
- * of several simultaneous changes to earlier cycles. Returns null if there are not enough cycles before these changes.
+ * Separates changes of inputs: returns steps in which two changes are at least `minWait` cycles apart. At least one cycle comes before the
+ * first change, as runs on the bench require. To do so, moves changes to earlier cycles. Returns null if there are not enough cycles
+ * before them.
  * @param {WalkStep[]} steps
+ * @param {number} minWait
  */
-function separateSimultaneousChanges(steps) {
+function separateChanges(steps, minWait) {
   /** @type {WalkStep[]} */
-  const sequentialSteps = [];
+  const separateSteps = [];
   let missingCycles = 0;
-  for (const step of [...steps].reverse()) {
+  for (const [at, step] of [...steps.entries()].reverse()) {
     const wait = step.wait - missingCycles;
-    missingCycles = wait < 1 ? 1 - wait : 0;
-    sequentialSteps.unshift({ ...step, wait: Math.max(1, wait) });
+    missingCycles = Math.max(0, (at > 0 ? minWait : 1) - wait);
+    separateSteps.unshift({ ...step, wait: wait + missingCycles });
   }
-  return missingCycles > 0 ? null : sequentialSteps.flatMap(splitLongWait);
+  return missingCycles > 0 ? null : separateSteps.flatMap(splitLongWait);
 }
 
 /**
@@ -99,6 +102,21 @@ function listStepsBefore(steps, time) {
   });
 }
 
+/**
+ * Returns the smallest number of cycles between two successive changes of inputs; Infinity if there are fewer than two changes.
+ * @param {WalkStep[]} steps
+ */
+function findShortestWait(steps) {
+  let [shortest, cycles] = [Infinity, Infinity];
+  for (const { wait, kind } of steps) {
+    cycles += wait;
+    if (kind === "none") continue;
+    shortest = Math.min(shortest, cycles);
+    cycles = 0;
+  }
+  return shortest;
+}
+
 /** Replays the prover's counterexample to one property. */
 class Replay {
   /**
@@ -117,6 +135,8 @@ class Replay {
     /** True if the property excludes a common mistake that watching a walk cannot detect; `countCyclesToMistake` detects it. */
     this.excludesMistake = form === "mistake";
     this.needsFullWalk = FORMS_WITH_MEMORY.has(form) || guards.length > 0;
+    /** The minimum number of cycles between two changes; 0 if inputs can change in the same cycle. */
+    this.shortestAllowedWait = campaign.hasWait && campaign.minWait > 1 ? campaign.minWait : 0;
   }
 
   /**
@@ -130,13 +150,13 @@ class Replay {
   }
 
   /**
-   * Returns the violation that happens if the program reads these input values; null if the bench does not confirm the violation.
-   * @param {number[]} values
+   * Returns the violation that happens if the program reads these inputs; null if the bench does not confirm the violation.
+   * @param {Reads} reads
    * @returns {Violation | null}
    */
-  findViolation(values) {
+  findViolation(reads) {
     const { subject, allowedCampaign, freeCampaign, needsFullWalk } = this;
-    const { steps, time, file, remainingCycles } = replayValues(subject, freeCampaign.inputs, values, allowedCampaign);
+    const { steps, time, file, remainingCycles } = replayReads(subject, freeCampaign.inputs, reads, allowedCampaign);
     if (this.excludesMistake) {
       const cycles = countCyclesToMistake(subject, file, this.mistake, remainingCycles);
       return cycles < 0 ? null : { property: 0, steps, time: time + cycles };
@@ -173,22 +193,37 @@ class Replay {
   }
 
   /**
-   * Minimises a violation if this is possible. If the properties text allows the violation, it must also allow the minimised one. Resolves
-   * to the minimised or to the original violation.
+   * Minimises a violation if this is possible. If the properties text allows the violation, or allows it with its changes further apart, it
+   * must also allow the minimised one. Resolves to the minimised or to the original violation.
    * @param {Violation} violation
    * @param {() => Promise<void>} yieldToMessages
    */
   async minimise(violation, yieldToMessages) {
-    const { subject, freeCampaign, allowedCampaign: { maxKeysDown, maxHoldTime, minReleaseTime } } = this;
-    const isAllowed = this.isAllowed(violation);
-    const campaign = isAllowed ? { ...freeCampaign, maxKeysDown, maxHoldTime, minReleaseTime } : freeCampaign;
-    const steps = separateSimultaneousChanges(violation.steps);
+    const { freeCampaign, allowedCampaign: { maxKeysDown, maxHoldTime, minReleaseTime }, shortestAllowedWait } = this;
     const isLong = violation.time > MAX_MINIMISED_CYCLES && freeCampaign.properties.some((property) => listAddresses(property).length > 0);
-    if (!steps || this.excludesMistake || isLong) return violation;
+    if (this.excludesMistake || isLong) return violation;
+    const minWait = Math.max(freeCampaign.minWait, shortestAllowedWait);
+    const allowedSteps = separateChanges(violation.steps, minWait);
+    if (allowedSteps && this.isAllowed({ ...violation, steps: allowedSteps })) {
+      const campaign = { ...freeCampaign, maxKeysDown, maxHoldTime, minReleaseTime, minWait };
+      const minimised = await this.minimiseIn(campaign, { ...violation, steps: allowedSteps }, yieldToMessages);
+      if (minimised && this.isAllowed(minimised)) return minimised;
+    }
+    if (this.isAllowed(violation)) return violation;
+    const steps = separateChanges(violation.steps, freeCampaign.minWait);
+    return steps && await this.minimiseIn(freeCampaign, { ...violation, steps }, yieldToMessages) || violation;
+  }
+
+  /**
+   * Resolves to the minimised violation that a campaign allows; null if its steps do not violate the property.
+   * @param {Campaign} campaign
+   * @param {Violation} violation
+   * @param {() => Promise<void>} yieldToMessages
+   */
+  minimiseIn(campaign, violation, yieldToMessages) {
+    const { subject } = this;
     const start = this.createStart(subject.file);
-    const minimiser = new Minimiser(subject, campaign, start, { ...violation, steps }, MINIMISING_CYCLES, yieldToMessages);
-    const minimised = await minimiser.minimise();
-    return minimised && (!isAllowed || this.isAllowed(minimised)) ? minimised : violation;
+    return new Minimiser(subject, campaign, start, violation, MINIMISING_CYCLES, yieldToMessages).minimise();
   }
 
   /**
@@ -196,14 +231,15 @@ class Replay {
    * @param {Violation} violation
    */
   isAllowed({ steps, time }) {
-    const { allowedCampaign, freeCampaign } = this;
+    const { allowedCampaign, freeCampaign, shortestAllowedWait } = this;
     const inputIndexes = freeCampaign.inputs.map(({ downLine }) => (
       allowedCampaign.inputs.findIndex((input) => input.downLine === downLine)));
     const allowedSteps = steps.map((step) => ({ ...step, input: step.kind === "none" ? -1 : inputIndexes[step.input] }));
     const remainingCycles = allowedSteps.reduce((remaining, { wait }) => remaining - wait, time);
     const isChecked = time > allowedCampaign.checkStart || allowedCampaign.checkStart === 0;
     return isChecked && allowedSteps.every(({ kind, input }) => kind === "none" || input >= 0)
-      && areStepsAllowed(allowedCampaign, [...allowedSteps, { wait: remainingCycles, kind: "none", input: -1 }]);
+      && areStepsAllowed(allowedCampaign, [...allowedSteps, { wait: remainingCycles, kind: "none", input: -1 }])
+      && findShortestWait(steps) >= shortestAllowedWait;
   }
 
   /**
@@ -238,17 +274,17 @@ class Replay {
 }
 
 /**
- * Resolves to the minimised counterexample that results if the program reads these input values; null if the bench does not confirm the
+ * Resolves to the minimised counterexample that results if the program reads these inputs; null if the bench does not confirm the
  * violation.
  * @param {Subject} subject
  * @param {Campaign} campaign
  * @param {number} property the index of the property in the campaign
- * @param {number[]} values the input values, in the order in which the program reads them
+ * @param {Reads} reads the inputs, in the order in which the program reads them
  * @param {() => Promise<void>} yieldToMessages
  * @param {string} [mistake] the word for the common mistake that the property excludes
  */
-export async function replayCounterexample(subject, campaign, property, values, yieldToMessages, mistake = "") {
+export async function replayCounterexample(subject, campaign, property, reads, yieldToMessages, mistake = "") {
   const replay = new Replay(subject, campaign, property, mistake);
-  const violation = replay.findViolation(values);
+  const violation = replay.findViolation(reads);
   return violation && replay.formatCounterexample(await replay.minimise(violation, yieldToMessages));
 }

@@ -1,6 +1,6 @@
-// Converts the input values in a counterexample of the prover to steps that press keys, release keys or set TEST. To do so, this module
-// runs the program on the bench. Before each instruction that reads an input, it sets the keys or TEST so that the program reads the next
-// value.
+// Converts the inputs in a counterexample of the prover to steps that press keys, release keys or set TEST. To do so, this module runs the
+// program on the bench. Before each instruction that reads an input, it sets the keys or TEST so that the program reads the next value, or
+// it sets all inputs to the next levels.
 
 import { readCounter, readRun } from "../bench/answers.js";
 import { indices } from "../bench/numbers.js";
@@ -18,6 +18,7 @@ import { DEFAULT_PAUSE } from "./question.js";
  * @typedef {import("../explore/search_inputs.js").Input} Input
  * @typedef {import("../explore/subject.js").Subject} Subject
  * @typedef {import("../explore/walks.js").WalkStep} WalkStep
+ * @typedef {import("./question.js").Reads} Reads
  */
 
 /**
@@ -41,30 +42,30 @@ export function listInputs({ names: { face, board } }) {
   return [...keys, createTestInput(face)];
 }
 
-/**
- * A session whose inputs are set so that the program reads the values of a counterexample. If possible, presses only keys that a campaign
- * allows.
- */
-class ValueReplay {
+/** A session that runs from one read of an input to the next, with the steps that change its inputs. */
+class InputReplay {
   /**
    * @param {Subject} subject
    * @param {Input[]} inputs
-   * @param {Campaign} campaign
    */
-  constructor(subject, inputs, campaign) {
+  constructor(subject, inputs) {
     this.subject = subject;
     this.inputs = inputs;
-    this.maxKeysDown = campaign.maxKeysDown;
-    const allowedLines = new Set(campaign.inputs.map(({ downLine }) => downLine));
-    /** For each input, whether the campaign allows it. */
-    this.allowedInputs = inputs.map(({ downLine }) => allowedLines.has(downLine));
     this.file = subject.file.slice();
+    /** The session file after the last change of an input. */
+    this.changedFile = this.file.slice();
     /** For each input, whether it is down now. */
     this.downInputs = inputs.map(({ isDown }) => isDown);
     this.cyclesSinceChange = 0;
     /** @type {WalkStep[]} */
     this.steps = [];
     this.readAddresses = indices(ADDRESS_COUNT).filter((address) => this.readsInput(subject.codes[address]));
+    if (this.hasBreakpoints) this.serve(this.readAddresses.map((address) => `break ${address}\n`).join(""));
+  }
+
+  /** True if there is a breakpoint at each instruction that reads an input. */
+  get hasBreakpoints() {
+    return this.readAddresses.length <= MAX_ENABLED_BREAKPOINTS;
   }
 
   /**
@@ -101,6 +102,7 @@ class ValueReplay {
     this.serve(`${isDown ? this.inputs[index].downLine : this.inputs[index].upLine}\n`);
     this.steps.push({ wait: this.cyclesSinceChange, kind: isDown ? "down" : "up", input: index });
     this.cyclesSinceChange = 0;
+    this.changedFile = this.file.slice();
   }
 
   /**
@@ -110,6 +112,51 @@ class ValueReplay {
   setTest(level) {
     const pin = this.inputs.length - 1;
     this.moveInput(pin, isSameKey(this.inputs[pin].key, pinKey(level)));
+  }
+
+  /**
+   * Runs the program for at most `count` cycles. Returns the number of cycles that it ran, and the reason why it stopped.
+   * @param {number} count
+   */
+  run(count) {
+    const [answer] = this.serve(`run ${count}\n`);
+    const { cycles, end } = readRun(answer) || { cycles: 0, end: "" };
+    this.cyclesSinceChange += cycles;
+    return { cycles, end };
+  }
+
+  /** Runs to the next instruction that reads an input, for at most DEFAULT_PAUSE cycles. Returns false if the program cannot continue. */
+  runToRead() {
+    for (let remaining = DEFAULT_PAUSE; remaining > 0 && this.findNextReadCode() < 0;) {
+      const { cycles, end } = this.run(Math.min(remaining, this.hasBreakpoints ? MAX_RUN_CYCLES : 1));
+      remaining -= cycles;
+      if (end === "code" || end === "") return false;
+    }
+    return true;
+  }
+
+  /** Returns the session file after the last change, without breakpoints. */
+  takeChangedFile() {
+    const { subject, changedFile, readAddresses } = this;
+    const unbreakLines = readAddresses.map((address) => `unbreak ${address}\n`).join("");
+    if (this.hasBreakpoints) subject.engine.serve(changedFile, unbreakLines, changedFile);
+    return changedFile;
+  }
+}
+
+/** A replay in which the program reads given values. If possible, presses only keys that a campaign allows. */
+class ValueReplay extends InputReplay {
+  /**
+   * @param {Subject} subject
+   * @param {Input[]} inputs
+   * @param {Campaign} campaign
+   */
+  constructor(subject, inputs, campaign) {
+    super(subject, inputs);
+    this.maxKeysDown = campaign.maxKeysDown;
+    const allowedLines = new Set(campaign.inputs.map(({ downLine }) => downLine));
+    /** For each input, whether the campaign allows it. */
+    this.allowedInputs = inputs.map(({ downLine }) => allowedLines.has(downLine));
   }
 
   /**
@@ -152,27 +199,6 @@ class ValueReplay {
   }
 
   /**
-   * Runs the program for at most `count` cycles. Returns the number of cycles that it ran, and the reason why it stopped.
-   * @param {number} count
-   */
-  run(count) {
-    const [answer] = this.serve(`run ${count}\n`);
-    const { cycles, end } = readRun(answer) || { cycles: 0, end: "" };
-    this.cyclesSinceChange += cycles;
-    return { cycles, end };
-  }
-
-  /** Runs to the next instruction that reads an input, for at most DEFAULT_PAUSE cycles. Returns false if the program cannot continue. */
-  runToRead() {
-    for (let remaining = DEFAULT_PAUSE; remaining > 0 && this.findNextReadCode() < 0;) {
-      const { cycles, end } = this.run(Math.min(remaining, this.readAddresses.length <= MAX_ENABLED_BREAKPOINTS ? MAX_RUN_CYCLES : 1));
-      remaining -= cycles;
-      if (end === "code" || end === "") return false;
-    }
-    return true;
-  }
-
-  /**
    * Sets the inputs for the next cycle.
    * @param {number} value the value that the program reads in the next cycle; 0 if the cycle does not read an input
    */
@@ -184,30 +210,101 @@ class ValueReplay {
 }
 
 /**
- * Returns the steps that make the program read the input values `values`, one after the other. `time` is the number of cycles up to the
- * last step, and `file` is the session file after it. `remainingCycles` is the number of cycles after the last step, in which the violation
- * must happen.
+ * A replay in which the inputs that are read have given levels at each read. Makes each change as early as possible, but at least
+ * `minWait` cycles after the change before it, and the first change after one cycle. Makes a change immediately before its read if the
+ * read is earlier than that.
+ */
+class LevelReplay extends InputReplay {
+  /**
+   * @param {Subject} subject
+   * @param {Input[]} inputs
+   * @param {number} minWait
+   */
+  constructor(subject, inputs, minWait) {
+    super(subject, inputs);
+    this.minWait = minWait;
+    this.hasChanged = false;
+    /**
+     * The session file after the last read, and the number of cycles that it has run since the last change.
+     * @type {{ file: Uint8Array, cyclesSinceChange: number }}
+     */
+    this.afterRead = { file: this.file.slice(), cyclesSinceChange: 0 };
+  }
+
+  /**
+   * Sets the keys, or TEST, to levels for the next read. Changes them before this read, if necessary. Leaves inputs that this read cannot
+   * detect, because each change delays the next one. Does nothing if the next cycle reads no input.
+   * @param {number[]} levels the level of each key, row by row, and of TEST
+   */
+  setInputs(levels) {
+    const code = this.findNextReadCode();
+    if (code < 0) return;
+    const pin = this.inputs.length - 1;
+    const wantedInputs = this.inputs.map(({ key }, index) => {
+      if ((index === pin) !== readsTest(code)) return this.downInputs[index];
+      return index === pin ? isSameKey(key, pinKey(levels[pin])) : levels[index] === 1;
+    });
+    if (wantedInputs.every((isDown, index) => isDown === this.downInputs[index])) return;
+    this.goBackToEarliestChange();
+    wantedInputs.forEach((isDown, index) => { if (!isDown) this.moveInput(index, false); });
+    wantedInputs.forEach((isDown, index) => { if (isDown) this.moveInput(index, true); });
+    this.hasChanged = true;
+    this.runToRead();
+  }
+
+  /** Goes back to the earliest moment after the last read at which the inputs can change. Stays at the next read if that is earlier. */
+  goBackToEarliestChange() {
+    const { afterRead } = this;
+    // A counterexample can be minimised only if a run of at least one cycle comes before each change.
+    const minCycles = this.hasChanged ? this.minWait : 1;
+    const cyclesToChange = Math.max(0, minCycles - afterRead.cyclesSinceChange);
+    const cyclesToRead = this.cyclesSinceChange - afterRead.cyclesSinceChange;
+    if (cyclesToChange >= cyclesToRead) return;
+    this.file = afterRead.file.slice();
+    this.cyclesSinceChange = afterRead.cyclesSinceChange;
+    for (let remaining = cyclesToChange; remaining > 0;) remaining -= this.run(Math.min(remaining, MAX_RUN_CYCLES)).cycles;
+  }
+
+  /**
+   * Runs the program. After a read, stores the session.
+   * @param {number} count
+   */
+  run(count) {
+    const isRead = count === 1 && this.findNextReadCode() >= 0;
+    const result = super.run(count);
+    if (isRead) this.afterRead = { file: this.file.slice(), cyclesSinceChange: this.cyclesSinceChange };
+    return result;
+  }
+}
+
+/**
+ * Returns the steps with which the program reads the inputs of a counterexample. `time` is the number of cycles up to the last step, and
+ * `file` is the session file after it. `remainingCycles` is the number of cycles after the last step, in which the violation must happen.
  * @param {Subject} subject
  * @param {Input[]} inputs all inputs of the board
- * @param {number[]} values
+ * @param {Reads} reads
  * @param {Campaign} campaign the campaign whose inputs the steps use, if possible
  * @returns {{ steps: WalkStep[], time: number, file: Uint8Array, remainingCycles: number }}
  */
-export function replayValues(subject, inputs, values, campaign) {
-  const replay = new ValueReplay(subject, inputs, campaign);
-  if (replay.readAddresses.length <= MAX_ENABLED_BREAKPOINTS) {
-    replay.serve(replay.readAddresses.map((address) => `break ${address}\n`).join(""));
-  }
-  let file = replay.file.slice();
-  values.every((value) => {
-    const { length } = replay.steps;
-    replay.setInputs(value);
-    if (replay.steps.length > length) file = replay.file.slice();
+export function replayReads(subject, inputs, reads, campaign) {
+  const replay = reads.levels ? replayEach(new LevelReplay(subject, inputs, campaign.minWait), reads.levels)
+    : replayEach(new ValueReplay(subject, inputs, campaign), reads.values);
+  const time = replay.steps.reduce((sum, { wait }) => sum + wait, 0);
+  return { steps: replay.steps, time, file: replay.takeChangedFile(), remainingCycles: replay.cyclesSinceChange };
+}
+
+/**
+ * Replays the inputs of a counterexample, one after the other. Ends early if the program cannot continue. Returns the replay.
+ * @template T
+ * @template {InputReplay & { setInputs: (input: T) => void }} R
+ * @param {R} replay
+ * @param {T[]} reads
+ */
+function replayEach(replay, reads) {
+  reads.every((input) => {
+    replay.setInputs(input);
     replay.run(1);
     return replay.runToRead();
   });
-  const unbreakLines = replay.readAddresses.map((address) => `unbreak ${address}\n`).join("");
-  if (replay.readAddresses.length <= MAX_ENABLED_BREAKPOINTS) subject.engine.serve(file, unbreakLines, file);
-  const time = replay.steps.reduce((sum, { wait }) => sum + wait, 0);
-  return { steps: replay.steps, time, file, remainingCycles: replay.cyclesSinceChange };
+  return replay;
 }

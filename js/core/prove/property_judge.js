@@ -1,11 +1,11 @@
 // Decides properties one after the other: asks the prover, and derives a verdict from its answers. The properties of the text come first.
 // After them come the common mistakes, for which every program is checked. The first question about a property is for all inputs. If its
-// answer does not decide the property, the next question is only for the inputs that the text allows. Callbacks ask the prover and confirm
-// counterexamples.
+// answer does not decide the property, the next questions are only for inputs that the text allows, the last one with its shortest wait.
+// Callbacks ask the prover and confirm counterexamples.
 
 import { formatSteps } from "../explore/report.js";
 import { replayCounterexample } from "./counterexample.js";
-import { findInputLimits } from "./input_limits.js";
+import { listInputLimits } from "./input_limits.js";
 import { JointQuestion } from "./joint_question.js";
 import { listMistakes } from "./mistakes.js";
 import { createQuestion, nameOmittedGuards, mistakeQuestion, needsCounting, needsSeparateQuestion } from "./question.js";
@@ -65,6 +65,12 @@ function explainUnconfirmed(property) {
   return property.form === "only after" ? say.TRUE_BEFORE_KEYS_ARE_READ : say.NOT_CONFIRMED;
 }
 
+/**
+ * Returns whether a verdict is a proof, or a counterexample that the text allows.
+ * @param {Verdict} verdict
+ */
+const isFinalVerdict = (verdict) => verdict.kind === "proved" || (verdict.kind === "found" && verdict.counterexample.isAllowed);
+
 export class PropertyJudge {
   /**
    * @param {Subject} subject
@@ -79,8 +85,8 @@ export class PropertyJudge {
     this.textProperties = campaign.properties.filter(({ line }) => line > 0)
       .map((property) => ({ property, propertyQuestion: createQuestion(property, campaign, subject) }));
     this.mistakes = listMistakes();
-    /** The limits that the text sets on the inputs; null if it sets none that a proof can use. */
-    this.inputLimits = findInputLimits(campaign, subject.names.board);
+    /** The limits that the text sets on the inputs, for successive attempts of a proof. */
+    this.inputLimits = listInputLimits(campaign, subject.names.board);
     /** The number of properties and common mistakes that have a verdict. */
     this.judgedCount = 0;
     /** The questions about properties that can be combined into one. */
@@ -172,7 +178,7 @@ export class PropertyJudge {
     return (verdict.kind === "open" && await this.proveBySets(property, question)) || verdict;
   }
 
-  /** Decides all properties and common mistakes. Resolves to their verdicts. */
+  /** Judges all properties and common mistakes. Resolves to their verdicts. */
   async judgeAll() {
     const judgedProperties = [];
     for (let next = await this.judgeNext(); next; next = await this.judgeNext()) judgedProperties.push(next);
@@ -188,12 +194,14 @@ export class PropertyJudge {
    * @returns {Promise<Verdict>}
    */
   async judge(property, question, search) {
-    const verdict = await this.retryOpenVerdict(property, await search(question), question);
-    const isDecided = verdict.kind === "proved" || (verdict.kind === "found" && verdict.counterexample.isAllowed);
-    if (isDecided || !this.inputLimits) return verdict;
-    const limitedVerdict = await search({ ...question, inputLimits: this.inputLimits });
-    // If the second search decides nothing, the goal counts as reached, although only inputs that the text does not allow reach it.
-    return limitedVerdict.kind === "open" && verdict.kind === "found" ? verdict : limitedVerdict;
+    let verdict = await this.retryOpenVerdict(property, await search(question), question);
+    for (const inputLimits of this.inputLimits) {
+      if (isFinalVerdict(verdict)) break;
+      const limitedVerdict = await search({ ...question, inputLimits });
+      // If this search decides nothing, a goal that an earlier search reached counts, although the text does not allow its inputs.
+      if (limitedVerdict.kind !== "open" || verdict.kind !== "found") verdict = limitedVerdict;
+    }
+    return verdict;
   }
 
   /**
@@ -210,7 +218,7 @@ export class PropertyJudge {
     if (answer.kind !== "fails") return { kind: "open", reason: this.calls.explainNoAnswer(answer) };
     const { subject, calls } = this;
     const index = campaign.properties.indexOf(property);
-    const counterexample = await replayCounterexample(subject, campaign, index, answer.values, calls.yieldToMessages, mistake);
+    const counterexample = await replayCounterexample(subject, campaign, index, answer.reads, calls.yieldToMessages, mistake);
     if (!counterexample) return { kind: "open", reason: explainUnconfirmed(property) };
     if (!await calls.confirm(counterexample, property.isGoal)) return { kind: "open", reason: say.NOT_CONFIRMED };
     if (counterexample.isAllowed || property.isGoal) return { kind: "found", counterexample };

@@ -42,12 +42,17 @@ import * as say from "../../words/prove.js";
  *
  * An answer of the prover that is not an error:
  * - `holds`: no reachable state violates a requirement of the question; `states` is the number of reachable states;
- * - `fails`: `values` are the input values that the program reads up to a violation;
+ * - `fails`: `reads` are the inputs up to a violation;
  * - `more`: there are more states than the limit `maxStates`;
  * - `lost`: the prover gave up the search;
  * - `full`: the memory is full after `states` states (0 if there is not enough memory for the first state).
  * @typedef {{ kind: "more" } | { kind: "lost" } | { kind: "full", states: number }} NoAnswer
- * @typedef {{ kind: "holds", states: number } | { kind: "fails", values: number[] } | NoAnswer} Answer
+ * @typedef {{ kind: "holds", states: number } | { kind: "fails", reads: Reads } | NoAnswer} Answer
+ *
+ * The inputs in a counterexample, one for each step of the search. `values` are the values that the first cycles of the steps read. If the
+ * question has a minimum time between two changes, `levels` are the levels of all inputs in these cycles instead. They are lists of bits:
+ * of all keys, row by row, and then of TEST.
+ * @typedef {{ values: number[], levels?: undefined } | { levels: number[][], values?: undefined }} Reads
  *
  * The limits of a question:
  * - `maxStates`: the maximum number of states; `memory`: the maximum memory for them in MB (0 to use all memory);
@@ -267,6 +272,12 @@ export function questionText({ board, program }, { forbidden, mistakes, stopwatc
 const FIXED_ANSWERS = [[/^too many$/, { kind: "more" }], [/^gave up$/, { kind: "lost" }], [/^no 90$/, { kind: "full", states: 0 }]];
 
 /**
+ * Parses the levels of all inputs. Each hexadecimal digit has four levels, the first one in its lowest bit.
+ * @param {string} digits
+ */
+const parseLevels = (digits) => [...digits].flatMap((digit) => [1, 2, 4, 8].map((bit) => Math.floor(parseInt(digit, 16) / bit) % 2));
+
+/**
  * Parses an answer of the prover. Returns null for an error and for any unknown text.
  * @param {string} text
  * @returns {Answer | null}
@@ -276,7 +287,9 @@ export function readAnswer(text) {
   const [, states] = /^holds (\d+)$/.exec(line) || [];
   if (states) return { kind: "holds", states: Number(states) };
   const [, values] = /^may fail((?: \d+)*)$/.exec(line) || [];
-  if (values !== undefined) return { kind: "fails", values: values.split(" ").slice(1).map(Number) };
+  if (values !== undefined) return { kind: "fails", reads: { values: values.split(" ").slice(1).map(Number) } };
+  const [, levels] = /^may fail with((?: [0-9a-f]+)+)$/.exec(line) || [];
+  if (levels) return { kind: "fails", reads: { levels: levels.trim().split(" ").map(parseLevels) } };
   const [, stateCount] = /^no room (\d+)$/.exec(line) || [];
   if (stateCount) return { kind: "full", states: Number(stateCount) };
   const [, fixedAnswer = null] = FIXED_ANSWERS.find(([form]) => form.test(line)) || [];

@@ -1,6 +1,7 @@
 // Checks whether a verdict remains valid after a change of the board, the program or the properties text.
 
 import { isSetting } from "../explore/campaign.js";
+import { WAIT_WORD } from "../../words/prove.js";
 
 /**
  * @typedef {import("./bounded_proof.js").PropertyVerdict} PropertyVerdict
@@ -20,6 +21,8 @@ function normalizeLines(text) {
 const PROOF_SETTINGS = /^from /;
 /** The settings on which a proof with limits on the inputs depends. */
 const LIMITED_PROOF_SETTINGS = /^(?:from|press|test|together)\b/;
+/** The settings on which a proof with a minimum time between two changes depends. */
+const WAITING_PROOF_SETTINGS = /^(?:from|press|test|together|wait|held)\b/;
 
 /**
  * Returns the settings in a properties text on which a verdict depends.
@@ -29,7 +32,8 @@ const LIMITED_PROOF_SETTINGS = /^(?:from|press|test|together)\b/;
 function selectSettings(lines, verdict) {
   const settings = lines.filter(isSetting);
   if (verdict.kind !== "proved") return settings.join("\n");
-  const pattern = verdict.limits.length > 0 ? LIMITED_PROOF_SETTINGS : PROOF_SETTINGS;
+  const limitedSettings = verdict.limits.includes(WAIT_WORD) ? WAITING_PROOF_SETTINGS : LIMITED_PROOF_SETTINGS;
+  const pattern = verdict.limits.length > 0 ? limitedSettings : PROOF_SETTINGS;
   return settings.filter((line) => pattern.test(line)).join("\n");
 }
 

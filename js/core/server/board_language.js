@@ -141,11 +141,11 @@ export class BoardLanguage {
     /** @type {ColouredWord[]} */
     const comments = lines.map((lineText, line) => ({ line, from: findCommentStart(lineText, "#"), to: lineText.length, type: "comment" }));
     const tokens = tomlWords(lines);
-    return [...comments, ...tokens.flatMap(({ kind, text: word, line, from, to }, at) => {
+    return [...comments, ...tokens.flatMap(({ kind, text: word, line, from, to }, index) => {
       if (kind !== "bare" && kind !== "string") return [];
-      const previousWord = tokens[at - 1] ? tokens[at - 1].text : "";
+      const previousWord = tokens[index - 1] ? tokens[index - 1].text : "";
       const isHeader = headers.has(line) && previousWord === "[" && /^\s*\[/.test(lines[line - 1]);
-      const isKey = tokens[at + 1] && tokens[at + 1].text === "=" && tokens[at + 1].kind === "punctuation";
+      const isKey = tokens[index + 1] && tokens[index + 1].text === "=" && tokens[index + 1].kind === "punctuation";
       const valueType = kind === "string" ? "string" : /^[+-]?\d/.test(word) ? "number" : "";
       const type = isHeader ? "class" : isKey ? "property" : valueType;
       return type ? [{ line: line - 1, from, to, type }] : [];

@@ -57,10 +57,10 @@ export class BoardReferences {
   /**
    * Returns the value at a position; null if there is none.
    * @param {number} line the line number from 1
-   * @param {number} at the column from 0
+   * @param {number} column the column from 0
    */
-  valueAt(line, at) {
-    return this.values.find((value) => value.line === line && value.from <= at && at <= value.to) || null;
+  valueAt(line, column) {
+    return this.values.find((value) => value.line === line && value.from <= column && column <= value.to) || null;
   }
 
   /**

@@ -6,7 +6,7 @@ import { MessageStream } from "./message_stream.js";
 import {
   REQUEST_CANCELLED, INTERNAL_ERROR, INVALID_REQUEST, METHOD_NOT_FOUND, NOT_INITIALIZED, PARSE_ERROR, ProtocolError,
 } from "./lsp_protocol.js";
-import { IT_WAS_CANCELLED } from "../../words/bench.js";
+import { CANCELLED } from "../../words/bench.js";
 import * as say from "../../words/server.js";
 
 /**
@@ -53,7 +53,7 @@ export class Connection extends MessageStream {
     /** @type {Map<Id, PendingRequest>} the requests without a response */
     this.pendingRequests = new Map();
     /** The number of requests sent to the client. */
-    this.sentRequests = 0;
+    this.sentRequestCount = 0;
   }
 
   /**
@@ -112,26 +112,26 @@ export class Connection extends MessageStream {
       this.rejectRequest(id, stateError || requestError);
       return;
     }
-    const pending = { isCancelled: false };
-    this.pendingRequests.set(id, pending);
+    const pendingRequest = { isCancelled: false };
+    this.pendingRequests.set(id, pendingRequest);
     // The next message can arrive while this function awaits the handler, so the state must change first.
     if (method === "initialize") this.state = "open";
     if (method === "shutdown") this.state = "shut";
     try {
-      const result = await handler(params, pending);
-      if (this.removePending(id, pending)) this.send({ id, result: result === undefined ? null : result });
+      const result = await handler(params, pendingRequest);
+      if (this.removePending(id, pendingRequest)) this.send({ id, result: result === undefined ? null : result });
     } catch (error) {
-      if (this.removePending(id, pending)) this.rejectRequest(id, error);
+      if (this.removePending(id, pendingRequest)) this.rejectRequest(id, error);
     }
   }
 
   /**
    * Removes a request from the pending requests. Returns false if the request was cancelled and therefore already has a response.
    * @param {Id} id
-   * @param {PendingRequest} pending
+   * @param {PendingRequest} pendingRequest
    */
-  removePending(id, pending) {
-    if (pending.isCancelled) return false;
+  removePending(id, pendingRequest) {
+    if (pendingRequest.isCancelled) return false;
     return this.pendingRequests.delete(id);
   }
 
@@ -144,7 +144,7 @@ export class Connection extends MessageStream {
     if (!pending) return;
     pending.isCancelled = true;
     this.pendingRequests.delete(id);
-    this.rejectRequest(id, new ProtocolError(REQUEST_CANCELLED, IT_WAS_CANCELLED));
+    this.rejectRequest(id, new ProtocolError(REQUEST_CANCELLED, CANCELLED));
   }
 
   /**
@@ -194,8 +194,8 @@ export class Connection extends MessageStream {
    * @param {string} method
    */
   ask(method) {
-    this.sentRequests += 1;
-    this.send({ id: `mcs4 ${this.sentRequests}`, method });
+    this.sentRequestCount += 1;
+    this.send({ id: `mcs4 ${this.sentRequestCount}`, method });
   }
 
   /**

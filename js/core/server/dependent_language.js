@@ -77,8 +77,8 @@ export class DependentLanguage {
    * @param {Texts} texts
    */
   prepareTexts(texts) {
-    const last = this.lastPrepared;
-    const isKnown = last && last.texts.boardText === texts.boardText && last.texts.programText === texts.programText;
+    const lastCall = this.lastPrepared;
+    const isKnown = lastCall && lastCall.texts.boardText === texts.boardText && lastCall.texts.programText === texts.programText;
     if (!this.lastPrepared || !isKnown) this.lastPrepared = { texts, prepared: prepareTests(this.engine, texts) };
     return this.lastPrepared.prepared;
   }

@@ -3,11 +3,11 @@
 import * as say from "../../words/server.js";
 
 /** The maximum length of a message body in bytes. The reader skips a longer message. */
-export const MAX_MESSAGE = 16777216;
+export const MAX_MESSAGE_BYTES = 16777216;
 /** The maximum length, in bytes, of a message body that the reader skips. A longer message ends the stream with an error. */
-export const MAX_SKIPPED = 16 * MAX_MESSAGE;
+export const MAX_SKIPPED_BYTES = 16 * MAX_MESSAGE_BYTES;
 /** The maximum header length in bytes. */
-const MAX_HEADER = 4096;
+const MAX_HEADER_BYTES = 4096;
 /** Matches the header line with the body length. */
 const CONTENT_LENGTH = /^content-length[ \t]*:[ \t]*(\d{1,12})[ \t]*$/i;
 
@@ -25,9 +25,9 @@ export class StreamError extends Error {}
  */
 function parseContentLength(header) {
   const sizes = header.split("\r\n").map((line) => CONTENT_LENGTH.exec(line)).filter((match) => match !== null);
-  if (sizes.length !== 1) throw new StreamError(say.HEAD_SYNTAX);
+  if (sizes.length !== 1) throw new StreamError(say.HEADER_SYNTAX);
   const size = Number(/** @type {RegExpExecArray} */ (sizes[0])[1]);
-  if (size > MAX_SKIPPED) throw new StreamError(say.sizeTooLarge(size, MAX_SKIPPED));
+  if (size > MAX_SKIPPED_BYTES) throw new StreamError(say.sizeTooLarge(size, MAX_SKIPPED_BYTES));
   return size;
 }
 
@@ -46,7 +46,7 @@ export class MessageReader {
   /** An error message if the received bytes end within a message; "" if they end after a message. */
   get incompleteMessage() {
     if (this.missingBytes > 0) return say.messageIncomplete(this.size - this.missingBytes, this.size);
-    return this.header === "" ? "" : say.HEAD_INCOMPLETE;
+    return this.header === "" ? "" : say.HEADER_INCOMPLETE;
   }
 
   /**
@@ -55,11 +55,11 @@ export class MessageReader {
    * @returns {Generator<ReceivedMessage, void>}
    */
   * readMessages(bytes) {
-    for (let at = 0; at < bytes.length;) {
-      if (this.missingBytes < 0) at = this.readHeader(bytes, at);
-      const count = Math.min(Math.max(this.missingBytes, 0), bytes.length - at);
-      if (this.body && count > 0) this.body.set(bytes.subarray(at, at + count), this.size - this.missingBytes);
-      at += count;
+    for (let index = 0; index < bytes.length;) {
+      if (this.missingBytes < 0) index = this.readHeader(bytes, index);
+      const count = Math.min(Math.max(this.missingBytes, 0), bytes.length - index);
+      if (this.body && count > 0) this.body.set(bytes.subarray(index, index + count), this.size - this.missingBytes);
+      index += count;
       if (this.missingBytes < 0) break;
       this.missingBytes -= count;
       if (this.missingBytes === 0) yield this.finishMessage();
@@ -73,16 +73,16 @@ export class MessageReader {
    * @param {number} start the index of the first byte
    */
   readHeader(bytes, start) {
-    for (let at = start; at < bytes.length; at++) {
-      this.header += String.fromCharCode(bytes[at]);
+    for (let index = start; index < bytes.length; index++) {
+      this.header += String.fromCharCode(bytes[index]);
       if (this.header.endsWith("\r\n\r\n")) {
         this.size = parseContentLength(this.header);
         this.missingBytes = this.size;
-        this.body = this.size <= MAX_MESSAGE ? new Uint8Array(this.size) : null;
+        this.body = this.size <= MAX_MESSAGE_BYTES ? new Uint8Array(this.size) : null;
         this.header = "";
-        return at + 1;
+        return index + 1;
       }
-      if (this.header.length > MAX_HEADER) throw new StreamError(say.headTooLong(MAX_HEADER));
+      if (this.header.length > MAX_HEADER_BYTES) throw new StreamError(say.headerTooLongMessage(MAX_HEADER_BYTES));
     }
     return bytes.length;
   }

@@ -52,5 +52,5 @@ function createLineHints(text, line, map, cyclesOf) {
  * @returns {InlayHint[]}
  */
 export function createHints(lines, map, cyclesOf, { start, end }) {
-  return lines.slice(start.line, end.line + 1).flatMap((text, at) => createLineHints(text, start.line + at, map, cyclesOf));
+  return lines.slice(start.line, end.line + 1).flatMap((text, index) => createLineHints(text, start.line + index, map, cyclesOf));
 }

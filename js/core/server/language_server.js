@@ -56,13 +56,13 @@ export class LanguageServer {
     const refusalMessage = (/** @type {number} */ number) => errorMessages.refusalMeaning(number);
     const bench = new TextBench(engine);
     const readText = (/** @type {string} */ uri, /** @type {string} */ folder) => this.readText(uri, folder);
-    const dependencies = (/** @type {string} */ uri) => this.findDependencies(uri);
+    const dependenciesOf = (/** @type {string} */ uri) => this.findDependencies(uri);
     this.program = new ProgramLanguage(bench, manual, refusalMessage, (uri) => this.findBoardText(uri), host.pause);
     this.board = new BoardLanguage(bench, boardTables(manual), refusalMessage);
-    this.tests = new TestLanguage(engine, manual, dependencies);
-    this.properties = new PropertyLanguage(engine, manual, dependencies, readText);
+    this.tests = new TestLanguage(engine, manual, dependenciesOf);
+    this.properties = new PropertyLanguage(engine, manual, dependenciesOf, readText);
     this.project = new ProjectLanguage(readText);
-    this.runs = new TestRuns(engine, refusalMessage, dependencies, host.pause);
+    this.testRuns = new TestRuns(engine, refusalMessage, dependenciesOf, host.pause);
     /** @type {Client} the client; it has no capabilities before `initialize` */
     this.client = readClient({});
     connection.handlers = { requests: new Requests(this).createHandlers(), notifications: this.createNotificationHandlers() };
@@ -90,9 +90,9 @@ export class LanguageServer {
    */
   getRequestedText(params) {
     const uri = requireString(getField(getField(params, "textDocument"), "uri"), "textDocument.uri");
-    const text = this.texts.get(uri);
-    if (!text) throw new ProtocolError(INVALID_PARAMS, say.notOpenMessage(uri));
-    return text;
+    const checkedText = this.texts.get(uri);
+    if (!checkedText) throw new ProtocolError(INVALID_PARAMS, say.notOpenMessage(uri));
+    return checkedText;
   }
 
   /**
@@ -319,7 +319,7 @@ export class LanguageServer {
   async runTest(uri, name, pending) {
     const text = this.getRequestedText({ textDocument: { uri } });
     const { editCount } = text.openText;
-    const { message, hasPassed, failure } = await this.runs.run(text.openText, name, pending);
+    const { message, hasPassed, failure } = await this.testRuns.run(text.openText, name, pending);
     this.connection.show(message, !hasPassed);
     if (failure && text.openText.editCount === editCount && failure.uri === uri) {
       text.diagnostics = [...text.diagnostics, ...toDiagnostics([failure.error], true)];

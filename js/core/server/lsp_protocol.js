@@ -63,7 +63,7 @@ export function requireString(value, parameterName) {
 export function requirePosition(value) {
   const [line, character] = [getField(value, "line"), getField(value, "character")];
   if (![line, character].every((number) => Number.isSafeInteger(number) && number >= 0)) {
-    throw new ProtocolError(INVALID_PARAMS, say.POSITION_IS);
+    throw new ProtocolError(INVALID_PARAMS, say.POSITION_SYNTAX);
   }
   return { line, character };
 }

@@ -191,7 +191,8 @@ export class ProgramLanguage {
     if (name === "") throw new ProtocolError(REQUEST_FAILED, say.NO_NAME_HERE);
     const renamingError = findRenamingError(lines, name, newName, this.isInstruction);
     if (renamingError !== "") throw new ProtocolError(REQUEST_FAILED, renamingError);
-    return findReferences(lines, name).map(({ line: at, from, to }) => ({ range: rangeInLine(at, from, to), newText: newName }));
+    return findReferences(lines, name).map((reference) => (
+      { range: rangeInLine(reference.line, reference.from, reference.to), newText: newName }));
   }
 
   /**

@@ -104,8 +104,8 @@ export class TestLanguage extends DependentLanguage {
    */
   symbols({ lines }) {
     const heads = findHeads(lines);
-    return heads.map(({ kind, name, line, from, to }, at) => {
-      const lastLine = (heads[at + 1] ? heads[at + 1].line : lines.length) - 1;
+    return heads.map(({ kind, name, line, from, to }, index) => {
+      const lastLine = (heads[index + 1] ? heads[index + 1].line : lines.length) - 1;
       const range = { start: { line, character: 0 }, end: { line: lastLine, character: lines[lastLine].length } };
       const symbolKind = kind === "test" ? METHOD_SYMBOL : FUNCTION_SYMBOL;
       return { name, kind: symbolKind, detail: kind, range, selectionRange: rangeInLine(line + 1, from, to) };

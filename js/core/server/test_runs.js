@@ -5,7 +5,7 @@ import { CancelledError } from "../bench/bench_errors.js";
 import { runTests } from "../testing/test_suite.js";
 import { locateError, decodeFileName } from "./dependent_language.js";
 import { REQUEST_CANCELLED, ProtocolError } from "./lsp_protocol.js";
-import { IT_WAS_CANCELLED } from "../../words/bench.js";
+import { CANCELLED } from "../../words/bench.js";
 import * as say from "../../words/server.js";
 
 /**
@@ -80,7 +80,7 @@ export class TestRuns {
     try {
       return await runTests(this.engine, texts, shouldContinue, { selectedTest });
     } catch (error) {
-      throw error instanceof CancelledError ? new ProtocolError(REQUEST_CANCELLED, IT_WAS_CANCELLED) : error;
+      throw error instanceof CancelledError ? new ProtocolError(REQUEST_CANCELLED, CANCELLED) : error;
     }
   }
 

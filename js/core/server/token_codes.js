@@ -36,12 +36,12 @@ export function colouredWords(lines, colours) {
  */
 export function encodeTokens(words) {
   const sortedWords = [...words].sort((one, other) => one.line - other.line || one.from - other.from);
-  let [line, from] = [0, 0];
+  let [previousLine, previousFrom] = [0, 0];
   return sortedWords.filter((word) => word.to > word.from).flatMap((word) => {
-    const columnDistance = word.line === line ? word.from - from : word.from;
+    const columnDistance = word.line === previousLine ? word.from - previousFrom : word.from;
     const modifiers = (word.isDeclaration ? 1 : 0) + (word.isReadonly ? 2 : 0);
-    const code = [word.line - line, columnDistance, word.to - word.from, TOKEN_TYPES.indexOf(word.type), modifiers];
-    [line, from] = [word.line, word.from];
+    const code = [word.line - previousLine, columnDistance, word.to - word.from, TOKEN_TYPES.indexOf(word.type), modifiers];
+    [previousLine, previousFrom] = [word.line, word.from];
     return code;
   });
 }

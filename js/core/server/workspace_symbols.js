@@ -19,10 +19,10 @@ const MAX_NAMES = 512;
 export function matchesQuery(name, query) {
   const lowerCase = name.toLowerCase();
   if (lowerCase.includes(" ")) return lowerCase.includes(query.toLowerCase());
-  let at = 0;
+  let index = 0;
   for (const letter of query.toLowerCase()) {
-    at = lowerCase.indexOf(letter, at) + 1;
-    if (at === 0) return false;
+    index = lowerCase.indexOf(letter, index) + 1;
+    if (index === 0) return false;
   }
   return true;
 }

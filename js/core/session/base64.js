@@ -9,9 +9,9 @@ const PIECE_BYTES = 8192;
  */
 export function toBase64(bytes) {
   let letters = "";
-  for (let at = 0; at < bytes.length; at += PIECE_BYTES) {
+  for (let index = 0; index < bytes.length; index += PIECE_BYTES) {
     // `Reflect.apply` is much faster than spread arguments.
-    letters += Reflect.apply(String.fromCharCode, null, bytes.subarray(at, at + PIECE_BYTES));
+    letters += Reflect.apply(String.fromCharCode, null, bytes.subarray(index, index + PIECE_BYTES));
   }
   return btoa(letters);
 }
@@ -24,6 +24,6 @@ export function fromBase64(text) {
   const letters = atob(text);
   const bytes = new Uint8Array(letters.length);
   // The loop is much faster than `Uint8Array.from` with a function.
-  for (let at = 0; at < letters.length; at++) bytes[at] = letters.charCodeAt(at);
+  for (let index = 0; index < letters.length; index++) bytes[index] = letters.charCodeAt(index);
   return bytes;
 }

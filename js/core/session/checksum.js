@@ -24,7 +24,7 @@ function addByte(sum, byte) {
  */
 export function checksum(bytes) {
   let sum = 0;
-  for (let at = 0; at < bytes.length; at++) sum = addByte(sum, bytes[at]);
+  for (let index = 0; index < bytes.length; index++) sum = addByte(sum, bytes[index]);
   for (let remaining = bytes.length; remaining > 0; remaining = Math.floor(remaining / 256)) sum = addByte(sum, remaining & 255);
   return ~sum >>> 0;
 }

@@ -64,12 +64,13 @@ class Drawing {
       for (const lamp of groupLamps(group)) this.drawnLamps.add(lamp);
       if (group.kind === "display") this.drawDisplay(group);
       else if (group.kind === "die") {
-        this.drawGrid(indices(7).map((at) => ({ lamp: group.first + at, column: PIPS[at][0], row: PIPS[at][1] })));
+        this.drawGrid(indices(7).map((index) => ({ lamp: group.first + index, column: PIPS[index][0], row: PIPS[index][1] })));
       } else {
         const { first, rows, columns } = group;
         // All rows of a multiplexed group use the colours of its columns.
-        const lampAt = (/** @type {number} */ at) => first + (isMultiplexed(group) ? at % columns : at);
-        this.drawGrid(indices(rows * columns).map((at) => ({ lamp: lampAt(at), column: at % columns, row: Math.floor(at / columns) })));
+        const lampAt = (/** @type {number} */ index) => first + (isMultiplexed(group) ? index % columns : index);
+        this.drawGrid(indices(rows * columns).map((index) => (
+          { lamp: lampAt(index), column: index % columns, row: Math.floor(index / columns) })));
       }
     }
   }
@@ -81,7 +82,7 @@ class Drawing {
   drawDisplay({ rows, first }) {
     const height = 24;
     const colour = (this.face.colours.get(first) || { text: "red" }).text;
-    const text = indices(rows).map((at) => String((at + 1) % 10)).join("");
+    const text = indices(rows).map((index) => String((index + 1) % 10)).join("");
     this.shapes.push({ kind: "display", x: GAP, y: this.bottom, width: PICTURE_WIDTH - 2 * GAP, height, digits: text, colour });
     this.bottom += height + GAP;
   }
@@ -107,7 +108,7 @@ class Drawing {
     const columns = 8;
     const otherLamps = indices(this.lampCount).filter((lamp) => !this.drawnLamps.has(lamp));
     const width = Math.min(columns, otherLamps.length);
-    this.drawGrid(otherLamps.map((lamp, at) => ({ lamp, column: at % width, row: Math.floor(at / columns) })));
+    this.drawGrid(otherLamps.map((lamp, index) => ({ lamp, column: index % width, row: Math.floor(index / columns) })));
   }
 
   /** Draws the keys that have a legend. */

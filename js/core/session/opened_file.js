@@ -101,10 +101,10 @@ function readTexts(name, text) {
  * @returns {FileContents}
  */
 function readTextFile(name, text) {
-  if (name === PROJECT_FILE) throw new UnusableFile(say.NAMES_FILES);
+  if (name === PROJECT_FILE) throw new UnusableFile(say.PROJECT_FILE_ALONE);
   const kinds = [HEX_FILES, BOARD_FILES, PROGRAM_FILES, TEST_FILES, PROPERTY_FILES, TEXT_FILES];
   if (!kinds.some((pattern) => pattern.test(name)) && !/^\s*(:|S)[0-9A-F]{9}/i.test(text)) {
-    throw createUnusableFileError(say.NOT_A_KIND);
+    throw createUnusableFileError(say.UNKNOWN_TEXT_KIND);
   }
   if (HEX_FILES.test(name) || /^\s*:[0-9A-F]{10}/i.test(text)) return { kind: "image", bytes: readHex(text) };
   if (/^\s*S[0-9][0-9A-F]{8}/.test(text)) return { kind: "image", bytes: readSRecords(text) };

@@ -82,11 +82,11 @@ function listUnendedLine(word, text) {
  */
 function formatSessionLines(file) {
   const lines = [];
-  for (let at = 0; at < file.length; at += BYTES_PER_LINE) {
-    const bytes = file.subarray(at, at + BYTES_PER_LINE);
+  for (let index = 0; index < file.length; index += BYTES_PER_LINE) {
+    const bytes = file.subarray(index, index + BYTES_PER_LINE);
     if (bytes.some((byte) => byte !== 0)) {
       const digits = Array.from(bytes, (byte) => byte.toString(16).padStart(2, "0")).join("");
-      lines.push(`${hex(at, 5).toLowerCase()} ${digits}`);
+      lines.push(`${hex(index, 5).toLowerCase()} ${digits}`);
     }
   }
   return [`session ${file.length}`, ...lines, DOT];
@@ -145,16 +145,16 @@ export class Lines {
   /** @param {string} text */
   constructor(text) {
     this.lines = text.split("\n");
-    this.at = 0;
+    this.index = 0;
   }
 
   get nextLine() {
-    return this.lines[this.at];
+    return this.lines[this.index];
   }
 
   takeLine() {
-    const line = this.lines[this.at];
-    this.at += 1;
+    const line = this.lines[this.index];
+    this.index += 1;
     return line;
   }
 
@@ -164,7 +164,7 @@ export class Lines {
    * @returns {InvalidProject}
    */
   createLineError(expected) {
-    return new InvalidProject(say.lineMustBe(this.at + 1, expected));
+    return new InvalidProject(say.lineMustBe(this.index + 1, expected));
   }
 
   /**
@@ -173,10 +173,10 @@ export class Lines {
    */
   readUpToDot(word) {
     if (this.nextLine !== word) throw this.createLineError(`\`${word}\``);
-    const end = this.lines.indexOf(DOT, this.at + 1);
+    const end = this.lines.indexOf(DOT, this.index + 1);
     if (end < 0) throw new InvalidProject(say.noEndMessage(word));
-    const lines = this.lines.slice(this.at + 1, end);
-    this.at = end + 1;
+    const lines = this.lines.slice(this.index + 1, end);
+    this.index = end + 1;
     return lines;
   }
 }
@@ -261,14 +261,14 @@ export function readTexts(lines, acceptsLongTexts = false) {
  * @param {number} size the size of every session file in bytes
  */
 function readFile(lines, size) {
-  const firstLineNumber = lines.at + 2;
+  const firstLineNumber = lines.index + 2;
   const file = new Uint8Array(size);
   let end = 0;
-  lines.readUpToDot(`session ${size}`).forEach((line, at) => {
+  lines.readUpToDot(`session ${size}`).forEach((line, index) => {
     const match = /^([0-9a-f]{5}) ([0-9a-f]{32})$/.exec(line);
     const address = match ? parseInt(match[1], 16) : 0;
     if (!match || address % BYTES_PER_LINE !== 0 || address < end || address >= size) {
-      throw new InvalidProject(say.notOfSessionMessage(firstLineNumber + at));
+      throw new InvalidProject(say.notOfSessionMessage(firstLineNumber + index));
     }
     file.set((match[2].match(/../g) || []).map((digits) => parseInt(digits, 16)), address);
     end = address + BYTES_PER_LINE;
@@ -295,7 +295,7 @@ export function readProject(bytes, size, acceptsLongTexts = false) {
   const file = readFile(lines, size);
   if (lines.nextLine !== LAST_LINE) throw lines.createLineError(say.END_OF_FILE);
   lines.takeLine();
-  if (lines.at !== lines.lines.length - 1) throw lines.createLineError(say.END_OF_FILE);
+  if (lines.index !== lines.lines.length - 1) throw lines.createLineError(say.END_OF_FILE);
   return { ...texts, file };
 }
 

@@ -71,9 +71,9 @@ function splitLines(text) {
  * @returns {SavedBreakpoint[]}
  */
 export function parseBreakpoints(text) {
-  const breakpoints = splitLines(text).map((line, at) => {
+  const breakpoints = splitLines(text).map((line, index) => {
     const breakpoint = parseBreakpoint(line);
-    if (!breakpoint) throw new InvalidProject(say.noBreakpointMessage(at + 1));
+    if (!breakpoint) throw new InvalidProject(say.noBreakpointMessage(index + 1));
     return breakpoint;
   });
   const { length } = breakpoints;

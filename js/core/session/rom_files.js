@@ -38,7 +38,7 @@ export class RomFiles {
    */
   async load(name, bytes) {
     const chips = await this.readChips();
-    const missingAddress = bytes.findIndex((byte, at) => byte !== NO_BYTE && !chips.includes(Math.floor(at / PAGE_BYTES)));
+    const missingAddress = bytes.findIndex((byte, index) => byte !== NO_BYTE && !chips.includes(Math.floor(index / PAGE_BYTES)));
     if (missingAddress >= 0) {
       const chip = Math.floor(missingAddress / PAGE_BYTES);
       throw new MissingRom(say.lacksRom(chip, hex(missingAddress, 3)));
@@ -56,7 +56,7 @@ export class RomFiles {
   async readBytes() {
     const chips = await this.readChips();
     const allBytes = parseRomBytes(await this.callbacks.ask(listQueries(PAGE_NUMBERS.filter((page) => chips.includes(page)))));
-    return allBytes.map((byte, at) => (chips.includes(Math.floor(at / PAGE_BYTES)) ? byte : NO_BYTE));
+    return allBytes.map((byte, index) => (chips.includes(Math.floor(index / PAGE_BYTES)) ? byte : NO_BYTE));
   }
 
   /** Resolves to the ROM contents in Intel HEX format; to "" if the board has no ROM. */

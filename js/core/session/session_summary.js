@@ -42,5 +42,5 @@ export function describeBoard({ roms, banks, chains, lamps, rows, columns }) {
   const ramCount = banks.reduce((sum, bank) => sum + bank.chips, 0);
   const shiftRegisterCount = chains.reduce((sum, chain) => sum + chain.chips, 0);
   const counts = [roms.length, ramCount, shiftRegisterCount, lamps.length, rows * columns];
-  return counts.map((count, at) => count > 0 && formatQuantity(count, say.PARTS[at])).filter(Boolean).join(", ") || say.NO_CHIP;
+  return counts.map((count, index) => count > 0 && formatQuantity(count, say.PARTS[index])).filter(Boolean).join(", ") || say.NO_CHIP;
 }

@@ -47,7 +47,7 @@ function formatRow(source, lineCoverage) {
  */
 export function coverageText(coverage, { text, linesBefore }) {
   const lineCoverage = new Map(coverage.lines.map((line) => [line.line, line]));
-  const rows = text.replace(/\n$/, "").split("\n").map((source, at) => formatRow(source, lineCoverage.get(at + 1)));
+  const rows = text.replace(/\n$/, "").split("\n").map((source, index) => formatRow(source, lineCoverage.get(index + 1)));
   const rangeTexts = coverage.unexecutedRanges.map(({ from, to }) => (
     from === to ? `${from + linesBefore}` : say.formatRange(from + linesBefore, to + linesBefore)));
   const oneDirectionTexts = coverage.lines.filter(isOneDirection).map(({ line, jumpCount }) => (

@@ -18,16 +18,17 @@ import * as say from "../../words/testing.js";
 const MAX_INSTRUCTIONS = 12;
 
 /**
- * Returns where the list starts: the index of the first listed action (`at`), and how many of its first cycles to skip (`from`).
+ * Returns where the list starts: the index of the first listed action (`firstAction`), and the number of its first
+ * cycles to skip (`skippedCycles`).
  * @param {TestAction[]} actions
  */
 function findListedPart(actions) {
   let cyclesLeft = LISTABLE_CYCLES;
-  let listedPart = { at: actions.length, from: 0 };
-  for (let at = actions.length - 1; at >= 0 && cyclesLeft > 0; at--) {
-    const { cycles } = actions[at];
-    listedPart = { at, from: Math.max(0, cycles - cyclesLeft) };
-    cyclesLeft -= cycles - listedPart.from;
+  let listedPart = { firstAction: actions.length, skippedCycles: 0 };
+  for (let index = actions.length - 1; index >= 0 && cyclesLeft > 0; index--) {
+    const { cycles } = actions[index];
+    listedPart = { firstAction: index, skippedCycles: Math.max(0, cycles - cyclesLeft) };
+    cyclesLeft -= cycles - listedPart.skippedCycles;
   }
   return listedPart;
 }
@@ -43,15 +44,16 @@ export function lastInstructions(session, { board, map }) {
   const { engine, storedState } = session;
   const { laterActions } = storedState;
   if (laterActions.length === 0) return [];
-  const { at: firstAction, from } = findListedPart(laterActions);
+  const { firstAction, skippedCycles } = findListedPart(laterActions);
   const file = storedState.file.slice();
   const formatActionLines = (/** @type {TestAction} */ { line, cycles }) => (line === "run" ? runLines(cycles) : `${line}\n`);
-  engine.serve(file, laterActions.slice(0, firstAction).map(formatActionLines).join("") + (from > 0 ? runLines(from) : ""), file);
-  let elapsed = storedState.elapsed + laterActions.slice(0, firstAction).reduce((sum, { cycles }) => sum + cycles, from);
+  const skippedRunLines = skippedCycles > 0 ? runLines(skippedCycles) : "";
+  engine.serve(file, laterActions.slice(0, firstAction).map(formatActionLines).join("") + skippedRunLines, file);
+  let elapsed = storedState.elapsed + laterActions.slice(0, firstAction).reduce((sum, { cycles }) => sum + cycles, skippedCycles);
   const trace = new TraceLines(engine, board, new InstructionTexts({ map, source: null }));
   const lines = trace.listSecondCycle(file, elapsed);
-  laterActions.slice(firstAction).forEach(({ line, cycles }, at) => {
-    const actionCycles = at === 0 ? cycles - from : cycles;
+  laterActions.slice(firstAction).forEach(({ line, cycles }, index) => {
+    const actionCycles = index === 0 ? cycles - skippedCycles : cycles;
     if (line === "run") lines.push(...trace.runLines(file, actionCycles, elapsed));
     else lines.push(`          ${line}`);
     engine.serve(file, line === "run" ? runLines(actionCycles) : `${line}\n`, file);

@@ -38,7 +38,7 @@ function* splitRuns(actions) {
 export function findLastPassed({ engine, initialFile, actions }, addresses) {
   const file = initialFile.slice();
   const stateBefore = initialFile.slice();
-  let [runCycles, elapsed, from] = [0, 0, 0];
+  let [runCycles, elapsed, elapsedBefore] = [0, 0, 0];
   for (const { line, cycles } of splitRuns(actions)) {
     if (cycles === 0) {
       engine.serve(file, `${line}\n`, file);
@@ -47,7 +47,7 @@ export function findLastPassed({ engine, initialFile, actions }, addresses) {
     const counts = new ForecastAnswers(engine.ask(file, `count ${cycles}\n`).answers).takeCounts();
     if (counts.some(({ address }) => addresses.has(address))) {
       stateBefore.set(file);
-      [runCycles, from] = [cycles, elapsed];
+      [runCycles, elapsedBefore] = [cycles, elapsed];
     }
     engine.serve(file, `run ${cycles}\n`, file);
     elapsed += cycles;
@@ -55,7 +55,7 @@ export function findLastPassed({ engine, initialFile, actions }, addresses) {
   if (runCycles === 0) return null;
   const { lines } = new ForecastAnswers(engine.ask(stateBefore, `trace ${runCycles}\n`).answers).takeTrace();
   const last = [...lines].reverse().map(parseTraceLine).find(({ address }) => addresses.has(address));
-  return last ? { address: last.address, cycles: from + last.cycles } : null;
+  return last ? { address: last.address, cycles: elapsedBefore + last.cycles } : null;
 }
 
 /**

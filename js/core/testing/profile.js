@@ -32,10 +32,10 @@ function sortLabels(map) {
 export function computeProfile({ cycleCounts, calls, keys, total, earlierInstructionCycles }, map) {
   const labels = [{ address: -1, label: "" }, ...sortLabels(map)];
   const rows = labels.map((label) => ({ ...label, ownCycles: 0, calls: calls.get(label.address) || null }));
-  let at = 0;
+  let rowIndex = 0;
   cycleCounts.forEach((cycles, address) => {
-    while (at + 1 < rows.length && rows[at + 1].address <= address) at += 1;
-    rows[at].ownCycles += cycles;
+    while (rowIndex + 1 < rows.length && rows[rowIndex + 1].address <= address) rowIndex += 1;
+    rows[rowIndex].ownCycles += cycles;
   });
   const shownRows = rows.filter((row) => row.ownCycles > 0).sort((one, other) => other.ownCycles - one.ownCycles);
   return { total, rows: shownRows, earlierInstructionCycles, keys: [...keys].map(([key, times]) => ({ key, ...times })) };

@@ -32,7 +32,7 @@ async function findConditions(engine, { file, names: { face, board }, codes }, p
   await session.run(cyclesFromMilliseconds(HOLD_MS));
   const [display] = convertLampAnswers(face, board, "", session.ask(hasScannedDisplay(face) ? LAMPS_FORECAST_QUERY : "lamps\n")).lines;
   const [marks] = session.ask("lamps\n");
-  const litLamp = [...face.lampNumbers].find(([, at]) => marks.slice("lamps ".length)[at] === "*");
+  const litLamp = [...face.lampNumbers].find(([, lamp]) => marks.slice("lamps ".length)[lamp] === "*");
   return [...(display ? [`display ${display}`] : []), ...(litLamp ? [`lamp ${litLamp[0]} on`] : []), ...say.OTHER_CONDITIONS];
 }
 

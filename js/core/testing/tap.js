@@ -57,7 +57,7 @@ export function testTap({ name, failure }, number, total) {
  * @param {Outcome[]} outcomes
  */
 export function testsTap(outcomes) {
-  return outcomes.map((outcome, at) => testTap(outcome, at + 1, outcomes.length)).join("");
+  return outcomes.map((outcome, index) => testTap(outcome, index + 1, outcomes.length)).join("");
 }
 
 /**

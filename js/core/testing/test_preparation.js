@@ -83,7 +83,7 @@ export function newSession(engine, { boardText, programText }) {
   ];
   if (texts.length === 0) return { file, errors: [] };
   const { answers } = engine.serve(file, texts.map(({ lines }) => lines).join(""), file);
-  return { file, errors: texts.flatMap(({ name }, at) => toRefusalErrors(name, answers[at])).slice(0, 1) };
+  return { file, errors: texts.flatMap(({ name }, index) => toRefusalErrors(name, answers[index])).slice(0, 1) };
 }
 
 /**

@@ -228,12 +228,12 @@ export class TestRun {
    */
   chooseKey(session, { word, place, probe, keys }) {
     const value = parseInt(rowValues(new ForecastAnswers(session.ask(`trace 1 ${probe}\n`)).takeTrace().row)[0], 16);
-    const valueText = say.placeHasValue(place, value);
-    if (keys.length > 0) return { key: keys[value], message: say.valueHasKeys(valueText, word, formatQuantity(keys.length, "key")) };
+    const valueText = say.valuePrefix(place, value);
+    if (keys.length > 0) return { key: keys[value], message: say.tooFewKeysMessage(valueText, word, formatQuantity(keys.length, "key")) };
     const boardKeys = listNamedKeys(this.prepared.names.face);
     const digit = hex(value, 1);
     const key = boardKeys.get(String(value)) || boardKeys.get(digit);
-    return { key, message: say.valueHasNoKey(valueText, value, value > 9 ? say.orDigitKey(digit) : "") };
+    return { key, message: say.noKeyForValueMessage(valueText, value, value > 9 ? say.orDigitKey(digit) : "") };
   }
 
   /**
@@ -310,14 +310,14 @@ export class TestRun {
     let stop = "end";
     // A trace reports neither TEST nor `owed`. TEST does not change during a run, and the first cycle ends a pending instruction, so a
     // condition without traced places is checked after one cycle.
-    let piece = condition.places.length > 0 ? 1000 : 1;
+    let pieceCycles = condition.places.length > 0 ? 1000 : 1;
     const extraValues = { ...session.readCondition(condition).extraValues, owed: "0" };
-    for (; session.elapsed < end && stop === "end"; piece = piece < 10000 ? piece * 10 : MAX_RUN_CYCLES) {
+    for (; session.elapsed < end && stop === "end"; pieceCycles = pieceCycles < 10000 ? pieceCycles * 10 : MAX_RUN_CYCLES) {
       const maxCycles = end - session.elapsed;
-      piece = Math.min(piece, maxCycles);
-      const cycles = condition.places.length > 0 ? this.countCyclesToChange(session, condition, extraValues, piece, maxCycles) : 0;
-      stop = await session.run(cycles || piece);
-      if (cycles > 0 || (piece === 1 && session.checkAtInstructionEnd(condition).holds)) break;
+      pieceCycles = Math.min(pieceCycles, maxCycles);
+      const cycles = condition.places.length > 0 ? this.countCyclesToChange(session, condition, extraValues, pieceCycles, maxCycles) : 0;
+      stop = await session.run(cycles || pieceCycles);
+      if (cycles > 0 || (pieceCycles === 1 && session.checkAtInstructionEnd(condition).holds)) break;
     }
     return stop;
   }

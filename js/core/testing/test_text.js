@@ -146,17 +146,17 @@ class TestReader {
     const plainText = source.text.replace(/^\uFEFF/, "").replace(/\r(?=\n|$)/g, "");
     const originalLines = plainText.split("\n");
     const lines = originalLines.map((line) => line.replace(/^[ \t]+|[ \t]+$/g, ""));
-    for (let at = 0; at < lines.length; at++) {
-      const line = this.removeComment(lines[at]);
+    for (let index = 0; index < lines.length; index++) {
+      const line = this.removeComment(lines[index]);
       if (line === "") continue;
       try {
-        this.readLine(line, at + 1);
+        this.readLine(line, index + 1);
       } catch (error) {
         if (!(error instanceof InvalidLineError)) throw error;
-        const column = error.column < 0 ? -1 : error.column + originalLines[at].length - originalLines[at].trimStart().length;
-        this.addError(at + 1, error.message, Math.min(column, originalLines[at].trimEnd().length - 1));
+        const column = error.column < 0 ? -1 : error.column + originalLines[index].length - originalLines[index].trimStart().length;
+        this.addError(index + 1, error.message, Math.min(column, originalLines[index].trimEnd().length - 1));
         // If a text does not start like a test text, one error is sufficient.
-        if (!this.hasBegun && /^[\t -~]*$/.test(lines[at])) return;
+        if (!this.hasBegun && /^[\t -~]*$/.test(lines[index])) return;
       }
     }
     this.closeRepeats();
@@ -240,13 +240,15 @@ class TestReader {
    */
   beginShared(words, line) {
     const name = words.length === 2 ? words[1] : "";
-    const previous = this.sharedSteps.get(name);
+    const previousSteps = this.sharedSteps.get(name);
     this.steps = [];
     const { source } = this;
     this.currentShared = { source, name, line, steps: this.steps, lineCount: 0 };
     this.sharedSteps.set(name, this.currentShared);
     if (name === "") fail(say.STEPS_NAME_MISSING);
-    if (previous) fail(say.stepsDefinedTwice(name, previous.line, previous.source.name === source.name ? "" : previous.source.name));
+    if (previousSteps) {
+      fail(say.stepsDefinedTwice(name, previousSteps.line, previousSteps.source.name === source.name ? "" : previousSteps.source.name));
+    }
   }
 
   // --- repetitions ---
@@ -351,22 +353,22 @@ class TestReader {
    * @returns {Action}
    */
   readState(kind, words) {
-    const [state] = words;
+    const [stateName] = words;
     if (words.length !== 1) fail(say.stateSyntax(kind));
     if (kind === "save" && this.openRepeats.length > 0) fail(say.SAVED_ONCE);
     if (this.currentShared) fail(say.noStatesMessage(kind));
-    const savingTest = this.savingTests.get(state);
+    const savingTest = this.savingTests.get(stateName);
     if (kind === "save") {
-      if (savingTest) fail(say.savedBefore(state, savingTest.name));
-      this.savingTests.set(state, this.test);
-      return { kind, state };
+      if (savingTest) fail(say.savedBefore(stateName, savingTest.name));
+      this.savingTests.set(stateName, this.test);
+      return { kind, state: stateName };
     }
     if (this.test.steps.length > 1 || this.openRepeats.length > 0) fail(say.FROM_POSITION);
     const knownStates = this.savingTests.size > 0 ? say.knownStates([...this.savingTests.keys()].join(" ")) : "";
-    if (!savingTest) fail(say.noSuchStateMessage(state, knownStates));
+    if (!savingTest) fail(say.noSuchStateMessage(stateName, knownStates));
     if (savingTest === this.test) fail(say.OWN_STATE);
-    this.test.from = state;
-    return { kind, state };
+    this.test.from = stateName;
+    return { kind, state: stateName };
   }
 
   /**

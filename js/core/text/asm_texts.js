@@ -66,12 +66,13 @@ const RESERVED_LENGTH = PAGE_NUMBERS.length * formatStatements(0, [255], 1).leng
  */
 function formatRomStatements(bytes, pages) {
   const findLastByte = (/** @type {number} */ page) => {
-    let at = (page + 1) * PAGE_BYTES - 1;
-    while (at >= page * PAGE_BYTES && bytes[at] < 0) at -= 1;
-    return at;
+    let address = (page + 1) * PAGE_BYTES - 1;
+    while (address >= page * PAGE_BYTES && bytes[address] < 0) address -= 1;
+    return address;
   };
-  const uncoveredPages = PAGE_NUMBERS.filter((page) => !pages.has(page)).map((page) => ({ page, at: findLastByte(page) }));
-  return uncoveredPages.filter(({ page, at }) => at >= page * PAGE_BYTES).map(({ at }) => formatStatements(at, [bytes[at]], 1)).join("");
+  const uncoveredPages = PAGE_NUMBERS.filter((page) => !pages.has(page)).map((page) => ({ page, address: findLastByte(page) }));
+  return uncoveredPages.filter(({ page, address }) => address >= page * PAGE_BYTES)
+    .map(({ address }) => formatStatements(address, [bytes[address]], 1)).join("");
 }
 
 /**
@@ -81,12 +82,12 @@ function formatRomStatements(bytes, pages) {
  * @returns {string[]}
  */
 export function createByteTexts(bytes) {
-  const lines = groupIntoRanges([...bytes.keys()].filter((at) => bytes[at] >= 0)).flatMap(({ from, count }) => {
-    const lineStarts = indices(Math.ceil(count / MAX_BYTES_IN_LINE)).map((at) => from + at * MAX_BYTES_IN_LINE);
-    return lineStarts.map((at) => ({ at, end: Math.min(at + MAX_BYTES_IN_LINE, from + count) }));
-  }).map(({ at, end }) => {
-    const text = formatStatements(at, [...bytes.subarray(at, end)], MAX_BYTES_IN_LINE);
-    return { text, pages: [at, end - 1].map(romNumber) };
+  const lines = groupIntoRanges([...bytes.keys()].filter((address) => bytes[address] >= 0)).flatMap(({ from, count }) => {
+    const lineStarts = indices(Math.ceil(count / MAX_BYTES_IN_LINE)).map((index) => from + index * MAX_BYTES_IN_LINE);
+    return lineStarts.map((start) => ({ start, end: Math.min(start + MAX_BYTES_IN_LINE, from + count) }));
+  }).map(({ start, end }) => {
+    const text = formatStatements(start, [...bytes.subarray(start, end)], MAX_BYTES_IN_LINE);
+    return { text, pages: [start, end - 1].map(romNumber) };
   });
   const wholeText = lines.map(({ text }) => text).join("");
   if (wholeText.length <= MAX_SENT_LENGTH) return [wholeText];

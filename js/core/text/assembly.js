@@ -48,11 +48,11 @@ function trimWord(line, from, to) {
 function splitOperands(line, from, to) {
   if (line.slice(from, to).trim() === "") return [];
   const words = [];
-  for (let at = from; at <= to;) {
-    const comma = line.indexOf(",", at);
+  for (let index = from; index <= to;) {
+    const comma = line.indexOf(",", index);
     const end = comma < 0 || comma > to ? to : comma;
-    words.push(trimWord(line, at, end) || { text: "", from: end, to: end });
-    at = end + 1;
+    words.push(trimWord(line, index, end) || { text: "", from: end, to: end });
+    index = end + 1;
   }
   return words;
 }
@@ -139,9 +139,9 @@ export function tokenizeLine(line, isInstruction) {
  */
 export function findDefinedNames(lines) {
   const names = new Map();
-  lines.forEach((line, at) => {
+  lines.forEach((line, index) => {
     const { label } = splitStatement(line);
-    if (label && NAME.test(label.text) && !names.has(label.text)) names.set(label.text, at + 1);
+    if (label && NAME.test(label.text) && !names.has(label.text)) names.set(label.text, index + 1);
   });
   return names;
 }

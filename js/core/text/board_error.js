@@ -145,7 +145,8 @@ class BoardErrorText {
     const inner = value ? value.inner : null;
     const isLine = LINE_KEYS.includes(key) && typeof inner !== "object" && (key !== "columns" || value !== this.findWrongPart().key?.value);
     if (isLine) return say.noLineNameMessage(String(inner));
-    if (typeof inner === "string" && `${section}.${key}` in VALUE_RANGES && /^\d+$/.test(inner)) return say.withoutQuotes(key, inner);
+    const isQuotedNumber = typeof inner === "string" && /^\d+$/.test(inner);
+    if (isQuotedNumber && `${section}.${key}` in VALUE_RANGES) return say.needsNoQuotesMessage(key, inner);
     if (key) return values ? say.keyMustBe(key, values) : this.messageFor(BAD_VALUE);
     if (section !== "keys" && index === 0) return say.tableArraySyntax(section);
     return section === "keys" ? say.ONE_MATRIX : say.mustBeTableMessage(section);
@@ -177,7 +178,7 @@ class BoardErrorText {
       return key ? Number(key.value.inner) : 0;
     });
     const { chips = 0 } = this.parts.chains[chain] || {};
-    return say.rowsNeed(first, first + rows - 1, chain, BITS_PER_CHIP * chips - 1);
+    return say.rowsNeedBits(first, first + rows - 1, chain, BITS_PER_CHIP * chips - 1);
   }
 
   /**

@@ -54,7 +54,7 @@ export class BoardReader {
   constructor(text) {
     this.words = tomlWords(text.split("\n"));
     /** The index of the next word to read. */
-    this.at = 0;
+    this.index = 0;
     /** @type {Entry[]} */
     this.entries = [];
     /** @type {Key[]} */
@@ -71,12 +71,12 @@ export class BoardReader {
 
   /** The next word to read. */
   get word() {
-    return this.words[this.at];
+    return this.words[this.index];
   }
 
   /** @returns {End} the end of the last word that was read */
   get lastEnd() {
-    const { line, to } = this.words[this.at - 1];
+    const { line, to } = this.words[this.index - 1];
     return { line, to };
   }
 
@@ -95,20 +95,20 @@ export class BoardReader {
    */
   expectMark(mark, message) {
     if (!this.isMark(mark)) throw new TomlSyntaxError(this.word, this.word.error || message);
-    this.at += 1;
+    this.index += 1;
   }
 
   /** Reads the complete text. After an error, continues on the next line. */
   read() {
-    while (this.at < this.words.length) {
-      const startIndex = this.at;
+    while (this.index < this.words.length) {
+      const startIndex = this.index;
       try {
         this.readStatement();
       } catch (error) {
         if (!(error instanceof TomlSyntaxError)) throw error;
         const { line, from, to } = error.word;
         this.errors.push({ number: NOT_TOML, line, from, to, words: error.message });
-        this.at = this.findNextLineStart(line, startIndex);
+        this.index = this.findNextLineStart(line, startIndex);
       }
     }
   }
@@ -119,14 +119,14 @@ export class BoardReader {
    * @param {number} startIndex the index of the first word in the statement with the error
    */
   findNextLineStart(line, startIndex) {
-    let at = startIndex;
-    while (at < this.words.length && !(this.words[at].kind === "end" && this.words[at].line >= line)) at += 1;
-    return at + 1;
+    let index = startIndex;
+    while (index < this.words.length && !(this.words[index].kind === "end" && this.words[index].line >= line)) index += 1;
+    return index + 1;
   }
 
   /** Reads an empty line, a table header, or a key with its value. */
   readStatement() {
-    if (this.word.kind === "end") this.at += 1;
+    if (this.word.kind === "end") this.index += 1;
     else if (this.isMark("[")) this.readHeader();
     else this.readPair();
   }
@@ -134,11 +134,11 @@ export class BoardReader {
   /** Reads a table header such as `[keys]` or `[[rom]]`. */
   readHeader() {
     const { line, from } = this.word;
-    const isArray = this.words[this.at + 1].text === "[" && this.words[this.at + 1].kind === "punctuation";
-    this.at += isArray ? 2 : 1;
+    const isArray = this.words[this.index + 1].text === "[" && this.words[this.index + 1].kind === "punctuation";
+    this.index += isArray ? 2 : 1;
     const name = this.word;
     if (name.kind !== "bare" && name.kind !== "string") throw new TomlSyntaxError(name, say.TABLE_SYNTAX);
-    this.at += 1;
+    this.index += 1;
     this.expectMark("]", say.bracketMissing(isArray ? `[[${name.text}]]` : `[${name.text}]`));
     if (isArray) this.expectMark("]", say.bracketMissing(`[[${name.text}]]`));
     this.currentTable = { table: isArray ? name.text : `[${name.text}]`, line, from, to: name.to + (isArray ? 2 : 1), keys: [] };
@@ -149,7 +149,7 @@ export class BoardReader {
   /** Reads the end of a line. Throws if another word is left on the line. */
   expectLineEnd() {
     if (this.word.kind !== "end") throw new TomlSyntaxError(this.word, this.word.error || say.LINE_ENDS);
-    this.at += 1;
+    this.index += 1;
   }
 
   /** Reads a key and its value, and adds them to the current table. */
@@ -185,7 +185,7 @@ export class BoardReader {
   readKey() {
     const name = this.word;
     if (name.kind !== "bare" && name.kind !== "string") throw new TomlSyntaxError(name, name.error || say.KEY_SYNTAX);
-    this.at += 1;
+    this.index += 1;
     this.expectMark("=", say.equalsMissing(name.text));
     return { name: name.text, line: name.line, from: name.from, to: name.to, value: this.readValue(name.text) };
   }
@@ -203,7 +203,7 @@ export class BoardReader {
     if (kind === "end") throw new TomlSyntaxError(this.word, say.valueMissing(key));
     if (kind === "punctuation" || kind === "bad") throw new TomlSyntaxError(this.word, error || say.noValueMessage(text));
     const inner = this.parseScalar(kind, text);
-    this.at += 1;
+    this.index += 1;
     return { inner, ...range, end: { line, to } };
   }
 
@@ -234,13 +234,13 @@ export class BoardReader {
     if (INTEGER.test(text)) return Number(text.replace(/_/g, ""));
     if (text === "true" || text === "false") return text === "true";
     if (/^[+-]?\d+(\.\d+)?([eE][+-]?\d+)?$/.test(text) && !/^[+-]?0\d/.test(text)) return Number(text);
-    if (/^0\d+$/.test(text)) throw new TomlSyntaxError(this.word, say.hasLeadingZeroMessage(text));
+    if (/^0\d+$/.test(text)) throw new TomlSyntaxError(this.word, say.leadingZeroMessage(text));
     throw new TomlSyntaxError(this.word, say.needsQuotesMessage(text));
   }
 
   /** Skips line ends, so that the current word is on the next line with words. */
   skipLineEnds() {
-    while (this.at < this.words.length - 1 && this.word.kind === "end") this.at += 1;
+    while (this.index < this.words.length - 1 && this.word.kind === "end") this.index += 1;
   }
 
   /**
@@ -250,31 +250,31 @@ export class BoardReader {
    */
   readArray(key) {
     const openingBracket = this.word;
-    this.at += 1;
+    this.index += 1;
     const values = [];
     for (this.skipLineEnds(); !this.isMark("]"); this.skipLineEnds()) {
       if (this.word.kind === "end") throw new TomlSyntaxError(openingBracket, say.NO_BRACKET);
       values.push(this.readValue(key));
       this.skipLineEnds();
-      if (this.isMark(",")) this.at += 1;
+      if (this.isMark(",")) this.index += 1;
       else if (!this.isMark("]")) throw new TomlSyntaxError(this.word, this.word.error || say.VALUE_COMMA_MISSING);
     }
-    this.at += 1;
+    this.index += 1;
     return values;
   }
 
   /** @returns {Entry} the inline table at the current position */
   readTable() {
     const { line, from, to } = this.word;
-    this.at += 1;
+    this.index += 1;
     const keys = [];
     while (!this.isMark("}")) {
       if (this.word.kind === "end") throw new TomlSyntaxError(this.word, say.NO_BRACE);
       keys.push(this.readKey());
-      if (this.isMark(",")) this.at += 1;
+      if (this.isMark(",")) this.index += 1;
       else if (!this.isMark("}")) throw new TomlSyntaxError(this.word, this.word.error || say.KEY_COMMA_MISSING);
     }
-    this.at += 1;
+    this.index += 1;
     return { table: "", line, from, to, keys, end: this.lastEnd };
   }
 }

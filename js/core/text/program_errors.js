@@ -67,7 +67,7 @@ export async function findProgramErrors(program, instructions, messageFor, queri
   if (isTooLong) return { errors: sendingErrors, isComplete: false, generalRefusal: null };
   const lines = toAsciiComments(program, ";").split("\n");
   const unsentLines = new Set(sendingErrors.map(({ line }) => line));
-  const sentProgram = lines.map((line, at) => (unsentLines.has(at + 1) ? "" : sentLine(line, ";"))).join("\n");
+  const sentProgram = lines.map((line, index) => (unsentLines.has(index + 1) ? "" : sentLine(line, ";"))).join("\n");
   const rejectedLines = await queries.findLineErrors(sentProgram);
   /** @type {KnownWords} */
   const knownWords = { instructions, names: findDefinedNames(lines) };
@@ -87,8 +87,8 @@ export async function findProgramErrors(program, instructions, messageFor, queri
 export function findMissingRoms(lines, map, roms) {
   /** @type {Map<number, TextError>} */
   const errors = new Map();
-  lines.forEach((text, at) => {
-    const line = at + 1;
+  lines.forEach((text, index) => {
+    const line = index + 1;
     const address = map.addressOf(line);
     if (address === undefined) return;
     const chip = [Math.floor(address / 256), Math.floor((address + map.sizes[line] - 1) / 256)].find((romNumber) => !roms.has(romNumber));
@@ -110,6 +110,6 @@ export function isProbablyNotProgram(program, { errors, isComplete }) {
   const last = isComplete ? Infinity : Math.max(0, ...wrongLines);
   /** @type {(text: string) => boolean} */
   const isCode = (text) => text.slice(0, splitStatement(text).comment).trim() !== "";
-  const code = program.split("\n").flatMap((text, at) => (at < last && isCode(text) ? [at + 1] : []));
+  const code = program.split("\n").flatMap((text, index) => (index < last && isCode(text) ? [index + 1] : []));
   return code.length > 0 && code.every((line) => wrongLines.has(line));
 }

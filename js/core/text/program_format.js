@@ -39,9 +39,9 @@ const CODE = /^(?:([A-Za-z_]\w*)[ \t]*:[ \t]*)?(?:([A-Za-z]\w*)(?:[ \t]+(\w+(?:[
  * @param {Layout} layout
  */
 function findColumnAfter(text, column, { tabSize }) {
-  let at = column;
-  for (const letter of text) at = letter === "\t" ? (Math.floor(at / tabSize) + 1) * tabSize : at + 1;
-  return at;
+  let endColumn = column;
+  for (const letter of text) endColumn = letter === "\t" ? (Math.floor(endColumn / tabSize) + 1) * tabSize : endColumn + 1;
+  return endColumn;
 }
 
 /**
@@ -85,8 +85,10 @@ function splitLine(line, canStartStatement, layout) {
  */
 function findNameWidths(lines) {
   const widths = lines.map((line) => (line ? line.name.length : 0));
-  for (let at = 1; at < widths.length; at++) if (widths[at] > 0) widths[at] = Math.max(widths[at], widths[at - 1]);
-  for (let at = widths.length - 2; at >= 0; at--) if (widths[at] > 0) widths[at] = Math.max(widths[at], widths[at + 1]);
+  for (let index = 1; index < widths.length; index++) if (widths[index] > 0) widths[index] = Math.max(widths[index], widths[index - 1]);
+  for (let index = widths.length - 2; index >= 0; index--) {
+    if (widths[index] > 0) widths[index] = Math.max(widths[index], widths[index + 1]);
+  }
   return widths;
 }
 
@@ -131,13 +133,13 @@ export function formatProgramLines(lines, canStartStatement, layout) {
   const parts = lines.map((line) => splitLine(line, canStartStatement, layout));
   const widths = findNameWidths(parts);
   let lastCommentColumn = 0;
-  return parts.map((line, at) => {
-    const code = line ? formatCode(line, widths[at], layout) : "";
+  return parts.map((line, index) => {
+    const code = line ? formatCode(line, widths[index], layout) : "";
     const end = findColumnAfter(code, 0, layout);
     const column = line && line.comment ? chooseCommentColumn(end, line.indent, lastCommentColumn) : 0;
     lastCommentColumn = column >= COMMENT_COLUMN ? column : 0;
     // A line stays unchanged if its formatted code is too long to send.
-    if (!line || code.length > MAX_LINE_LENGTH) return lines[at];
+    if (!line || code.length > MAX_LINE_LENGTH) return lines[index];
     return line.comment ? code + formatGap(end, column, layout) + line.comment : code;
   });
 }

@@ -56,7 +56,7 @@ function convertForeignNumber(text) {
   if (hexMatch) return { number, explanation: say.hexadecimalHint(number) };
   if (binaryMatch) return { number, explanation: say.binaryHint(number) };
   if (letter) return { number, explanation: say.characterCodeHint(letter[2], number) };
-  return { number, explanation: say.withoutNumberSign(number) };
+  return { number, explanation: say.numberSignHint(number) };
 }
 
 /**
@@ -231,8 +231,8 @@ function findFormError(parts, knownWords) {
   if (!instruction) return findHeadError(parts, head, knownWords);
   const kinds = parseOperandKinds(instruction.form);
   if (kinds.length === 0) return { word: operands[0] || head, message: say.takesNothing(upperCaseWord) };
-  for (let at = 0; at < Math.min(kinds.length, operands.length); at++) {
-    const error = findOperandError(upperCaseWord, kinds[at], operands[at], knownWords, at === 0);
+  for (let index = 0; index < Math.min(kinds.length, operands.length); index++) {
+    const error = findOperandError(upperCaseWord, kinds[index], operands[index], knownWords, index === 0);
     if (error) return error;
   }
   const extraOperand = operands[kinds.length];
@@ -252,7 +252,8 @@ function findValueError({ head, operands, defines, label }, { instructions }) {
   const upperCaseWord = head.text.toUpperCase();
   const instruction = instructions.get(upperCaseWord);
   const kinds = instruction ? parseOperandKinds(instruction.form) : operands.map(() => (upperCaseWord === "ORG" ? "t" : "b"));
-  const values = operands.map((word, at) => ({ word, kind: OPERAND_KINDS[kinds[at] || "b"] })).filter(({ kind }) => kind.maxValue > 0);
+  const values = operands.map((word, index) => ({ word, kind: OPERAND_KINDS[kinds[index] || "b"] }))
+    .filter(({ kind }) => kind.maxValue > 0);
   const tooLargeOperand = values.find(({ word, kind }) => NUMBER.test(word.text) && Number(word.text) > kind.maxValue);
   const namedOperand = values.find(({ word }) => NAME.test(word.text));
   const wrongOperand = tooLargeOperand || namedOperand;

@@ -29,7 +29,7 @@ function findReferencesInLine(text, line, name) {
  * @returns {Reference[]}
  */
 export function findReferences(lines, name) {
-  return lines.flatMap((text, at) => findReferencesInLine(text, at + 1, name));
+  return lines.flatMap((text, index) => findReferencesInLine(text, index + 1, name));
 }
 
 /**

@@ -62,7 +62,7 @@ export class Routines {
    * @param {number} line
    */
   findStatement(line) {
-    for (let at = line; at < this.statements.length; at++) if (this.statements[at]) return at;
+    for (let laterLine = line; laterLine < this.statements.length; laterLine++) if (this.statements[laterLine]) return laterLine;
     return -1;
   }
 
@@ -103,7 +103,7 @@ export class Routines {
   findLastLine(firstLine) {
     const reachedLines = this.findReachedLines(firstLine);
     let last = firstLine;
-    for (let at = this.findStatement(firstLine); at >= 0 && reachedLines.has(at); at = this.findStatement(at + 1)) last = at;
+    for (let line = this.findStatement(firstLine); line >= 0 && reachedLines.has(line); line = this.findStatement(line + 1)) last = line;
     return last;
   }
 
@@ -173,7 +173,7 @@ export class Routines {
   findRoutinesContaining(line) {
     const reachingRoutines = this.routines.filter((candidate) => this.findReachedLines(candidate.line).has(line));
     if (reachingRoutines.length > 0) return reachingRoutines;
-    const nearestLabel = [...this.names].filter(([, at]) => at - 1 <= line && !this.parts[at - 1].defines).pop();
+    const nearestLabel = [...this.names].filter(([, labelLine]) => labelLine - 1 <= line && !this.parts[labelLine - 1].defines).pop();
     const routine = nearestLabel ? this.getByName(nearestLabel[0]) : null;
     return routine ? [routine] : [];
   }

@@ -186,7 +186,7 @@ export function findSendingErrors(text, mark) {
   const sentLines = textToSend.split("\n");
   if (textToSend.length <= MAX_SENT_LENGTH && passesFastCheck(text, sentLines)) return [];
   const lines = toAsciiComments(text, mark).split("\n");
-  const errors = lines.map((line, at) => findSendingErrorInLine(line, sentLines[at], at + 1)).filter((error) => error !== null);
+  const errors = lines.map((line, index) => findSendingErrorInLine(line, sentLines[index], index + 1)).filter((error) => error !== null);
   if (textToSend.length > MAX_SENT_LENGTH) {
     const last = textToSend.slice(0, MAX_SENT_LENGTH).split("\n").length;
     const message = say.textTooLong(MAX_SENT_LENGTH.toLocaleString("en"), textToSend.length.toLocaleString("en"));

@@ -97,7 +97,7 @@ const CONJUNCTIONS = new Set(["and", "or", "&&", "||"]);
  * @returns {CompletionItem[]}
  */
 export function listNextConditionWords(previousWords, { keys, lamps, labels }, conditions, nextKeywords) {
-  const start = previousWords.reduce((last, word, at) => (CONJUNCTIONS.has(word) ? at + 1 : last), 0);
+  const start = previousWords.reduce((last, word, index) => (CONJUNCTIONS.has(word) ? index + 1 : last), 0);
   const words = previousWords.slice(start).map((word) => word.replace(/^[(!]+/, "")).filter((word) => word !== "not" && word !== "");
   const conjunctions = ["and", "or", ...nextKeywords];
   if (words.length === 0) return [...listFirstWords(conditions), ...toCompletions(labels.map((label) => `@${label}`))];

@@ -98,8 +98,9 @@ export function boardTables(manual) {
  * @param {number} line the line number from 0
  */
 export function tableAt(lines, line) {
-  for (let at = line; at >= 0; at--) {
-    const header = /^\s*\[+\s*([\w-]+)\s*\]+/.exec(lines[at]) || /^\s*(?!columns\b)([\w-]+)\s*=\s*(\[\s*$|\[?\s*\{)/.exec(lines[at]);
+  for (let lineIndex = line; lineIndex >= 0; lineIndex--) {
+    const text = lines[lineIndex];
+    const header = /^\s*\[+\s*([\w-]+)\s*\]+/.exec(text) || /^\s*(?!columns\b)([\w-]+)\s*=\s*(\[\s*$|\[?\s*\{)/.exec(text);
     if (header) return header[1];
   }
   return "";

@@ -30,7 +30,7 @@ function parseWord(text, line, from) {
   }
   if (/^["']/.test(remainingText)) {
     const to = text.length;
-    return { kind: "bad", text: remainingText, line, from, to, error: say.closingMissing(remainingText[0]) };
+    return { kind: "bad", text: remainingText, line, from, to, error: say.closingQuoteMissingMessage(remainingText[0]) };
   }
   const bareWord = BARE_WORD.exec(remainingText);
   if (bareWord) return { kind: "bare", text: bareWord[0], line, from, to: from + bareWord[0].length, error: "" };
@@ -48,7 +48,7 @@ function parseWord(text, line, from) {
 export function tomlWords(lines) {
   /** @type {TomlWord[]} */
   const words = [];
-  lines.forEach((rawLine, at) => {
+  lines.forEach((rawLine, index) => {
     const text = rawLine.replace(/\r$/, "");
     for (let from = 0; from < text.length;) {
       const gap = BLANK.exec(text.slice(from)) || COMMENT.exec(text.slice(from));
@@ -56,11 +56,11 @@ export function tomlWords(lines) {
         from += gap[0].length;
         continue;
       }
-      const word = parseWord(text, at + 1, from);
+      const word = parseWord(text, index + 1, from);
       words.push(word);
       from = word.to;
     }
-    words.push({ kind: "end", text: "", line: at + 1, from: text.length, to: text.length, error: "" });
+    words.push({ kind: "end", text: "", line: index + 1, from: text.length, to: text.length, error: "" });
   });
   return words;
 }

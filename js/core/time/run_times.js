@@ -41,11 +41,11 @@ export function runTimes(answers, firstAnswer, lastAnswer, describePlace) {
   /** @type {{ time: string, stop: string, place: string }[]} */
   const runs = [];
   let lacksPlace = false;
-  for (let at = 1; at <= answers.length; at++) {
-    const answer = answers[at - 1];
+  for (let answerNumber = 1; answerNumber <= answers.length; answerNumber++) {
+    const answer = answers[answerNumber - 1];
     if (answer.startsWith("ok ")) lacksPlace = false;
-    if (at >= firstAnswer && (at <= lastAnswer || lastAnswer === 0)) {
-      if (REFUSAL.test(answer)) return createErrorResult(say.isRefusalMessage(at, answer));
+    if (answerNumber >= firstAnswer && (answerNumber <= lastAnswer || lastAnswer === 0)) {
+      if (REFUSAL.test(answer)) return createErrorResult(say.answerIsRefusalMessage(answerNumber, answer));
       const run = readRun(answer);
       if (run) {
         cycles += run.cycles;

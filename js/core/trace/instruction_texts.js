@@ -90,10 +90,10 @@ export class InstructionTexts {
     // An instruction at the last address can have its second byte at address 0.
     const listedAddresses = unreadAddresses.includes(LAST_ADDRESS) ? [...unreadAddresses, 0] : unreadAddresses;
     const { answers } = engine.ask(state, joinLines(listedAddresses.map((address) => `list 0x${hex(address, 3)} 1`)));
-    listedAddresses.forEach((address, at) => {
-      this.codes[address] = parseInt(answers[at].slice(...CODE_COLUMNS), 16);
+    listedAddresses.forEach((address, index) => {
+      this.codes[address] = parseInt(answers[index].slice(...CODE_COLUMNS), 16);
     });
-    unreadAddresses.forEach((address, at) => this.texts.set(address, this.formatInstruction(address, answers[at])));
+    unreadAddresses.forEach((address, index) => this.texts.set(address, this.formatInstruction(address, answers[index])));
   }
 
   /**

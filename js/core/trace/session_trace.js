@@ -95,15 +95,15 @@ export class SessionTrace {
   async* traceRange(state, { from, to, end }, names) {
     const { engine, board } = this;
     const trace = new TraceLines(engine, board, new InstructionTexts(names));
-    let stop = { at: from, end };
+    let stop = { elapsed: from, end };
     yield trace.listSecondCycle(state, from);
-    for (let piece = FIRST_PIECE_CYCLES; stop.at < to && stop.end === end; piece = PIECE_CYCLES) {
-      const count = Math.min(piece, to - stop.at);
-      yield trace.runLines(state, count, stop.at);
+    for (let piece = FIRST_PIECE_CYCLES; stop.elapsed < to && stop.end === end; piece = PIECE_CYCLES) {
+      const count = Math.min(piece, to - stop.elapsed);
+      yield trace.runLines(state, count, stop.elapsed);
       const run = await runState(engine, state, count, this.yieldToMessages);
-      const pieceEnd = stop.at + run.cycles;
-      stop = { at: pieceEnd, end: pieceEnd < to ? run.end : end };
+      const pieceEnd = stop.elapsed + run.cycles;
+      stop = { elapsed: pieceEnd, end: pieceEnd < to ? run.end : end };
     }
-    if (stop.end !== RAN_TO_END) yield [`${trace.formatNext(state, stop.at)}${say.stopsBefore(stop.end)}`];
+    if (stop.end !== RAN_TO_END) yield [`${trace.formatNext(state, stop.elapsed)}${say.stopsBefore(stop.end)}`];
   }
 }

@@ -24,7 +24,7 @@ import * as say from "../../words/trace.js";
 
 /** The number of index registers in the main query, which also asks for the program counter, the accumulator and the carry. */
 const MAIN_REGISTER_COUNT = 13;
-const MAIN_PLACES = ["pc", "acc", "cy", ...indices(MAIN_REGISTER_COUNT).map((at) => `r${at}`)];
+const MAIN_PLACES = ["pc", "acc", "cy", ...indices(MAIN_REGISTER_COUNT).map((index) => `r${index}`)];
 /** The character indexes in a row of MAIN_PLACES, which has the form ` PPP A C R R ..`. */
 const ROW_INDICES = { pc: 1, acc: 5, cy: 7, registers: 9 };
 
@@ -35,9 +35,9 @@ const ROW_INDICES = { pc: 1, acc: 5, cy: 7, registers: 9 };
  */
 function formatRegisterChanges(row, previousRow) {
   let changes = "";
-  for (let at = 0; at < MAIN_REGISTER_COUNT; at++) {
-    const digit = row[ROW_INDICES.registers + 2 * at];
-    if (digit !== previousRow[ROW_INDICES.registers + 2 * at]) changes += ` r${at} ${digit}`;
+  for (let index = 0; index < MAIN_REGISTER_COUNT; index++) {
+    const digit = row[ROW_INDICES.registers + 2 * index];
+    if (digit !== previousRow[ROW_INDICES.registers + 2 * index]) changes += ` r${index} ${digit}`;
   }
   return changes;
 }
@@ -50,12 +50,12 @@ function formatRegisterChanges(row, previousRow) {
 function updateGroup(group, row) {
   let changes = "";
   if (row === undefined) return changes;
-  rowValues(row).forEach((value, at) => {
-    const { textOf } = group.places[at];
-    if (value === group.values[at]) return;
+  rowValues(row).forEach((value, index) => {
+    const { textOf } = group.places[index];
+    if (value === group.values[index]) return;
     const text = textOf(value);
-    if (text !== textOf(group.values[at])) changes += text;
-    group.values[at] = value;
+    if (text !== textOf(group.values[index])) changes += text;
+    group.values[index] = value;
   });
   return changes;
 }
@@ -98,7 +98,8 @@ export class TraceLines {
     texts.readInstructions(engine, state, executedAddresses);
     const codes = new Set(executedAddresses.map((address) => texts.codes[address]));
     const places = tracePlaces(board, MAIN_REGISTER_COUNT, (code) => codes.has(code));
-    const groups = indices(Math.ceil(places.length / MAX_PLACES)).map((at) => places.slice(at * MAX_PLACES, (at + 1) * MAX_PLACES));
+    const groups = indices(Math.ceil(places.length / MAX_PLACES))
+      .map((group) => places.slice(group * MAX_PLACES, (group + 1) * MAX_PLACES));
     const queries = [...groups.map((group) => group.map(({ name }) => name)), MAIN_PLACES];
     const queryText = queries.map((names) => `trace ${cycles} ${names.join(" ")}\n`).join("");
     const answers = new ForecastAnswers(engine.ask(state, `regs\n${queryText}`).answers);

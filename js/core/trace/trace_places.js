@@ -36,9 +36,9 @@ function createPlace(name, textOf = (value) => ` ${name} ${value}`) {
  * @param {OpcodeTest} executes
  */
 function listChipPlaces(bank, chip, executes) {
-  const nibbles = executes(WRM) ? indices(64).map((at) => createPlace(`ram.${bank}.0x${hex(chip * 64 + at, 2)}`)) : [];
+  const nibbles = executes(WRM) ? indices(64).map((index) => createPlace(`ram.${bank}.0x${hex(chip * 64 + index, 2)}`)) : [];
   const status = indices(4).filter((index) => executes(WR0 + index))
-    .flatMap((kind) => indices(4).map((at) => createPlace(`st.${bank}.${chip * 4 + at}.${kind}`)));
+    .flatMap((kind) => indices(4).map((index) => createPlace(`st.${bank}.${chip * 4 + index}.${kind}`)));
   const port = executes(WMP) ? [createPlace(`ram${bank}.${chip}`, (value) => ` out ${bank}.${chip} ${value}`)] : [];
   return [...nibbles, ...status, ...port];
 }
@@ -50,7 +50,7 @@ function listChipPlaces(bank, chip, executes) {
  */
 function listRomPlaces({ roms }) {
   return roms.filter(({ port }) => port !== "iiii").map(({ chip, port }) => {
-    const outputs = indices(4).filter((at) => port[3 - at] !== "i").reduce((sum, at) => sum + 2 ** at, 0);
+    const outputs = indices(4).filter((index) => port[3 - index] !== "i").reduce((sum, index) => sum + 2 ** index, 0);
     return createPlace(`rom${chip}`, (value) => ` rom${chip} out ${hex(parseInt(value, 16) & outputs, 1)}`);
   });
 }
@@ -65,13 +65,13 @@ function listRomPlaces({ roms }) {
  */
 export function tracePlaces(board, firstRegister, executes) {
   return [
-    ...indices(16).slice(firstRegister).map((at) => createPlace(`r${at}`)),
+    ...indices(16).slice(firstRegister).map((index) => createPlace(`r${index}`)),
     createPlace("dcl"),
     createPlace("ret", (value) => ` ret ${value.replace(/,/g, " ")}`),
     ...board.banks.flatMap(({ bank, chips }) => indices(chips).flatMap((chip) => listChipPlaces(bank, chip, executes))),
     ...(executes(WRR) ? listRomPlaces(board) : []),
     // Any output port can drive the clock of a chain.
-    ...(executes(WMP) || executes(WRR) ? board.chains.map((_, at) => createPlace(`chain${at}`)) : []),
+    ...(executes(WMP) || executes(WRR) ? board.chains.map((_, index) => createPlace(`chain${index}`)) : []),
     createPlace("lamps", (value) => ` lamps ${value.replace(/^-$/, "")}`),
   ];
 }

@@ -60,10 +60,10 @@ export function extendShiftTrack({ clock, data, rise }, track, computedUntil, en
     const restStart = lastRise + REST_CYCLES;
     if (lastRise >= 0 && restStart > computedUntil && restStart <= until) track.set(AT_REST, restStart);
   };
-  for (let at = countUpTo(edges, computedUntil); at < edges.length; at++) {
-    if (clock.valueAfter(at + 1) === 0) continue;
-    addRest(edges[at] - 1);
-    lastRise = edges[at];
+  for (let index = countUpTo(edges, computedUntil); index < edges.length; index++) {
+    if (clock.valueAfter(index + 1) === 0) continue;
+    addRest(edges[index] - 1);
+    lastRise = edges[index];
     const code = (track.lastValue & BIT) === 0 ? BIT : OTHER_BIT;
     track.set(code + data.valueAt(lastRise), lastRise);
   }
@@ -124,7 +124,7 @@ export function parseScan({ places, columns, width }, value) {
 export function formatScan(line, value) {
   const { rows, columns, keys } = parseScan(line, value);
   if (rows.length === 0) return say.NO_ROW;
-  const rowText = say.rowsDriven(rows);
+  const rowText = say.rowsText(rows);
   if (columns.length === 0) return rowText;
-  return say.rowsAnswer(rowText, keys.length > 0 ? keys.join(" ") : say.columnsAnswer(columns));
+  return say.scanText(rowText, keys.length > 0 ? keys.join(" ") : say.columnsText(columns));
 }

@@ -47,9 +47,9 @@ function formatNumberedName({ group, places }, number) {
  */
 function findLineIndexes(lines, word) {
   const lamps = lines.findIndex(({ group }) => group === "lamps");
-  const namedLine = lines.findIndex((line, at) => line.name === word || formatNumberedName(line, at - lamps) === word);
+  const namedLine = lines.findIndex((line, index) => line.name === word || formatNumberedName(line, index - lamps) === word);
   if (namedLine >= 0) return [namedLine];
-  return lines.flatMap((line, at) => (canBeRequested(line) && line.group === word ? [at] : []));
+  return lines.flatMap((line, index) => (canBeRequested(line) && line.group === word ? [index] : []));
 }
 
 /**
@@ -63,8 +63,8 @@ function findLineIndexes(lines, word) {
  */
 export function chooseLines(board, text, hasLabels, words) {
   const lines = createBoardLines(board, text, hasLabels);
-  const allIndexes = lines.map((_, at) => at);
-  if (words.length === 0) return { lines, chosenIndexes: allIndexes.filter((at) => isOneBitLine(lines[at])) };
+  const allIndexes = lines.map((_, index) => index);
+  if (words.length === 0) return { lines, chosenIndexes: allIndexes.filter((index) => isOneBitLine(lines[index])) };
   /** @type {Set<number>} */
   const chosenIndexes = new Set();
   for (const word of words) {

@@ -67,7 +67,7 @@ export class LiveWaves {
     if (endReason === "trigger") return say.recordedDuration(this.lengthText, triggerText);
     if (endReason !== "") return say.recordedUntil(this.lengthText || say.NOTHING, say.END_REASONS[endReason] || endReason, triggerText);
     if (triggerMoment >= 0) return say.recordsAfter(triggerText);
-    const statusText = waves.cycles === 0 ? say.RECORDS_SOON : say.RECORDS;
+    const statusText = waves.cycles === 0 ? say.RECORDS_WHEN_RUNNING : say.RECORDING;
     return `${statusText}${trigger ? say.waitsFor(trigger) : ""}`;
   }
 }

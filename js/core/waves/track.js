@@ -71,7 +71,7 @@ export class Track {
    * @param {TrackData} data
    */
   append({ moments, values }) {
-    for (let at = 0; at < moments.length; at++) this.set(values ? values[at] : 1 - this.lastValue, moments[at]);
+    for (let index = 0; index < moments.length; index++) this.set(values ? values[index] : 1 - this.lastValue, moments[index]);
   }
 
   /**

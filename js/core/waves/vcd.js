@@ -52,7 +52,7 @@ export class VcdText {
   constructor(waves, chosenLines) {
     this.waves = waves;
     this.chosenLines = chosenLines;
-    this.codes = chosenLines.map((_, at) => createLineCode(at));
+    this.codes = chosenLines.map((_, index) => createLineCode(index));
     /** The start of the recording, which is time 0 in the file. */
     this.startMoment = waves.from;
     /** The last moment written to the file so far. */
@@ -84,12 +84,12 @@ export class VcdText {
       `$comment ${UNITS_PER_CYCLE} units of time are a cycle of the 4004, ${CYCLE_US} microseconds $end`,
       "$timescale 100 ns $end",
       "$scope module board $end",
-      ...chosenLines.map((line, at) => `$var ${formatVariableType(waves, line)} ${codes[at]} ${waves.lines[line].name} $end`),
+      ...chosenLines.map((line, index) => `$var ${formatVariableType(waves, line)} ${codes[index]} ${waves.lines[line].name} $end`),
       "$upscope $end",
       "$enddefinitions $end",
       "#0",
       "$dumpvars",
-      ...chosenLines.map((line, at) => this.changeText(at, waves.numberAt(line, waves.from), waves.from)),
+      ...chosenLines.map((line, index) => this.changeText(index, waves.numberAt(line, waves.from), waves.from)),
       "$end",
     ].join("\n")}\n`;
   }
@@ -129,11 +129,11 @@ export class VcdText {
 function sortChanges(waves, chosenLines) {
   const counts = chosenLines.map((line) => waves.changesOf(line).length);
   const changes = new Float64Array(counts.reduce((sum, count) => sum + count, 0));
-  let at = 0;
+  let changeIndex = 0;
   chosenLines.forEach((line, index) => {
     for (const moment of waves.changesOf(line)) {
-      changes[at] = moment * MAX_LINES + index;
-      at += 1;
+      changes[changeIndex] = moment * MAX_LINES + index;
+      changeIndex += 1;
     }
   });
   return changes.sort();

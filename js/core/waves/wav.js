@@ -16,12 +16,12 @@ const CHANNELS = 1;
 /**
  * Writes an ASCII tag into the file.
  * @param {Uint8Array} bytes
- * @param {number} at
+ * @param {number} tagOffset
  * @param {string} letters
  */
-function writeTag(bytes, at, letters) {
+function writeTag(bytes, tagOffset, letters) {
   [...letters].forEach((letter, offset) => {
-    bytes[at + offset] = letter.charCodeAt(0);
+    bytes[tagOffset + offset] = letter.charCodeAt(0);
   });
 }
 
@@ -50,7 +50,9 @@ export function createWav(level, edges, cycles) {
   view.setUint32(40, size, true);
   let [from, isHigh] = [0, level === 1];
   for (const edge of [...edges, cycles]) {
-    for (let at = from; at < edge; at++) view.setInt16(HEAD_BYTES + at * SAMPLE_BYTES, isHigh ? LEVELS.high : LEVELS.low, true);
+    for (let sample = from; sample < edge; sample++) {
+      view.setInt16(HEAD_BYTES + sample * SAMPLE_BYTES, isHigh ? LEVELS.high : LEVELS.low, true);
+    }
     [from, isHigh] = [edge, !isHigh];
   }
   return bytes;

@@ -87,8 +87,8 @@ function createChipLines({ roms, banks, chains }, face) {
  * @param {Face} face
  */
 function createFrontPanelLines({ lamps, rows, columns }, face) {
-  const lines = lamps.map((place, at) => {
-    const { name, title } = chooseLineNames("lamp", String(at), face.lamps.get(at));
+  const lines = lamps.map((place, index) => {
+    const { name, title } = chooseLineNames("lamp", String(index), face.lamps.get(index));
     return createLine(name, "lamps", "level", { places: [place], title });
   });
   for (const row of indices(rows)) {
@@ -109,8 +109,8 @@ function createFrontPanelLines({ lamps, rows, columns }, face) {
 function createPortLines(lines, face) {
   /** @type {Map<string, number[]>} */
   const ports = new Map();
-  lines.forEach(({ group, kind }, at) => {
-    if (kind === "level" && group !== "lamps") ports.set(group, [...(ports.get(group) || []), at]);
+  lines.forEach(({ group, kind }, index) => {
+    if (kind === "level" && group !== "lamps") ports.set(group, [...(ports.get(group) || []), index]);
   });
   return [...ports].filter(([, { length }]) => length <= MAX_BITS).map(([group, members]) => {
     const faceText = face.ports.get(group);
@@ -129,10 +129,10 @@ function createDecoderLines({ chains, matrix }, lines, face) {
   const indexesOf = (/** @type {string[]} */ places) => places.map((place) => lines.findIndex(({ name }) => name === place));
   const bitsOf = (/** @type {number} */ chain, /** @type {number} */ first, /** @type {number} */ count) => (
     indices(count).map((bit) => `chain${chain}.${first + bit}`));
-  const decoders = chains.map(({ clock, data, chips }, at) => {
-    const bits = bitsOf(at, 0, BITS_PER_CHIP * chips);
+  const decoders = chains.map(({ clock, data, chips }, index) => {
+    const bits = bitsOf(index, 0, BITS_PER_CHIP * chips);
     const members = indexesOf([clock, data, ...bits]);
-    return createLine(`shift.chain${at}`, "decoders", "shift", { title: say.shiftRegisterTitle(at), members, width: bits.length });
+    return createLine(`shift.chain${index}`, "decoders", "shift", { title: say.shiftRegisterTitle(index), members, width: bits.length });
   });
   if (!matrix) return decoders;
   const { chain, first, rows, columns } = matrix;
@@ -163,16 +163,18 @@ export function createValueLine(text, board) {
   const place = parsePlace(text);
   const places = place && VALUE_PLACE.test(place.name) ? place.probesOn(board) : [];
   if (!place || places.length === 0) return null;
-  const [word, bank, at] = place.name.split(".");
+  const [word, bank, byteOrRegister] = place.name.split(".");
   const isMemory = word === "ram" || word === "st";
-  const title = word === "src" ? say.SRC_OF_ROMS : word === "ram" ? say.inBank(bank, describeCharacter(parseNumber(at)))
+  const title = word === "src" ? say.SRC_OF_ROMS : word === "ram" ? say.inBank(bank, describeCharacter(parseNumber(byteOrRegister)))
     : isMemory ? say.STATUS_CHARACTER : "";
   const width = /^p\d$/.test(word) ? PAIR_WIDTH : WIDTHS[word] || DIGIT_WIDTH;
   return createLine(place.name, isMemory ? say.ramGroup(bank) : "registers", "value", { places, width, title });
 }
 
 /** The names of all registers and pairs. */
-export const REGISTER_NAMES = ["acc", "cy", ...indices(16).map((at) => `r${at}`), ...indices(8).map((at) => `p${at}`), "dcl", "src"];
+export const REGISTER_NAMES = [
+  "acc", "cy", ...indices(16).map((register) => `r${register}`), ...indices(8).map((pair) => `p${pair}`), "dcl", "src",
+];
 
 /**
  * Returns the names of all RAM nibbles on a board, including status nibbles.
@@ -180,8 +182,8 @@ export const REGISTER_NAMES = ["acc", "cy", ...indices(16).map((at) => `r${at}`)
  */
 export function listNibbleNames({ banks }) {
   return banks.flatMap(({ bank, chips }) => [
-    ...indices(chips * 64).map((at) => `ram.${bank}.0x${at.toString(16).toUpperCase().padStart(2, "0")}`),
-    ...indices(chips * 16).map((at) => `st.${bank}.${at >> 2}.${at & 3}`),
+    ...indices(chips * 64).map((index) => `ram.${bank}.0x${index.toString(16).toUpperCase().padStart(2, "0")}`),
+    ...indices(chips * 16).map((index) => `st.${bank}.${index >> 2}.${index & 3}`),
   ]);
 }
 

@@ -52,7 +52,7 @@ export class Waves {
     this.counters = new NumberQueue(counters);
     this.listing = new Map(listing);
     this.program = program;
-    this.sources = program ? program.text.split("\n") : [];
+    this.sourceLines = program ? program.text.split("\n") : [];
     this.labelIndexes = findLabelsBelow(program ? program.labels : []);
     /** @type {Map<number, Track>} the tracks computed so far, by line index */
     this.derivedTracks = new Map();
@@ -76,7 +76,7 @@ export class Waves {
   append({ cycles, isStuck, tracks, moments, counters, listing }) {
     const previousEnd = this.cycles;
     tracks.forEach((data, line) => this.tracks[line].append(data));
-    moments.forEach((moment, at) => this.appendInstruction(moment, counters[at]));
+    moments.forEach((moment, index) => this.appendInstruction(moment, counters[index]));
     for (const [address, text] of listing) this.listing.set(address, text);
     this.cycles = cycles;
     this.isStuck = isStuck;
@@ -184,8 +184,8 @@ export class Waves {
     if (kind === "port" || kind === "scan") this.extendPortTrack(tracks, track, computedUntil);
     if (kind !== "pc" && kind !== "label") return;
     const [moments, counters] = [this.moments.all, this.counters.all];
-    for (let at = countUpTo(moments, computedUntil); at < moments.length; at++) {
-      track.set(kind === "pc" ? counters[at] : this.labelIndexes[counters[at]] + 1, moments[at]);
+    for (let index = countUpTo(moments, computedUntil); index < moments.length; index++) {
+      track.set(kind === "pc" ? counters[index] : this.labelIndexes[counters[index]] + 1, moments[index]);
     }
   }
 
@@ -316,7 +316,7 @@ export class Waves {
       address,
       listingLine: this.listing.get(address) || "",
       line,
-      source: line > 0 ? this.sources[line - 1].trim() : "",
+      source: line > 0 ? this.sourceLines[line - 1].trim() : "",
       isSecond: index === 0 && this.isOwed,
       isEnd: index === this.moments.count - 1 && this.moments.last === this.cycles,
     };

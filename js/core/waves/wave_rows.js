@@ -63,8 +63,8 @@ export class WaveRows {
     const wantedNames = new Set(names);
     const sortedNames = this.order.filter((name) => wantedNames.has(name));
     const placedNames = new Set(sortedNames);
-    names.forEach((name, at) => {
-      if (!placedNames.has(name)) sortedNames.splice(at === 0 ? 0 : sortedNames.indexOf(names[at - 1]) + 1, 0, name);
+    names.forEach((name, index) => {
+      if (!placedNames.has(name)) sortedNames.splice(index === 0 ? 0 : sortedNames.indexOf(names[index - 1]) + 1, 0, name);
     });
     // The rows of a group follow its first row.
     const groups = [...new Set(sortedNames.map((name) => this.groupOf(name) || ` ${name}`))];

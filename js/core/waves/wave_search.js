@@ -144,8 +144,8 @@ export function findMatch(waves, { line, matches, findsEachMatch }, moment, isFo
   const changes = track.moments.all;
   const direction = isForward ? 1 : -1;
   const first = isForward ? countUpTo(changes, moment) : countUpTo(changes, moment - 1) - 1;
-  for (let at = first; at >= 0 && at < changes.length; at += direction) {
-    if (matches(track.valueAfter(at + 1)) && (findsEachMatch || !matches(track.valueAfter(at)))) return changes[at];
+  for (let index = first; index >= 0 && index < changes.length; index += direction) {
+    if (matches(track.valueAfter(index + 1)) && (findsEachMatch || !matches(track.valueAfter(index)))) return changes[index];
   }
   // The first value of the recording can also match.
   return !isForward && !findsEachMatch && moment > waves.from && matches(track.first) ? waves.from : -1;

@@ -7,7 +7,7 @@ import { runTestsOrSession } from "../test_commands.mjs";
 import { checkOutputFile, writeUserFile } from "../user_files.mjs";
 
 /** The text at the beginning of an LCOV file. */
-const LCOV_BEGIN = "TN:";
+const LCOV_HEADER = "TN:";
 
 /** @type {import("./table.mjs").CommandModule["run"]} */
 export function run({ folder, lcov, session }, positionals) {
@@ -15,7 +15,7 @@ export function run({ folder, lcov, session }, positionals) {
     name: "cover",
     RecorderClass: LineRecorder,
     checkNames: (names) => {
-      if (lcov !== undefined) checkOutputFile(lcov, LCOV_BEGIN, NOT_AN_LCOV_FILE, names);
+      if (lcov !== undefined) checkOutputFile(lcov, LCOV_HEADER, NOT_AN_LCOV_FILE, names);
     },
     printCounts: ({ coverage }, program) => {
       print(coverageText(coverage, program));

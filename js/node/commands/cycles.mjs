@@ -1,7 +1,7 @@
 // `mcs4 cycles`: prints the durations of the runs in the bench's answers, in machine cycles.
 import { joinLines } from "../../core/bench/inputs.js";
 import { runTimes } from "../../core/time/run_times.js";
-import { FIRST_AND_LAST, notALineNumberMessage } from "../../words/commands.js";
+import { LINE_RANGE_SYNTAX, notALineNumberMessage } from "../../words/commands.js";
 import { checkArguments } from "../arguments.mjs";
 import { InputTexts } from "../input_texts.mjs";
 import { makeAddressDescriber, startEngine } from "../native_program.mjs";
@@ -20,7 +20,7 @@ function parseRange(words) {
   const invalidWord = words.find((word) => !LINE_NUMBER.test(word));
   if (invalidWord !== undefined) throw new UsageError(notALineNumberMessage(invalidWord));
   const [first, last] = words.map(Number);
-  if (first < 1 || last < first) throw new UsageError(FIRST_AND_LAST);
+  if (first < 1 || last < first) throw new UsageError(LINE_RANGE_SYNTAX);
   return { first, last };
 }
 

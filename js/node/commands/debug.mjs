@@ -82,10 +82,10 @@ async function runInteractive(prompt) {
  */
 async function debugFiles(names) {
   const engine = await Engine.load(readPageModule());
-  const data = readPageData();
-  const launchResult = await launch(engine, { ...names, cwd: process.cwd() }, host, new ErrorMessages(data.refusals));
+  const pageData = readPageData();
+  const launchResult = await launch(engine, { ...names, cwd: process.cwd() }, host, new ErrorMessages(pageData.refusals));
   const position = { line: 0 };
-  const prompt = new Prompt(launchResult, data, {
+  const prompt = new Prompt(launchResult, pageData, {
     print: (message) => process.stdout.write(`${escapeControls(message)}\n`),
     printError: (message) => {
       if (screen.terminal) screen.terminal.printError(message);

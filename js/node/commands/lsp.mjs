@@ -16,8 +16,8 @@ const end = makeExitFunction("lsp");
  */
 function readFile(uri, folder) {
   try {
-    const address = new URL(uri);
-    return folder === "" || isInside(address, new URL(folder)) ? readUserText(address) : null;
+    const url = new URL(uri);
+    return folder === "" || isInside(url, new URL(folder)) ? readUserText(url) : null;
   } catch {
     return null;
   }

@@ -15,7 +15,7 @@ import { isInside, checkOutputFile, readUserFile, statInput, writeNewFiles, writ
 const PROJECT_HEADER = "fethsaim project ";
 const SESSION_HEADER = "MCS4BEN1";
 /** The kinds of text files that can occur several times in a folder. A project file can contain only one text of each kind. */
-const LIST_KINDS = /** @type {const} */ (["tests", "properties"]);
+const MULTIPLE_TEXT_KINDS = /** @type {const} */ (["tests", "properties"]);
 
 /**
  * Calls `operation` and returns its result. If `operation` throws InvalidProject, throws an error that also contains the name of the file.
@@ -76,13 +76,14 @@ function readText(folder, name) {
  * @returns {Promise<{ board: string, program: string, tests: string, properties: string }>} "" if there are no tests or no properties
  */
 async function findTextPaths(folder) {
-  const inFolder = (/** @type {string} */ name) => join(folder, name);
-  if (!existsSync(inFolder(PROJECT_FILE_NAMES.project))) {
-    const [tests, properties] = LIST_KINDS.map((kind) => (existsSync(inFolder(PROJECT_FILE_NAMES[kind])) ? inFolder(PROJECT_FILE_NAMES[kind]) : ""));
-    return { board: inFolder(PROJECT_FILE_NAMES.board), program: inFolder(PROJECT_FILE_NAMES.program), tests, properties };
+  const pathInFolder = (/** @type {string} */ name) => join(folder, name);
+  if (!existsSync(pathInFolder(PROJECT_FILE_NAMES.project))) {
+    const listPaths = MULTIPLE_TEXT_KINDS.map((kind) => pathInFolder(PROJECT_FILE_NAMES[kind]));
+    const [tests, properties] = listPaths.map((path) => (existsSync(path) ? path : ""));
+    return { board: pathInFolder(PROJECT_FILE_NAMES.board), program: pathInFolder(PROJECT_FILE_NAMES.program), tests, properties };
   }
   const project = await loadProject(folder);
-  for (const kind of LIST_KINDS) {
+  for (const kind of MULTIPLE_TEXT_KINDS) {
     const { length } = project[kind];
     if (length > 1) throw new CommandError(say.tooManyTextsMessage(project.file, length, kind));
   }
@@ -93,10 +94,10 @@ async function findTextPaths(folder) {
  * Resolves to the bytes of the session file in a folder. If there is none, creates a new session from the texts. Throws an error if the
  * file is in use or is not a session file, or if the texts have errors.
  * @param {string} folder
- * @param {{ board: string, program: string }} names the paths of the texts
+ * @param {{ board: string, program: string }} paths the paths of the texts
  * @param {{ boardText: string, programText: string }} texts
  */
-async function readSession(folder, names, texts) {
+async function readSession(folder, paths, texts) {
   const name = join(folder, PROJECT_FILE_NAMES.session);
   if (existsSync(name)) {
     const bytes = readFileIn(folder, name);
@@ -108,8 +109,8 @@ async function readSession(folder, names, texts) {
   const { file, errors } = newSession(engine, texts);
   if (errors.length === 0) return engine.bytesOf(file);
   const makeText = (/** @type {string} */ textName, /** @type {string} */ text) => ({ name: textName, text, linesBefore: 0 });
-  const board = makeText(names.board, texts.boardText);
-  const program = makeText(names.program, texts.programText);
+  const board = makeText(paths.board, texts.boardText);
+  const program = makeText(paths.program, texts.programText);
   throw await createRejectedTextsError(engine, { board, program }, errors);
 }
 
@@ -146,8 +147,8 @@ function readList(folder, fileName, parse) {
 async function joinFiles(folder, name) {
   if (!statInput(folder)?.isDirectory()) throw new CommandError(say.noFolderMessage(folder));
   checkOutputFile(name, PROJECT_HEADER, say.NOT_A_PROJECT, []);
-  const names = await findTextPaths(folder);
-  const [boardText, programText, testText, propertiesText] = [names.board, names.program, names.tests, names.properties]
+  const paths = await findTextPaths(folder);
+  const [boardText, programText, testText, propertiesText] = [paths.board, paths.program, paths.tests, paths.properties]
     .map((path) => (path === "" ? "" : readText(folder, path)));
   const message = tooLongMessage({ boardText, programText, testText, propertiesText });
   if (message) throw new CommandError(`${folder}: ${message}`);
@@ -156,14 +157,14 @@ async function joinFiles(folder, name) {
     boardText, programText, testText, propertiesText,
     breakpoints: readList(folder, PROJECT_FILE_NAMES.breakpoints, parseBreakpoints),
     watched: readList(folder, PROJECT_FILE_NAMES.values, parseWatchLines),
-    file: await readSession(folder, names, { boardText, programText }),
+    file: await readSession(folder, paths, { boardText, programText }),
   };
   writeUserFile(name, projectText(project));
 }
 
 /** @type {import("./table.mjs").CommandModule["run"]} */
 export async function run(values, [action, ...words]) {
-  if (action === undefined) throw new UsageError(say.SPLIT_OR_JOIN);
+  if (action === undefined) throw new UsageError(say.SPLIT_OR_JOIN_MISSING);
   if (action !== "split" && action !== "join") throw new UsageError(say.neitherSplitNorJoinMessage(action));
   checkArguments(words, action === "split" ? ["FILE", "FOLDER"] : ["FOLDER", "FILE"]);
   const [source, target] = words;

@@ -29,9 +29,9 @@ export async function run({ folder, most: statesWord, memory: memoryWord }, posi
 /**
  * Tries to prove or disprove each property. Prints each result as soon as it is known. Resolves to the exit status.
  * @param {import("../../core/prove/property_judge.js").PropertyJudge} judge
- * @param {string} file the name of the properties file
+ * @param {string} fileName the name of the properties file
  */
-async function proveAll(judge, file) {
+async function proveAll(judge, fileName) {
   const { total } = judge;
   const progress = new ProgressLine();
   const judgedProperties = [];
@@ -39,7 +39,7 @@ async function proveAll(judge, file) {
     progress.beginStep((seconds) => provingSoFar(index + 1, total, judge.textOf(index), seconds));
     const judgedProperty = /** @type {import("../../core/prove/verdicts.js").JudgedProperty} */ (await judge.judgeNext());
     progress.clear();
-    print((index === 0 ? tapHead(total) : "") + formatJudgedTap(judgedProperty, index, file));
+    print((index === 0 ? tapHead(total) : "") + formatJudgedTap(judgedProperty, index, fileName));
     judgedProperties.push(judgedProperty);
   }
   progress.end();

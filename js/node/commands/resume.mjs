@@ -10,7 +10,7 @@ import { yieldToMessages, openSession, findProgramPath, startEngine } from "../n
 import { CommandError, printBytes, printError } from "../output.mjs";
 import { describeRefusal } from "../rejected_texts.mjs";
 
-const OPENING_LINES = /^session \d+\n/;
+const OPENING_LINE = /^session \d+\n/;
 
 /**
  * Prints answers as they arrive, and resolves to null. If the first line is not `session N`, prints nothing and resolves to this line.
@@ -22,7 +22,7 @@ async function printAnswers(stream) {
   for await (const bytes of stream) {
     if (!isOpen) openingBytes = Buffer.concat([openingBytes, bytes]);
     if (!isOpen && !openingBytes.includes("\n")) continue;
-    if (!isOpen && !OPENING_LINES.test(openingBytes.toString("latin1"))) continue;
+    if (!isOpen && !OPENING_LINE.test(openingBytes.toString("latin1"))) continue;
     printBytes(isOpen ? bytes : openingBytes);
     isOpen = true;
   }

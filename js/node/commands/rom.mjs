@@ -71,7 +71,7 @@ function printLoadLines(chosenFormat, words) {
 function parseRange(words) {
   checkArguments(words, ["FIRST", "COUNT"]);
   const [first, count] = words.map(parseNumber);
-  if (Number.isNaN(first) || Number.isNaN(count)) throw new UsageError(say.NUMBERS_OF_RANGE);
+  if (Number.isNaN(first) || Number.isNaN(count)) throw new UsageError(say.RANGE_NUMBERS_SYNTAX);
   if (first >= ADDRESS_COUNT || count < 1 || first + count > ADDRESS_COUNT) throw new UsageError(say.BYTE_RANGE_SYNTAX);
   return { first, count };
 }
@@ -126,7 +126,7 @@ function printImage(format, words) {
 
 /** @type {import("./table.mjs").CommandModule["run"]} */
 export function run(values, [action, ...words]) {
-  if (action === undefined) throw new UsageError(say.LOAD_ASK_OR_SAVE);
+  if (action === undefined) throw new UsageError(say.LOAD_ASK_OR_SAVE_MISSING);
   if (!Object.hasOwn(ACTION_FORMATS, action)) throw new UsageError(say.unknownRomActionMessage(action));
   const format = chooseFormat(action, values);
   if (action === "load") printLoadLines(format, words);

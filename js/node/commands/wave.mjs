@@ -76,7 +76,7 @@ async function openWiredSession(session, { board: boardName, program: programNam
 }
 
 /** @type {(session: OpenedSession) => string} */
-const readBoardText = ({ boardText }) => (boardText ? boardText.text : "");
+const boardTextOf = ({ boardText }) => (boardText ? boardText.text : "");
 
 /**
  * Returns the result of `choose`, a function that chooses lines. Throws a CommandError if a line does not exist on the board.
@@ -108,20 +108,20 @@ function reportStop({ isStuck, cycles }, requestedCycles) {
  */
 async function printVcd(openedSession, cycles, words) {
   const { engine, state, board, program } = openedSession;
-  const choice = convertLineErrors(() => chooseLines(board, readBoardText(openedSession), program !== null, words));
+  const choice = convertLineErrors(() => chooseLines(board, boardTextOf(openedSession), program !== null, words));
   const { lines, chosenIndexes } = linesWithMembers(choice.lines, choice.chosenIndexes);
   /** @type {VcdText | null} */
-  let text = null;
+  let vcdText = null;
   for await (const waves of recordPieces(engine, state, { lines, program, cycles }, yieldToMessages)) {
-    if (!text) {
-      text = new VcdText(waves, chosenIndexes);
-      print(text.formatHead());
+    if (!vcdText) {
+      vcdText = new VcdText(waves, chosenIndexes);
+      print(vcdText.formatHead());
     }
-    for (const part of text.formatChanges()) print(part);
+    for (const part of vcdText.formatChanges()) print(part);
   }
-  if (!text) return;
-  print(text.formatEnd());
-  reportStop(text.waves, cycles);
+  if (!vcdText) return;
+  print(vcdText.formatEnd());
+  reportStop(vcdText.waves, cycles);
 }
 
 /**
@@ -183,7 +183,7 @@ export async function run(values, words) {
   if (wav !== undefined) checkOutputFile(wav, WAV_HEADER, say.NOT_A_WAV_FILE, names.board === undefined ? [session] : [session, names.board]);
   const openedSession = await openWiredSession(session, wav === undefined ? names : { ...names, program: undefined });
   const { board, program } = openedSession;
-  if (isList) print(listRequestableNames(board, readBoardText(openedSession), program !== null).map((name) => `${name}\n`).join(""));
+  if (isList) print(listRequestableNames(board, boardTextOf(openedSession), program !== null).map((name) => `${name}\n`).join(""));
   else if (wav === undefined) await printVcd(openedSession, cycles, lines);
   else await writeWav(openedSession, cycles, lines[0], wav);
   return 0;

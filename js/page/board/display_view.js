@@ -167,7 +167,7 @@ export class DisplayView {
    * @param {import("../../core/board/brightness.js").Brightness} brightness
    * @param {number} lamp
    */
-  showSignBrightness({ lamps, isOn, lampSteadiness }, lamp) {
+  showSignBrightness({ lampDuties: lamps, isOn, lampSteadiness }, lamp) {
     const litPattern = isOn[lamp] ? MINUS_PATTERN : 0;
     if (lampSteadiness[lamp].isSteady) this.signDigit.set(litPattern);
     else this.signDigit.showDutyCycles(litPattern, SEGMENT_PATHS.map((_, index) => (1 << index === MINUS_PATTERN ? lamps[lamp] : 0)));

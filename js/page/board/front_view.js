@@ -4,7 +4,7 @@ import { keyHint, boardKeys } from "../../core/board/board_keys.js";
 import { Brightness } from "../../core/board/brightness.js";
 import { EYE_PERSISTENCE_MS } from "../../core/time/mcs4_time.js";
 import { DisplayView } from "./display_view.js";
-import { Cell, block, button, element, makeFirstTabStop, makeOneTabStop, pressedSwitch } from "../ui/dom.js";
+import { Cell, block, button, element, makeFirstTabStop, makeOneTabStop, makePressedSwitch } from "../ui/dom.js";
 import { Face, moreErrorsMessage, sortByLine } from "../../core/board/face.js";
 import { missingParts } from "../../core/board/face_board.js";
 import { PressedKeys } from "../../core/board/key_place.js";
@@ -156,7 +156,7 @@ export class FrontView {
     if (boardKey.letter && boardKey.letter !== boardKey.legend) keyButton.append(element("kbd", {}, boardKey.letter));
     keyButton.setAttribute("aria-label", boardKey.description);
     this.connectKey(keyButton, boardKey);
-    return { ...boardKey, button: keyButton, downSwitch: pressedSwitch(keyButton) };
+    return { ...boardKey, button: keyButton, downSwitch: makePressedSwitch(keyButton) };
   }
 
   /** @param {string} marks one character per lamp: `*` if the lamp is on at this instant */

@@ -2,7 +2,7 @@
 // buzzer's line.
 
 import { CYCLES_PER_SECOND } from "../../core/time/mcs4_time.js";
-import { Cell, block, button, onClick, pressedSwitch } from "../ui/dom.js";
+import { Cell, block, button, onClick, makePressedSwitch } from "../ui/dom.js";
 import { SampleBuffer } from "../../core/board/sound_samples.js";
 import * as say from "../../words/board.js";
 
@@ -66,7 +66,7 @@ export class Sound {
     /** @type {Player | null} null if sound is off */
     this.player = null;
     this.status = new Cell(block("sound-status"));
-    this.buttonSwitch = pressedSwitch(button("sound-button"));
+    this.buttonSwitch = makePressedSwitch(button("sound-button"));
     onClick(button("sound-button"), () => this.toggle());
   }
 

@@ -103,11 +103,11 @@ export class WiringView {
     this.levels.clear();
     this.parts = new Map(parts.map((part) => [part.id, part]));
     /** @type {Map<string, SVGElement[]>} */
-    const nodes = new Map();
-    const wireNodes = wires.flatMap((wire, index) => this.drawWire(wire, pathText(routeWire(wire, parts, index)), nodes));
+    const nodesByLine = new Map();
+    const wireNodes = wires.flatMap((wire, index) => this.drawWire(wire, pathText(routeWire(wire, parts, index)), nodesByLine));
     this.linePins = groupPinsByLine(wires);
-    const partNodes = parts.map((part) => this.drawPart(part, nodes));
-    for (const [line, elements] of nodes) {
+    const partNodes = parts.map((part) => this.drawPart(part, nodesByLine));
+    for (const [line, elements] of nodesByLine) {
       this.levels.set(line, new Switch((isOn) => elements.forEach((node) => node.classList.toggle("high", isOn))));
     }
     this.groupLevels(isWired ? board : null);
@@ -144,21 +144,21 @@ export class WiringView {
    * Returns a wire's elements: its path, and a wider invisible path as the clickable area.
    * @param {Wire} wire
    * @param {string} d the wire's SVG path
-   * @param {Map<string, SVGElement[]>} nodes the elements of each line, by line name; receives the path
+   * @param {Map<string, SVGElement[]>} nodesByLine the elements of each line, by line name; receives the path
    */
-  drawWire(wire, d, nodes) {
+  drawWire(wire, d, nodesByLine) {
     const path = svgElement("path", { class: "wire", d });
     const hitArea = svgElement("path", { class: "reach", d });
     this.names.set(hitArea, wire.to.id);
-    nodes.set(wire.line, [...(nodes.get(wire.line) || []), path]);
+    nodesByLine.set(wire.line, [...(nodesByLine.get(wire.line) || []), path]);
     return [path, hitArea];
   }
 
   /**
    * @param {Part} part
-   * @param {Map<string, SVGElement[]>} nodes the elements of each line, by line name; receives the pins
+   * @param {Map<string, SVGElement[]>} nodesByLine the elements of each line, by line name; receives the pins
    */
-  drawPart(part, nodes) {
+  drawPart(part, nodesByLine) {
     const { id, kind, title, x, y, width, height, descriptions } = part;
     const description = `${title}: ${descriptions.join("; ")}`;
     const box = svgElement("g", { class: `part of-${kind}`, role: "button", tabindex: -1, "aria-label": description });
@@ -168,7 +168,7 @@ export class WiringView {
     box.append(svgElement("rect", { x, y, width, height, rx: isChip ? 2 : 4 }), head);
     if (isChip) box.append(svgElement("path", { class: "notch", d: `M${middle - notch},${y}a${notch},${notch},0,0,0,${2 * notch},0` }));
     this.registerNode(box, id);
-    return svgElement("g", {}, box, ...part.pins.map((pin) => this.drawPin(part, pin, nodes)));
+    return svgElement("g", {}, box, ...part.pins.map((pin) => this.drawPin(part, pin, nodesByLine)));
   }
 
   /**
@@ -184,16 +184,16 @@ export class WiringView {
    * Returns a pin's element, with its label inside the part. A lamp's pin is drawn as the lamp.
    * @param {Part} part
    * @param {Pin} pin
-   * @param {Map<string, SVGElement[]>} nodes the elements of each line, by line name; receives the pin
+   * @param {Map<string, SVGElement[]>} nodesByLine the elements of each line, by line name; receives the pin
    */
-  drawPin(part, pin, nodes) {
+  drawPin(part, pin, nodesByLine) {
     const isLeft = pin.x === part.x;
     const isLamp = part.kind === "lamps";
     const centre = { cx: pin.x, cy: pin.y };
     const circle = svgElement("circle", { class: isLamp ? `lamp ${pin.colour}` : "pin", ...centre, r: isLamp ? 6 : 4 });
     const side = isLeft ? "at-left" : "at-right";
     const label = svgElement("text", { class: side, x: pin.x + (isLeft ? 10 : -10), y: pin.y + 4 }, pin.label);
-    nodes.set(pin.line, [...(nodes.get(pin.line) || []), circle]);
+    nodesByLine.set(pin.line, [...(nodesByLine.get(pin.line) || []), circle]);
     const hitArea = svgElement("circle", { class: "reach", ...centre, r: PIN_CLICK_RADIUS });
     const description = `${part.title}, ${pin.label}, ${this.describePin(pin)}`;
     const { number } = pin;

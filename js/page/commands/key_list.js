@@ -15,7 +15,7 @@ import * as say from "../../words/page_commands.js";
  */
 export function makeKeyRows() {
   return COMMANDS.filter(({ keys }) => keys.length > 0).map(({ keys, label, place }) => (
-    [keys.map((key) => `\`${key}\``).join(", "), say.WHERE[place] ? `${label} (${say.WHERE[place]})` : label]));
+    [keys.map((key) => `\`${key}\``).join(", "), say.KEY_SCOPES[place] ? `${label} (${say.KEY_SCOPES[place]})` : label]));
 }
 
 /**

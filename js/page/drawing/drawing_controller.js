@@ -150,7 +150,7 @@ export class DrawingController {
     const oldPartIds = new Set(picture.parts.keys());
     const text = this.calls.text();
     await drawing.performInOrder(action);
-    const { selected } = drawing;
+    const { selectedPart: selected } = drawing;
     if (this.calls.text() === text || selected === "") return;
     const part = [...picture.parts.values()].find(({ id, pins }) => id === selected || pins.some((pin) => pin.id === selected));
     if (part && point && !oldPartIds.has(part.id)) {

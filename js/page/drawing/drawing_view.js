@@ -45,7 +45,7 @@ export class DrawingView {
     this.picture = picture;
     this.calls = calls;
     this.status = new Cell(block("drawing-status"));
-    this.state = new Cell(block("drawing-state"));
+    this.stateCell = new Cell(block("drawing-state"));
     /** @type {Map<ShelfPart, HTMLButtonElement>} */
     this.shelf = new Map();
     /** The data from which the picture was last drawn, as JSON, to detect changes. */
@@ -122,7 +122,7 @@ export class DrawingView {
 
   /** @param {DrawingState} state */
   showState({ error, isWired }) {
-    this.state.set(error || (isWired ? "" : say.NOT_WIRED));
+    this.stateCell.set(error || (isWired ? "" : say.NOT_WIRED));
     button("drawing-wire").classList.toggle("due", error === "" && !isWired);
   }
 

@@ -81,7 +81,7 @@ export class HelpView {
     const sections = searchManual(this.manual, query);
     this.sections.replaceChildren(...sections.map(({ title, tables }) => (
       element("details", { open: query !== "" }, element("summary", {}, title), ...tables.map((table) => makeTable(table, title))))));
-    const count = sections.reduce((sum, { tables }) => sum + tables.reduce((rows, table) => rows + table.rows.length, 0), 0);
-    this.status.set(query === "" ? "" : say.rowsFound(count));
+    const rowCount = sections.reduce((sum, { tables }) => sum + tables.reduce((rows, table) => rows + table.rows.length, 0), 0);
+    this.status.set(query === "" ? "" : say.rowsFound(rowCount));
   }
 }

@@ -1,4 +1,4 @@
-// The panel of a step-by-step tour next to the bench: the first program, or an example's story.
+// The panel next to the bench that shows a step-by-step tour: that of the first program, or an example's story.
 
 import { PointerRing } from "./pointer_ring.js";
 import { Cell, block, button, element, onClick } from "../ui/dom.js";
@@ -128,7 +128,7 @@ export class TourView {
 
   showDone() {
     const { isDone } = this.progress;
-    this.status.set(isDone ? (this.isLastStep ? say.LAST_DONE : say.DONE) : "");
+    this.status.set(isDone ? (this.isLastStep ? say.LAST_STEP_DONE : say.DONE) : "");
     this.root.classList.toggle("done", isDone);
     this.nextButton.classList.toggle("primary", isDone);
   }

@@ -98,7 +98,7 @@ export class BreakpointsController {
     return new BreakpointForm({
       change: (id, changes) => this.manager.change(id, changes),
       showTypedTexts: (id, changes) => this.manager.saveTypedEdit(id, changes),
-      waitForChanges: () => this.manager.allSent,
+      waitForChanges: () => this.manager.sendingEnd,
       placeForm: ({ id, line }, node) => {
         calls.showBelow(line, line > 0 ? node : null);
         const root = this.view.rowElement(id);
@@ -138,12 +138,16 @@ export class BreakpointsController {
       work().catch(calls.reportFailure);
     };
     this.menu.open([
-      { label: breakpoint ? say.REMOVES_BREAKPOINT : say.ADDS_BREAKPOINT, key: toggleKey, act: makeAction(() => this.toggleLine(line)) },
+      {
+        label: breakpoint ? say.REMOVE_BREAKPOINT_ITEM : say.ADD_BREAKPOINT_ITEM, key: toggleKey,
+        act: makeAction(() => this.toggleLine(line)),
+      },
       { label: say.CONDITION, key: conditionKey, act: makeAction(() => this.editLine(line, "condition")) },
       { label: say.HIT_COUNT, act: makeAction(() => this.editLine(line, "from")) },
       { label: say.LOG_MESSAGE, act: makeAction(() => this.editLine(line, "note")) },
       ...(breakpoint ? [{
-        label: breakpoint.isOn ? say.DISABLE : say.ENABLE, act: () => manager.change(breakpoint.id, { isOn: !breakpoint.isOn }),
+        label: breakpoint.isOn ? say.DISABLE_BREAKPOINT_ITEM : say.ENABLE_BREAKPOINT_ITEM,
+        act: () => manager.change(breakpoint.id, { isOn: !breakpoint.isOn }),
       }] : []),
       { label: say.RUN_TO_LINE, act: () => calls.runTo(line) },
     ], point);
@@ -209,7 +213,7 @@ export class BreakpointsController {
   async handleAssembly(wasReset) {
     if (wasReset) this.manager.resetHits();
     await this.calls.checkSource();
-    await this.manager.allSent;
+    await this.manager.sendingEnd;
   }
 
   /** @param {Tally} tally the new hit counts and log messages */

@@ -120,7 +120,7 @@ export class BreakpointsView {
       if (breakpoint) action(breakpoint);
     };
     const edit = makeButton(say.EDIT, withBreakpoint((breakpoint) => this.calls.edit(breakpoint)), { className: "edit" });
-    const remove = makeButton("\u00D7", () => this.calls.remove(id), { "aria-label": say.REMOVE_BREAKPOINT, "title": say.REMOVES_IT });
+    const remove = makeButton("\u00D7", () => this.calls.remove(id), { "aria-label": say.REMOVE_BREAKPOINT, "title": say.REMOVE_TIP });
     const root = element("li", {}, element("div", { className: "bar" }, enableBox, mark.node, location.node, hits.node, edit, remove),
       details.node, error.node);
     enableBox.addEventListener("change", () => this.calls.change(id, { isOn: enableBox.checked }));

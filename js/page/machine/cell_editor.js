@@ -127,10 +127,10 @@ export class CellEditor {
     const target = cell && this.editableCells.get(cell);
     if (!target) return;
     const value = parseHexValue(this.field.value);
-    const refusal = value === "" ? say.NOT_HEXADECIMAL : await this.calls.poke(target.place, value);
+    const message = value === "" ? say.NOT_HEXADECIMAL : await this.calls.poke(target.place, value);
     // The user may have left the field in the meantime.
     if (this.cell !== cell) return;
-    if (refusal === "") this.close(true);
-    else this.showMessage(refusal);
+    if (message === "") this.close(true);
+    else this.showMessage(message);
   }
 }

@@ -177,8 +177,8 @@ export class HeatView {
    */
   showCells(heat, describeCell) {
     const map = this.calls.map();
-    const warmth = heatLevels(heat, /** @type {HeatKind} */ (this.kindSelect.value));
+    const levels = heatLevels(heat, /** @type {HeatKind} */ (this.kindSelect.value));
     this.calls.showCells(new Map(heat.cells.map((cell) => (
-      [cell.place, { warmth: warmth.get(cell.place) || 0, changeText: say.changedBy(describeCell(cell, map)) }]))));
+      [cell.place, { warmth: levels.get(cell.place) || 0, changeText: say.changedBy(describeCell(cell, map)) }]))));
   }
 }

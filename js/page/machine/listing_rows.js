@@ -1,6 +1,6 @@
 // The visible rows of the disassembly: one button for each line that fits.
 
-import { Cell, Switch, element, onClick, pressedSwitch } from "../ui/dom.js";
+import { Cell, Switch, element, onClick, makePressedSwitch } from "../ui/dom.js";
 import * as say from "../../words/machine.js";
 
 /**
@@ -68,7 +68,7 @@ export class ListingRows {
     });
     /** @type {Row} */
     const row = {
-      button, address: 0, markedAddress: 0, mark, bytes, labels, instruction, breakpointSwitch: pressedSwitch(button), nextSwitch,
+      button, address: 0, markedAddress: 0, mark, bytes, labels, instruction, breakpointSwitch: makePressedSwitch(button), nextSwitch,
     };
     onClick(button, () => this.toggleBreakpoint(row.markedAddress));
     return row;

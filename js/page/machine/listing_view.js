@@ -86,10 +86,10 @@ export class ListingView {
     this.requestUpdate();
   }
 
-  /** @param {number} rows the number of rows that fit */
-  resize(rows) {
-    if (rows === this.rows.count) return;
-    this.rows.resize(rows);
+  /** @param {number} rowCount the number of rows that fit */
+  resize(rowCount) {
+    if (rowCount === this.rows.count) return;
+    this.rows.resize(rowCount);
     if (this.lines.length > 0) this.rereadLines();
   }
 
@@ -190,11 +190,11 @@ export class ListingView {
   async read(goal, isScrolled = false) {
     this.requestCount += 1;
     const { requestCount, counter } = this;
-    const rows = this.rows.count;
-    let lines = await this.reader.read(goal, rows);
-    if (goal.anchor !== counter && isInsideLine(lines, counter)) lines = await this.reader.read({ ...goal, anchor: counter }, rows);
+    const rowCount = this.rows.count;
+    let lines = await this.reader.read(goal, rowCount);
+    if (goal.anchor !== counter && isInsideLine(lines, counter)) lines = await this.reader.read({ ...goal, anchor: counter }, rowCount);
     if (requestCount !== this.requestCount) return false;
-    this.setLines(visibleLines(lines, goal.from, rows));
+    this.setLines(visibleLines(lines, goal.from, rowCount));
     this.showRows();
     if (!isScrolled && this.lines.length > 0) this.scroll.scrollToAddress(this.lines[0].address);
     return true;
@@ -213,18 +213,18 @@ export class ListingView {
 
   /**
    * Moves the focus by a number of rows. Scrolls if the focus leaves the visible lines.
-   * @param {number} rows
+   * @param {number} rowCount
    */
-  async moveFocus(rows) {
+  async moveFocus(rowCount) {
     const { focusedIndex } = this.rows;
     if (focusedIndex < 0 || this.lines.length === 0) return;
-    const targetIndex = focusedIndex + rows;
+    const targetIndex = focusedIndex + rowCount;
     const lastIndex = this.lines.length - 1;
     if (targetIndex >= 0 && targetIndex <= lastIndex) {
       this.rows.focus(targetIndex);
       return;
     }
-    if (await this.moveBy(targetIndex < 0 ? targetIndex : targetIndex - lastIndex)) this.focusRow(rows < 0 ? 0 : lastIndex);
+    if (await this.moveBy(targetIndex < 0 ? targetIndex : targetIndex - lastIndex)) this.focusRow(rowCount < 0 ? 0 : lastIndex);
   }
 
   /**

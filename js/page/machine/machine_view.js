@@ -58,13 +58,13 @@ export class RegistersView {
    */
   makeGroup(names, className = "cells") {
     const group = element("dl", { className }, ...names.map((name) => {
-      const title = element("dt", { id: `name-${name}`, title: this.explain(name) }, name);
-      const value = element("button", { type: "button", id: `value-${name}` });
-      value.setAttribute("aria-labelledby", `${title.id} ${value.id}`);
-      this.cells.set(name, new Cell(value));
-      if (name === "owed") this.editor.makeReadOnly(value, say.PENDING_CYCLE_IS_READ_ONLY);
-      else this.editor.makeEditable(value, { place: name.toLowerCase(), name, digits: DIGIT_COUNTS.get(name) || 1 });
-      return element("div", {}, title, element("dd", {}, value));
+      const titleNode = element("dt", { id: `name-${name}`, title: this.explain(name) }, name);
+      const valueNode = element("button", { type: "button", id: `value-${name}` });
+      valueNode.setAttribute("aria-labelledby", `${titleNode.id} ${valueNode.id}`);
+      this.cells.set(name, new Cell(valueNode));
+      if (name === "owed") this.editor.makeReadOnly(valueNode, say.PENDING_CYCLE_IS_READ_ONLY);
+      else this.editor.makeEditable(valueNode, { place: name.toLowerCase(), name, digits: DIGIT_COUNTS.get(name) || 1 });
+      return element("div", {}, titleNode, element("dd", {}, valueNode));
     }));
     makeOneTabStop(group, () => 8);
     makeFirstTabStop(group);
@@ -111,7 +111,7 @@ export class PortsView {
    */
   draw(board, face) {
     /** @type {(place: string) => string} */
-    const placeName = (place) => (face.ports.get(place) || { text: "" }).text;
+    const findPlaceName = (place) => (face.ports.get(place) || { text: "" }).text;
     this.srcList = element("dl", { className: "cells" });
     this.srcCells.clear();
     this.roms = board.roms.map(() => makeCells(2));
@@ -121,8 +121,8 @@ export class PortsView {
       const oneSwitches = bits.map(({ node }) => new Switch((isOne) => node.classList.toggle("one", isOne)));
       return { bits, oneSwitches, shownBits: "" };
     });
-    const lines = this.chains.map(({ bits }, index) => this.makeChainLine(`chain ${index}`, placeName(`chain${index}`), nodesOf(bits)));
-    this.block.replaceChildren(this.srcList, ...(board.roms.length > 0 ? [this.makeRomTable(board.roms, placeName)] : []), ...lines);
+    const lines = this.chains.map(({ bits }, index) => this.makeChainLine(`chain ${index}`, findPlaceName(`chain${index}`), nodesOf(bits)));
+    this.block.replaceChildren(this.srcList, ...(board.roms.length > 0 ? [this.makeRomTable(board.roms, findPlaceName)] : []), ...lines);
   }
 
   /**

@@ -1,7 +1,7 @@
 // The board's RAM as a table for each bank. All nibbles can be edited in place. A click on a nibble of main memory sets or clears a watch
 // on this nibble. Status characters cannot be watched.
 
-import { Cell, block, byId, element, makeFirstTabStop, makeOneTabStop, pressedSwitch } from "../ui/dom.js";
+import { Cell, block, byId, element, makeFirstTabStop, makeOneTabStop, makePressedSwitch } from "../ui/dom.js";
 import { hex, indices } from "../../core/bench/numbers.js";
 import { NIBBLES_PER_REGISTER, STATUS_CHARACTERS_PER_REGISTER } from "../../core/conditions/places.js";
 import * as say from "../../words/machine.js";
@@ -139,7 +139,7 @@ export class RamView {
     const { bank } = location;
     const srcByte = location.chip * 64 + location.register * 16 + index;
     const button = element("button", { type: "button", title: say.characterTitle(describeRegister(location), index, hex(srcByte, 2)) });
-    const watchSwitch = pressedSwitch(button);
+    const watchSwitch = makePressedSwitch(button);
     this.watchSwitches.set(`${bank}.${hex(srcByte, 2)}`, watchSwitch);
     this.makeEditable(`ram.${bank}.0x${hex(srcByte, 2)}`, button);
     let wasWatched = false;

@@ -8,8 +8,8 @@ import * as say from "../../words/machine.js";
  * @typedef {import("../../core/debug/machine_state.js").MachineState} MachineState
  * @typedef {import("../../core/debug/watch_expressions.js").WatchExpression} WatchExpression
  * @typedef {import("../../core/conditions/condition_language.js").Names} Names
- * @typedef {{ root: HTMLLIElement, value: HTMLElement, shape: string, cells: Cell[] }} Row `shape`: the row's fixed text and the locations
- *   of its values, to detect when the row needs other cells
+ * @typedef {{ root: HTMLLIElement, valuesNode: HTMLElement, layoutKey: string, cells: Cell[] }} Row `layoutKey`: the row's fixed text and
+ *   the locations of its values, to detect when the row needs other cells
  */
 
 /**
@@ -77,7 +77,7 @@ export class WatchView {
    * @returns {Row}
    */
   makeRow(expression) {
-    const value = element("span", { className: "values" }, element("small", {}, say.WHEN_PAUSED));
+    const valuesNode = element("span", { className: "values" }, element("small", {}, say.WHEN_PAUSED));
     const title = say.stopWatching(expression.name);
     const removeButton = element("button", { "type": "button", "className": "remove", title }, "\u00D7");
     removeButton.setAttribute("aria-label", title);
@@ -85,8 +85,8 @@ export class WatchView {
       this.setExpressions(this.expressions.filter((entry) => entry !== expression));
       this.storeAll();
     });
-    const root = element("li", { title: expression.text }, element("b", {}, expression.name), " ", value, " ", removeButton);
-    return { root, value, shape: "", cells: [] };
+    const root = element("li", { title: expression.text }, element("b", {}, expression.name), " ", valuesNode, " ", removeButton);
+    return { root, valuesNode, layoutKey: "", cells: [] };
   }
 
   /** Shows the current values. While time is running, the last values stay. */
@@ -103,12 +103,12 @@ export class WatchView {
    * @param {import("../../core/debug/word_values.js").Piece[]} pieces the expression's current value: fixed text and editable values
    */
   showRow(row, expression, pieces) {
-    const shape = pieces.map((piece) => (typeof piece === "string" ? piece : piece.place)).join("\n");
+    const layoutKey = pieces.map((piece) => (typeof piece === "string" ? piece : piece.place)).join("\n");
     const values = pieces.flatMap((piece) => (typeof piece === "string" ? [] : [piece]));
-    if (shape !== row.shape) {
-      row.shape = shape;
+    if (layoutKey !== row.layoutKey) {
+      row.layoutKey = layoutKey;
       row.cells = [];
-      row.value.replaceChildren(...pieces.map((piece) => {
+      row.valuesNode.replaceChildren(...pieces.map((piece) => {
         if (typeof piece === "string") return piece;
         const label = `${expression.name}, ${piece.name}`;
         const cell = new Cell(element("button", { "type": "button", "className": "value", "aria-label": label }));

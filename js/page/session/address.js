@@ -1,5 +1,5 @@
-// The page's address. The text after `#` names a saved session or an example, or contains the texts of a link. The text after `?` names the
-// example whose story the page opens.
+// The page's address. The text after `#` names a saved session or an example, or contains the texts that a link shares. The text after `?`
+// names the example whose story the page opens.
 
 /** @typedef {"session" | "example" | "link"} AddressKind */
 

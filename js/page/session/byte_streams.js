@@ -32,16 +32,16 @@ export async function readOutput(bytes, { readable, writable }, limit = Infinity
   const reader = readable.getReader();
   /** @type {Uint8Array[]} */
   const chunks = [];
-  let count = 0;
+  let byteCount = 0;
   for (let result = await reader.read(); !result.done; result = await reader.read()) {
     chunks.push(result.value);
-    count += result.value.length;
-    if (count > limit) {
+    byteCount += result.value.length;
+    if (byteCount > limit) {
       reader.cancel().catch(() => {});
       throw lengthError;
     }
   }
-  const output = new Uint8Array(count);
+  const output = new Uint8Array(byteCount);
   chunks.reduce((offset, chunk) => {
     output.set(chunk, offset);
     return offset + chunk.length;

@@ -106,8 +106,8 @@ export class CurrentSession {
   async restoreHistory() {
     const { bench, storedHistory } = this;
     const segments = storedHistory.takeStoredSegments();
-    const count = segments.length > 0 ? await bench.call("restorePast", [segments]).catch(() => -1) : -1;
-    if (count >= 0) storedHistory.continueFrom(segments, count);
+    const restoredCount = segments.length > 0 ? await bench.call("restorePast", [segments]).catch(() => -1) : -1;
+    if (restoredCount >= 0) storedHistory.continueFrom(segments, restoredCount);
   }
 
   /** Stops and saves the session that the user leaves. The record says whether time was running, so that time can resume on return. */

@@ -85,7 +85,7 @@ export class LinkSharing {
   /** @param {string} size the length of the link, formatted for the user */
   async offerFile(size) {
     const isSaved = await this.confirmDialog.ask({
-      title: say.TOO_LONG_LINK,
+      title: say.TOO_LONG_FOR_LINK,
       paragraphs: [say.linkTooLongMessage(size, MAX_LINK_LENGTH.toLocaleString("en"))],
       acceptLabel: say.SAVE_PROJECT,
       declineLabel: say.LEAVE_IT,
@@ -121,7 +121,7 @@ export class LinkSharing {
       const texts = await readLink(link);
       const result = await this.bench.call("dryRun", [texts]);
       const isWanted = await this.confirmDialog.ask({
-        title: say.openFromLink(texts.name),
+        title: say.openFromLinkQuestion(texts.name),
         paragraphs: this.describeLink(texts, result),
         acceptLabel: say.OPEN_AS_NEW,
         declineLabel: say.LEAVE_IT,

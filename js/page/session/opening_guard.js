@@ -2,7 +2,7 @@
 // open such a session automatically at every start. A flag is set before a session is opened. The flag is cleared when the page shows the
 // session and still responds.
 
-import { browserStore } from "../ui/preferences.js";
+import { getBrowserStore } from "../ui/preferences.js";
 
 /** @typedef {Pick<Storage, "getItem" | "setItem" | "removeItem">} FlagStore */
 
@@ -23,7 +23,7 @@ export class OpeningGuard {
    * @param {(action: () => void, time: number) => void} callLater calls a function after a time in milliseconds
    * @param {() => number} currentTime returns the current time in milliseconds
    */
-  constructor(store = browserStore(), callLater = (action, time) => { setTimeout(action, time); }, currentTime = () => Date.now()) {
+  constructor(store = getBrowserStore(), callLater = (action, time) => { setTimeout(action, time); }, currentTime = () => Date.now()) {
     this.store = store;
     this.callLater = callLater;
     this.currentTime = currentTime;

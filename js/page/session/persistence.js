@@ -7,14 +7,14 @@
  */
 
 /** @returns {StorageManagerLike | null} null if the browser has no storage manager */
-function browserStorageManager() {
+function getStorageManager() {
   const { storage } = navigator;
   return storage && typeof storage.persist === "function" ? storage : null;
 }
 
 export class Persistence {
   /** @param {StorageManagerLike | null} storageManager */
-  constructor(storageManager = browserStorageManager()) {
+  constructor(storageManager = getStorageManager()) {
     this.storageManager = storageManager;
     this.hasRequested = false;
     /** True if the browser has promised not to delete the page's data. */

@@ -127,8 +127,8 @@ export class SessionsView {
     const open = () => this.runAndClose(() => this.calls.openExample(example));
     const openButton = this.makeButton(example.name, say.newSession(example.name), open);
     openButton.prepend(drawBoardPicture(example.board));
-    const hint = Object.entries(TO_DO).find(([name]) => name === example.name);
-    const title = element("span", { className: "grow" }, hint ? exampleWords(example.title, hint[1]) : example.title);
+    const [, toDo = ""] = Object.entries(TO_DO).find(([name]) => name === example.name) || [];
+    const title = element("span", { className: "grow" }, toDo ? exampleWords(example.title, toDo) : example.title);
     if (!example.story) return element("li", {}, openButton, title);
     const description = say.newStory(example.name);
     const storyButton = this.makeButton(say.WITH_STORY, description, () => this.runAndClose(() => this.calls.openStory(example)));

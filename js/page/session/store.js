@@ -48,15 +48,15 @@ export class StoreError extends Error {}
 const STORE_TIMEOUT_MS = 10000;
 
 /**
- * Resolves to the answer of a browser service, such as the store. Rejects after STORE_TIMEOUT_MS, so that the page never waits forever.
+ * Resolves to the result of a browser service, such as the store. Rejects after STORE_TIMEOUT_MS, so that the page never waits forever.
  * @template Result
- * @param {Promise<Result>} answer
+ * @param {Promise<Result>} promise
  * @returns {Promise<Result>}
  */
-export function withTimeout(answer) {
+export function withTimeout(promise) {
   return new Promise((resolve, reject) => {
     const timer = setTimeout(() => reject(new StoreError(say.STORE_SILENT)), STORE_TIMEOUT_MS);
-    answer.then(resolve, reject).finally(() => clearTimeout(timer));
+    promise.then(resolve, reject).finally(() => clearTimeout(timer));
   });
 }
 

@@ -127,12 +127,12 @@ export class StoredHistory {
   /**
    * Continues a history that the bench has restored after a reload. Appends the entries since the reload.
    * @param {StoredSegment[]} restoredSegments
-   * @param {number} count the number of restored entries in the last segment
+   * @param {number} restoredCount the number of restored entries in the last segment
    */
-  continueFrom(restoredSegments, count) {
+  continueFrom(restoredSegments, restoredCount) {
     const [{ entries }, ...laterSegments] = this.segments;
     const lastSegment = restoredSegments[restoredSegments.length - 1];
-    lastSegment.entries.splice(count, Infinity, ...entries);
+    lastSegment.entries.splice(restoredCount, Infinity, ...entries);
     this.segments = [...restoredSegments, ...laterSegments].slice(-MAX_SEGMENTS);
     if (laterSegments.length > 0) return;
     this.cycles = sumCycles(lastSegment.entries);

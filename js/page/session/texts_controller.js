@@ -19,7 +19,8 @@ import * as say from "../../words/session.js";
  * @property {() => Promise<string>} save Saves the session. Resolves to the reason why it could not be saved, or to "".
  * @property {() => void} handleEdit Handles an edit of a text.
  * @property {(boardText: string) => void} updateNames Updates the names that come from the board's text, which may have changed.
- * @property {() => Promise<string>} source Resolves to source text that assembles to the contents of ROM. Rejects if the bench fails.
+ * @property {() => Promise<string>} disassembleRom Resolves to source text that assembles to the contents of ROM. Rejects if the bench
+ *   fails.
  * @property {(text: string) => Promise<boolean>} isProbablyNotProgram Resolves to true if every code line of a text has an error. Then the
  *   text is probably not a program.
  * @property {(shownName: TextName, lines: string) => void} handleLoadedTexts Handles texts that were loaded from a file. Shows the text
@@ -159,7 +160,7 @@ export class TextsController {
     const session = this.calls.session();
     if (!session) return;
     try {
-      const disassembly = await this.calls.source();
+      const disassembly = await this.calls.disassembleRom();
       const oldText = this.program.text;
       if (disassembly === oldText) {
         this.notice.show(say.SAME_AS_ROM, "refusal");

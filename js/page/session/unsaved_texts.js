@@ -1,7 +1,7 @@
 // Saves the texts that are not yet in the session store when the user leaves the page. In WebKit, the last write to that store does not
 // complete. Therefore, these texts are also written to the browser's local storage, which saves them at once.
 
-import { browserStore } from "../ui/preferences.js";
+import { getBrowserStore } from "../ui/preferences.js";
 
 /**
  * @typedef {import("./store.js").SessionRecord} SessionRecord
@@ -17,7 +17,7 @@ function formatTexts({ boardText, programText, testText, propertiesText }) {
 
 export class UnsavedTexts {
   /** @param {TextStore | null} store null if the browser has no storage */
-  constructor(store = browserStore()) {
+  constructor(store = getBrowserStore()) {
     this.store = store;
     /** The current session's texts in the session store, as JSON. */
     this.storedTexts = "";

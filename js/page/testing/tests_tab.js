@@ -116,7 +116,7 @@ export class TestsTab {
       if (sessionNumber === this.sessionNumber) this.show(report, texts);
     } catch (error) {
       if (!(error instanceof CancelledError)) throw error;
-      this.editor.showMessage(say.WAS_CANCELLED);
+      this.editor.showMessage(say.TESTS_CANCELLED);
     } finally {
       this.isRunning = false;
     }

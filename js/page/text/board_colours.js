@@ -35,8 +35,8 @@ export function colourBoardLine(line) {
   const words = tomlWords([line]).filter(({ kind }) => kind !== "end");
   const lastWord = words[words.length - 1];
   const commentRanges = findComment(line, lastWord ? lastWord.to : 0);
-  const table = /^\s*\[[^\]]*\]?\]?/.exec(line);
-  if (table) return [{ from: 0, to: table[0].length, style: "atom" }, ...commentRanges];
+  const tableMatch = /^\s*\[[^\]]*\]?\]?/.exec(line);
+  if (tableMatch) return [{ from: 0, to: tableMatch[0].length, style: "atom" }, ...commentRanges];
   const equalsSign = words.find(({ kind, text }) => kind === "punctuation" && text === "=");
   /** @param {{ from: number }} word */
   const isKey = ({ from }) => equalsSign !== undefined && from < equalsSign.from;

@@ -47,14 +47,14 @@ export class CountMarks {
   /** @param {LineCoverage[]} coverage the execution counts of lines */
   show(coverage) {
     this.clear();
-    const lines = new Map(coverage.map((entry) => [entry.line, entry]));
+    const coverageByLine = new Map(coverage.map((entry) => [entry.line, entry]));
     const { editor } = this;
     this.isShown = true;
     const maxLength = Math.max(...coverage.map((entry) => formatCount(entry).length), 1);
     editor.container.classList.add("counted");
     editor.container.style.setProperty("--counts-width", `${maxLength + 1}ch`);
-    this.marks.showTexts("counts", (line) => formatEntry(lines.get(line), formatCount),
-      (line) => formatEntry(lines.get(line), describeCount));
+    this.marks.showTexts("counts", (line) => formatEntry(coverageByLine.get(line), formatCount),
+      (line) => formatEntry(coverageByLine.get(line), describeCount));
     // Highlight lines that never ran, and jumps that were always or never taken.
     const incompleteLines = coverage.filter(({ count, isJump, jumpCount }) => (
       count === 0 || (isJump && (jumpCount === 0 || jumpCount === count))));

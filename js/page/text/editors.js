@@ -9,7 +9,7 @@ import { colourBoardLine } from "./board_colours.js";
 import { completeBoard } from "../../core/text/board_completion.js";
 import { completeProgram } from "../../core/text/completion.js";
 import { block, button, onClick } from "../ui/dom.js";
-import { EditorView } from "./text_editor_view.js";
+import { TextEditorView } from "./text_editor_view.js";
 import { moreErrorsMessage } from "../../core/board/face.js";
 import { FOLD_PATTERNS } from "../../core/text/folding.js";
 import { LiveErrors } from "./live_errors.js";
@@ -98,7 +98,7 @@ export class Editors {
   }
 
   makeProgram() {
-    return new EditorView("program-editor", {
+    return new TextEditorView("program-editor", {
       mark: ";",
       colours: makeAssemblyColours(new Set(this.instructions.keys())),
       gutters: ["breakpoints", "numbers", "addresses", "counts"],
@@ -123,7 +123,7 @@ export class Editors {
   }
 
   makeBoard() {
-    return new EditorView("board-editor", {
+    return new TextEditorView("board-editor", {
       mark: "#",
       colours: colourBoardLine,
       gutters: ["numbers"],
@@ -156,9 +156,9 @@ export class Editors {
    * @param {boolean} shouldOffer
    */
   offerBoard(shouldOffer) {
-    const offer = block("board-offer");
-    const hadFocus = offer.contains(document.activeElement);
-    offer.hidden = !shouldOffer;
+    const offerBlock = block("board-offer");
+    const hadFocus = offerBlock.contains(document.activeElement);
+    offerBlock.hidden = !shouldOffer;
     const heading = block("front-title").querySelector("button");
     if (hadFocus && !shouldOffer && heading) heading.focus();
   }
@@ -184,7 +184,7 @@ export class Editors {
     this.calls.showErrorCount(name, shownErrors.length);
   }
 
-  /** Loads the program into ROM, clears the ROM bytes that other programs have left, resets the processor and starts time. */
+  /** Loads the program into ROM, clears the ROM bytes that other programs have left, resets the processor and starts the machine. */
   async assembleAndRun() {
     if (!(await this.hasNoErrors("program"))) return;
     await this.calls.pauseTime();

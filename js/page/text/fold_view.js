@@ -34,13 +34,13 @@ function makePlaceholder(count, unfoldRange) {
 
 /**
  * Returns the CodeMirror extensions for code folding in a kind of text.
- * @param {FoldPatterns} parts the patterns of the text's foldable ranges
+ * @param {FoldPatterns} patterns the patterns of the text's foldable ranges
  */
-export function makeFolding(parts) {
+export function makeFolding(patterns) {
   return [
     foldService.of(({ doc }, from) => {
       const { number, to } = doc.lineAt(from);
-      const lastLine = findFoldEnd(makeLineReader(doc), number - 1, parts) + 1;
+      const lastLine = findFoldEnd(makeLineReader(doc), number - 1, patterns) + 1;
       return lastLine === number ? null : { from: to, to: doc.line(lastLine).to };
     }),
     codeFolding({
@@ -53,15 +53,15 @@ export function makeFolding(parts) {
 
 /**
  * Returns the folding commands for a kind of text.
- * @param {FoldPatterns} parts the patterns of the text's foldable ranges
+ * @param {FoldPatterns} patterns the patterns of the text's foldable ranges
  */
-export function makeFoldingActions(parts) {
+export function makeFoldingActions(patterns) {
   return {
     /** @param {LineEditor} editor */
     fold: (editor) => {
-      const head = findFoldStart(makeLineReader(editor.doc), editor.getCursor().line, parts);
-      if (head < 0) return;
-      editor.setCursor({ line: head, ch: Infinity });
+      const headLine = findFoldStart(makeLineReader(editor.doc), editor.getCursor().line, patterns);
+      if (headLine < 0) return;
+      editor.setCursor({ line: headLine, ch: Infinity });
       foldCode(editor.view);
     },
     /** @param {LineEditor} editor */

@@ -406,9 +406,9 @@ export class LineEditor {
    */
   showLineStyle(name, lines) {
     const style = styleOfLine(name);
-    const starts = lines.map((line) => this.doc.line(line + 1).from);
-    this.layers[name === "next" ? "nextNumber" : "lacking"].show(this, starts.map((from) => style.gutters.range(from)));
-    if (name === "next") this.layers.next.show(this, starts.map((from) => style.line.range(from)));
+    const lineStarts = lines.map((line) => this.doc.line(line + 1).from);
+    this.layers[name === "next" ? "nextNumber" : "lacking"].show(this, lineStarts.map((from) => style.gutters.range(from)));
+    if (name === "next") this.layers.next.show(this, lineStarts.map((from) => style.line.range(from)));
   }
 
   /** @param {import("@codemirror/state").Range<any>[]} ranges the underlined ranges */
@@ -435,9 +435,9 @@ export class LineEditor {
   /** Limits the width of the element below a line to the visible part of the text. */
   fitElementBelow() {
     if (!this.nodeBelow) return;
-    const gutters = findDescendant(this.view.dom, ".cm-gutters", HTMLElement).offsetWidth;
-    this.nodeBelow.style.setProperty("left", `${gutters}px`);
-    this.nodeBelow.style.setProperty("max-width", `${this.view.scrollDOM.clientWidth - gutters}px`);
+    const guttersWidth = findDescendant(this.view.dom, ".cm-gutters", HTMLElement).offsetWidth;
+    this.nodeBelow.style.setProperty("left", `${guttersWidth}px`);
+    this.nodeBelow.style.setProperty("max-width", `${this.view.scrollDOM.clientWidth - guttersWidth}px`);
   }
 
   focus() {

@@ -28,13 +28,13 @@ export class MeaningView {
   /** @param {MakeEditable} makeEditable */
   constructor(makeEditable) {
     this.makeEditable = makeEditable;
-    this.values = element("span", { className: "values" });
+    this.valuesNode = element("span", { className: "values" });
     this.meaningNode = element("span");
-    this.node = element("p", { className: "meaning" }, this.values, this.meaningNode);
+    this.node = element("p", { className: "meaning" }, this.valuesNode, this.meaningNode);
     this.tooltip = element("p", { className: "value-tip", hidden: true });
     this.tooltip.setAttribute("aria-hidden", "true");
     document.body.append(this.tooltip);
-    this.layout = "";
+    this.layoutKey = "";
     /** @type {HTMLElement[]} */
     this.cells = [];
   }
@@ -44,11 +44,11 @@ export class MeaningView {
    * @param {string} meaning the word's meaning
    */
   set(pieces, meaning) {
-    const layout = layoutKeyOf(pieces);
-    if (layout !== this.layout) {
-      this.layout = layout;
+    const layoutKey = layoutKeyOf(pieces);
+    if (layoutKey !== this.layoutKey) {
+      this.layoutKey = layoutKey;
       this.cells = [];
-      this.values.replaceChildren(...pieces.map((piece) => (typeof piece === "string" ? piece : this.makeCell(piece))));
+      this.valuesNode.replaceChildren(...pieces.map((piece) => (typeof piece === "string" ? piece : this.makeCell(piece))));
     }
     const values = pieces.flatMap((piece) => (typeof piece === "string" ? [] : [piece.value]));
     this.cells.forEach((cell, index) => {

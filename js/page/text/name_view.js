@@ -23,7 +23,7 @@ export class NameView {
   constructor(textEditor, parent, calls) {
     this.textEditor = textEditor;
     this.calls = calls;
-    this.bar = new FieldBar(parent, () => textEditor.editor.focus());
+    this.bar = new FieldBar(parent, () => textEditor.lineEditor.focus());
     this.list = element("ul", { "className": "places", "aria-label": say.PLACES_OF_NAME, "hidden": true });
     parent.append(this.list);
   }
@@ -34,7 +34,7 @@ export class NameView {
 
   /** Returns the name at the caret. If there is none, shows a message and returns "". */
   nameAtCaret() {
-    const { line, ch } = this.textEditor.editor.getCursor();
+    const { line, ch } = this.textEditor.lineEditor.getCursor();
     const name = nameAt(this.lines, line, ch);
     if (name === "") this.calls.showMessage(say.NO_NAME);
     return name;
@@ -42,10 +42,10 @@ export class NameView {
 
   /** @param {Reference} reference */
   selectReference({ line, from, to }) {
-    const { editor } = this.textEditor;
+    const { lineEditor } = this.textEditor;
     this.textEditor.goTo({ line: line - 1, ch: from });
-    editor.setSelection({ line: line - 1, ch: from }, { line: line - 1, ch: to });
-    editor.scrollIntoView({ line: line - 1, ch: to }, 60);
+    lineEditor.setSelection({ line: line - 1, ch: from }, { line: line - 1, ch: to });
+    lineEditor.scrollIntoView({ line: line - 1, ch: to }, 60);
   }
 
   /** Goes to the definition of the name at the caret. */
@@ -80,7 +80,7 @@ export class NameView {
 
   close() {
     this.list.hidden = true;
-    this.textEditor.editor.focus();
+    this.textEditor.lineEditor.focus();
   }
 
   /** Asks the user for a new name, and then renames all references to the name at the caret. */
@@ -100,23 +100,23 @@ export class NameView {
     const error = findRenamingError(lines, name, newName, calls.isInstruction);
     if (error) return error;
     const references = findReferences(lines, name);
-    const { editor } = textEditor;
+    const { lineEditor } = textEditor;
     textEditor.edit([...references].reverse().map(({ line, from, to }) => (
-      { from: editor.offset({ line: line - 1, ch: from }), to: editor.offset({ line: line - 1, ch: to }), insert: newName })));
+      { from: lineEditor.offset({ line: line - 1, ch: from }), to: lineEditor.offset({ line: line - 1, ch: to }), insert: newName })));
     calls.showMessage(say.renamedMessage(name, newName, formatQuantity(references.length, "place")));
     return "";
   }
 
   /** Asks the user for a line number and goes to that line. */
   goToLine() {
-    const lineCount = this.textEditor.editor.lineCount();
+    const lineCount = this.textEditor.lineEditor.lineCount();
     this.bar.open({
-      label: say.lineOfText(lineCount.toLocaleString("en")),
+      label: say.lineNumberLabel(lineCount.toLocaleString("en")),
       value: "",
       buttonLabel: say.GO,
       act: (text) => {
         const line = /^\d+$/.test(text) ? Number(text) : 0;
-        if (line < 1 || line > lineCount) return say.lineIs(lineCount.toLocaleString("en"));
+        if (line < 1 || line > lineCount) return say.lineRangeMessage(lineCount.toLocaleString("en"));
         this.textEditor.goTo({ line: line - 1, ch: 0 });
         this.textEditor.reveal(line);
         return "";

@@ -25,7 +25,7 @@ export class SearchBar {
     const nextButton = element("button", { type: "button", title: "Enter" }, say.NEXT);
     const closeButton = element("button", { type: "button", title: "Escape" }, say.CLOSE);
     this.replaceField = element("input", {
-      "aria-label": say.REPLACE_BY, "placeholder": say.REPLACE_BY_HINT, "autocomplete": "off", "spellcheck": false,
+      "aria-label": say.REPLACE_WITH, "placeholder": say.REPLACE_WITH_HINT, "autocomplete": "off", "spellcheck": false,
     });
     const replaceButton = element("button", { type: "button", title: say.REPLACE_TITLE }, say.REPLACE);
     const replaceAllButton = element("button", { type: "button" }, say.REPLACE_ALL);

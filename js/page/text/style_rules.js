@@ -6,7 +6,7 @@ import { StyleModule } from "style-mod";
 /** @type {Set<StyleModule>} the modules whose rules are in the style sheet */
 const addedModules = new Set();
 /** The number of rules that were inserted. */
-let count = 0;
+let insertedCount = 0;
 
 /** Makes CodeMirror insert its style rules into the page's style sheet. */
 export function insertRulesIntoSheet() {
@@ -15,7 +15,7 @@ export function insertRulesIntoSheet() {
     for (const module of [modules].flat()) {
       if (addedModules.has(module)) continue;
       addedModules.add(module);
-      for (const rule of module.getRules().split("\n").filter(Boolean)) sheet.insertRule(rule, count++);
+      for (const rule of module.getRules().split("\n").filter(Boolean)) sheet.insertRule(rule, insertedCount++);
     }
   };
 }

@@ -67,11 +67,11 @@ export class TextEditor {
     this.cachedText = null;
     const { container, label, colours, gutters, indent, folds, keys, isInFront } = options;
     /** @type {LineEditor} */
-    this.editor = new LineEditor({ container, label, description: say.TAB_INDENTS, colours, indent, keys, isInFront,
+    this.lineEditor = new LineEditor({ container, label, description: say.TAB_INDENTS, colours, indent, keys, isInFront,
       gutters: ["faults", ...gutters],
       extensions: [...(folds ? [makeFolding(folds)] : []), this.makeEventHandlers()], calls: this.makeEditorCalls() });
-    this.editor.onScroll(() => {
-      if (this.pendingScrollTop === null && container.offsetHeight > 0) this.top = this.editor.getScrollInfo().top;
+    this.lineEditor.onScroll(() => {
+      if (this.pendingScrollTop === null && container.offsetHeight > 0) this.top = this.lineEditor.getScrollInfo().top;
     });
     // A hidden editor cannot be measured, so its scroll position is restored when it appears.
     new ResizeObserver(() => this.handleResize()).observe(container);
@@ -87,7 +87,7 @@ export class TextEditor {
       },
       handleCaretMove: () => {
         calls.handleCaretMove();
-        this.onCaretMove(this.editor.getCursor().line + 1);
+        this.onCaretMove(this.lineEditor.getCursor().line + 1);
       },
       handleGutterClick: (line) => calls.handleGutterClick(line + 1),
       handleGutterMenu: (line, event) => calls.handleGutterMenu(line + 1, event),
@@ -119,15 +119,15 @@ export class TextEditor {
   }
 
   get container() {
-    return this.editor.container;
+    return this.lineEditor.container;
   }
 
   /** Restores the scroll position when a hidden text appears again, because the browser may have changed the position. */
   handleResize() {
-    if (this.container.offsetHeight > 0) this.editor.prepare();
+    if (this.container.offsetHeight > 0) this.lineEditor.prepare();
     if (this.container.offsetHeight === 0) this.scheduleScroll(this.pendingScrollTop === null ? this.top : this.pendingScrollTop);
-    else if (this.pendingScrollTop === null) this.editor.refresh();
-    else this.editor.callAfterLayout(() => this.applyScroll());
+    else if (this.pendingScrollTop === null) this.lineEditor.refresh();
+    else this.lineEditor.callAfterLayout(() => this.applyScroll());
   }
 
   /**
@@ -136,13 +136,13 @@ export class TextEditor {
    */
   scheduleScroll(top) {
     this.pendingScrollTop = top;
-    if (this.container.offsetHeight > 0) this.editor.callAfterLayout(() => this.applyScroll());
+    if (this.container.offsetHeight > 0) this.lineEditor.callAfterLayout(() => this.applyScroll());
   }
 
   /** If the text can be measured now, restores the scroll position and reveals the pending line. */
   applyScroll() {
     if (this.pendingScrollTop === null || this.container.offsetHeight === 0) return;
-    this.editor.scrollTo(this.pendingScrollTop);
+    this.lineEditor.scrollTo(this.pendingScrollTop);
     this.pendingScrollTop = null;
     if (this.pendingLine > 0) this.reveal(this.pendingLine);
     this.pendingLine = 0;
@@ -154,14 +154,14 @@ export class TextEditor {
    * @param {KeyboardEvent} event
    */
   handleKey({ key, shiftKey, ctrlKey, altKey, metaKey }) {
-    if (key === "Tab") return !this.tabMovesFocus && !ctrlKey && !altKey && !metaKey && this.editor.indent(shiftKey);
+    if (key === "Tab") return !this.tabMovesFocus && !ctrlKey && !altKey && !metaKey && this.lineEditor.indent(shiftKey);
     if (key === "Escape") this.tabMovesFocus = true;
     else if (!MODIFIER_KEYS.includes(key)) this.tabMovesFocus = false;
     return false;
   }
 
   get text() {
-    if (this.cachedText === null) this.cachedText = this.editor.getValue();
+    if (this.cachedText === null) this.cachedText = this.lineEditor.getValue();
     return this.cachedText;
   }
 
@@ -171,12 +171,12 @@ export class TextEditor {
    * @param {string} text
    */
   open(sessionId, text) {
-    const { editor, storedTexts, sessionId: previousId } = this;
+    const { lineEditor, storedTexts, sessionId: previousId } = this;
     const top = this.pendingScrollTop === null ? this.top : this.pendingScrollTop;
     const storedText = storedTexts.get(sessionId);
     storedTexts.delete(sessionId);
     const isUnchanged = storedText !== undefined && storedText.state.doc.toString() === text;
-    const state = editor.swapState(isUnchanged ? storedText.state : editor.makeState(text));
+    const state = lineEditor.swapState(isUnchanged ? storedText.state : lineEditor.makeState(text));
     if (previousId) storedTexts.set(previousId, { state, top });
     this.pendingLine = 0;
     this.hasCaret = false;
@@ -191,12 +191,12 @@ export class TextEditor {
    * @param {string} mark the character that begins a comment
    */
   toggleComment(mark) {
-    const { editor } = this;
-    const [first, last] = [editor.getCursor("from").line, editor.getCursor("to").line];
-    const lines = indices(last - first + 1).map((index) => editor.getLine(first + index) || "");
-    const endPosition = { line: last, ch: (editor.getLine(last) || "").length };
-    editor.replaceRange(toggleComments(lines, mark).join("\n"), { line: first, ch: 0 }, endPosition);
-    editor.setSelection({ line: first, ch: 0 }, { line: last, ch: Infinity });
+    const { lineEditor } = this;
+    const [first, last] = [lineEditor.getCursor("from").line, lineEditor.getCursor("to").line];
+    const lines = indices(last - first + 1).map((index) => lineEditor.getLine(first + index) || "");
+    const endPosition = { line: last, ch: (lineEditor.getLine(last) || "").length };
+    lineEditor.replaceRange(toggleComments(lines, mark).join("\n"), { line: first, ch: 0 }, endPosition);
+    lineEditor.setSelection({ line: first, ch: 0 }, { line: last, ch: Infinity });
   }
 
   /**
@@ -204,13 +204,13 @@ export class TextEditor {
    * @param {string} text
    */
   replaceText(text) {
-    this.editor.setValue(text);
+    this.lineEditor.setValue(text);
     this.hasCaret = false;
   }
 
   /** The caret's line, from 1, or 0 if the user has not placed the caret. */
   get caretLine() {
-    return this.hasCaret ? this.editor.getCursor().line + 1 : 0;
+    return this.hasCaret ? this.lineEditor.getCursor().line + 1 : 0;
   }
 
   /**
@@ -218,7 +218,7 @@ export class TextEditor {
    * @param {import("../../core/drawing/text_edits.js").TextEdit[]} edits
    */
   edit(edits) {
-    this.editor.edit(edits);
+    this.lineEditor.edit(edits);
   }
 
   /**
@@ -226,7 +226,7 @@ export class TextEditor {
    * @param {"undo" | "redo"} direction
    */
   undoOrRedo(direction) {
-    return this.editor.undoOrRedo(direction);
+    return this.lineEditor.undoOrRedo(direction);
   }
 
   /**
@@ -234,9 +234,9 @@ export class TextEditor {
    * @param {{ from: number, to: number }} lines the first and last line, from 1
    */
   select({ from, to }) {
-    for (const line of [from, to]) unfold(this.editor, line - 1);
-    this.editor.setSelection({ line: from - 1, ch: 0 }, { line: to - 1, ch: (this.editor.getLine(to - 1) || "").length });
-    this.editor.focus();
+    for (const line of [from, to]) unfold(this.lineEditor, line - 1);
+    this.lineEditor.setSelection({ line: from - 1, ch: 0 }, { line: to - 1, ch: (this.lineEditor.getLine(to - 1) || "").length });
+    this.lineEditor.focus();
   }
 
   /**
@@ -245,17 +245,17 @@ export class TextEditor {
    * @param {number} line from 1
    */
   reveal(line) {
-    const { editor } = this;
+    const { lineEditor } = this;
     if (this.pendingScrollTop !== null) {
       this.pendingLine = line;
       return;
     }
-    unfold(editor, line - 1);
-    const { top, clientHeight } = editor.getScrollInfo();
-    const lineTop = editor.heightAtLine(line - 1);
-    const margin = editor.view.defaultLineHeight * 2;
-    if (lineTop - margin < top) editor.scrollTo(Math.max(0, lineTop - margin));
-    else if (lineTop + 2 * margin > top + clientHeight) editor.scrollTo(lineTop + 2 * margin - clientHeight);
+    unfold(lineEditor, line - 1);
+    const { top, clientHeight } = lineEditor.getScrollInfo();
+    const lineTop = lineEditor.heightAtLine(line - 1);
+    const margin = lineEditor.view.defaultLineHeight * 2;
+    if (lineTop - margin < top) lineEditor.scrollTo(Math.max(0, lineTop - margin));
+    else if (lineTop + 2 * margin > top + clientHeight) lineEditor.scrollTo(lineTop + 2 * margin - clientHeight);
   }
 
   /**
@@ -263,8 +263,8 @@ export class TextEditor {
    * @param {Position} position
    */
   goTo(position) {
-    this.editor.setCursor(position);
-    this.editor.focus();
+    this.lineEditor.setCursor(position);
+    this.lineEditor.focus();
     this.tabMovesFocus = false;
   }
 }

@@ -61,7 +61,7 @@ import * as say from "../../words/text.js";
 /** The time in milliseconds for which the pointer or the caret must rest before its word is described. */
 const REST_DELAY_MS = 150;
 
-export class EditorView {
+export class TextEditorView {
   /**
    * @param {string} id
    * @param {Language} language
@@ -73,31 +73,31 @@ export class EditorView {
     const root = block(id);
     const panel = findDescendant(root, ".paper", HTMLElement);
     const container = element("div", { className: "text" });
-    const list = element("ul", { "className": "fault-list", "aria-label": say.ERRORS });
+    const errorList = element("ul", { "className": "fault-list", "aria-label": say.ERRORS });
     this.meaning = new MeaningView(language.makeEditable || (() => {}));
     this.sizeCell = new Cell(element("p", { className: "size" }));
-    panel.append(container, list, element("div", { className: "strip" }, this.meaning.node, this.sizeCell.node));
+    panel.append(container, errorList, element("div", { className: "strip" }, this.meaning.node, this.sizeCell.node));
     this.status = new Cell(findDescendant(root, ".status-text", HTMLElement));
     const label = findDescendant(root, "h2", HTMLElement).textContent || "";
     const { colours, gutters, indent, folds, isInstruction = () => false } = language;
     const [keys, textCalls] = [this.makeKeyMap(), this.makeTextCalls()];
     this.editor = new TextEditor({ container, label, colours, gutters, indent, folds, keys, isInFront: () => !root.hidden,
       calls: textCalls });
-    const { editor } = this.editor;
+    const { lineEditor } = this.editor;
     /** @type {(errors: TextError[]) => void} the listener for changes of the errors */
     this.onErrorsChange = () => {};
-    this.marks = new LineMarks(editor);
-    this.counts = new CountMarks(editor, this.marks);
-    this.lineValues = new LineValues(editor);
-    this.errorView = new ErrorView(editor, this.marks, list, (error) => this.goToError(error));
-    this.search = new SearchBar(editor, panel, label);
+    this.marks = new LineMarks(lineEditor);
+    this.counts = new CountMarks(lineEditor, this.marks);
+    this.lineValues = new LineValues(lineEditor);
+    this.errorView = new ErrorView(lineEditor, this.marks, errorList, (error) => this.goToError(error));
+    this.search = new SearchBar(lineEditor, panel, label);
     this.names = new NameView(this.editor, panel, { isInstruction, showMessage: (message) => this.status.set(message) });
     /** The timer that starts the description of the word at the pointer or the caret. */
     this.descriptionTimer = 0;
     /** The timer that updates the displayed size of the text. */
     this.sizeTimer = 0;
     this.listenToPointer(container);
-    editor.onScroll(() => this.meaning.hideTooltip());
+    lineEditor.onScroll(() => this.meaning.hideTooltip());
     onClick(findDescendant(root, ".send", HTMLButtonElement), () => calls.send());
   }
 
@@ -122,17 +122,17 @@ export class EditorView {
   makeEditingActions() {
     const { folds, isInstruction, mark } = this.language;
     const foldingActions = folds ? makeFoldingActions(folds) : {};
-    const folding = Object.entries(foldingActions).map(([name, action]) => [name, () => action(this.editor.editor)]);
+    const foldingEntries = Object.entries(foldingActions).map(([name, action]) => [name, () => action(this.editor.lineEditor)]);
     return {
       find: () => this.search.open(),
       replace: () => this.search.open(true),
       line: () => this.names.goToLine(),
       comment: () => this.editor.toggleComment(mark),
-      complete: () => this.editor.editor.complete(),
+      complete: () => this.editor.lineEditor.complete(),
       ...(isInstruction ? {
         define: () => this.names.goToDefinition(), uses: () => this.names.listReferences(), rename: () => this.names.askNewName(),
       } : {}),
-      ...Object.fromEntries(folding),
+      ...Object.fromEntries(foldingEntries),
       undo: () => this.undoOrRedo("undo"),
       redo: () => this.undoOrRedo("redo"),
     };
@@ -145,13 +145,13 @@ export class EditorView {
   performAction(name) {
     const action = this.makeEditingActions()[name];
     if (!action) return;
-    this.editor.editor.focus();
+    this.editor.lineEditor.focus();
     action();
   }
 
   /** Sets or removes the breakpoint at the caret's line. */
   toggleBreakpoint() {
-    this.calls.toggleBreakpoint(this.editor.editor.getCursor().line + 1);
+    this.calls.toggleBreakpoint(this.editor.lineEditor.getCursor().line + 1);
   }
 
   /**
@@ -160,7 +160,7 @@ export class EditorView {
    */
   editBreakpoint(fieldName) {
     const { editBreakpoint } = this.calls;
-    if (editBreakpoint) editBreakpoint(this.editor.editor.getCursor().line + 1, fieldName);
+    if (editBreakpoint) editBreakpoint(this.editor.lineEditor.getCursor().line + 1, fieldName);
   }
 
   /** @returns {import("./text_editor.js").TextCalls} */
@@ -207,7 +207,7 @@ export class EditorView {
    * @param {number} top
    */
   describeAtPointer(left, top) {
-    const position = this.editor.editor.positionAt({ left, top });
+    const position = this.editor.lineEditor.positionAt({ left, top });
     const helpText = this.messageOrHelpAt(position);
     const values = this.valuesAt(position);
     if (helpText || values.length > 0) this.meaning.set(values, helpText);
@@ -221,12 +221,12 @@ export class EditorView {
    */
   valuesAt({ line, ch }) {
     const { valuesAt } = this.language;
-    return valuesAt ? valuesAt(this.editor.editor.getLine(line) || "", ch) : [];
+    return valuesAt ? valuesAt(this.editor.lineEditor.getLine(line) || "", ch) : [];
   }
 
   /** Describes the word at the caret. */
   describeAtCaret() {
-    const position = this.editor.editor.getCursor();
+    const position = this.editor.lineEditor.getCursor();
     this.meaning.hideTooltip();
     this.meaning.set(this.valuesAt(position), this.messageOrHelpAt(position));
   }

@@ -3,7 +3,7 @@
 
 import { Face, moreErrorsMessage } from "../../core/board/face.js";
 import { button, onClick } from "../ui/dom.js";
-import { EditorView } from "./text_editor_view.js";
+import { TextEditorView } from "./text_editor_view.js";
 import { FOLD_PATTERNS } from "../../core/text/folding.js";
 import { LiveErrors } from "./live_errors.js";
 import { COLOURS } from "../../core/text/test_colours.js";
@@ -54,7 +54,7 @@ export class TextTab {
     this.kind = kind;
     this.calls = calls;
     this.tabCalls = tabCalls;
-    this.editor = new EditorView(`${kind.name}-editor`, {
+    this.editor = new TextEditorView(`${kind.name}-editor`, {
       mark: "#",
       colours: COLOURS[kind.name],
       gutters: ["numbers"],

@@ -110,7 +110,7 @@ export class Switch {
  * Returns a switch for the `aria-pressed` attribute of a button, which screen readers announce.
  * @param {HTMLElement} node
  */
-export function pressedSwitch(node) {
+export function makePressedSwitch(node) {
   return new Switch((isOn) => node.setAttribute("aria-pressed", String(isOn)));
 }
 

@@ -27,19 +27,19 @@ export function makeFolds(preferences) {
  * @param {Preferences} preferences
  */
 function makeFold(panel, title, preferences) {
-  const name = `fold.${panel.id}`;
+  const preferenceKey = `fold.${panel.id}`;
   const fold = element("button", { type: "button", className: "fold", title: say.FOLDS }, title);
-  let isFolded = preferences.get(name) === "folded";
-  const show = () => {
+  let isFolded = preferences.get(preferenceKey) === "folded";
+  const showState = () => {
     panel.classList.toggle("folded", isFolded);
     fold.setAttribute("aria-expanded", String(!isFolded));
   };
   onClick(fold, () => {
     isFolded = !isFolded;
-    preferences.set(name, isFolded ? "folded" : "unfolded");
-    show();
+    preferences.set(preferenceKey, isFolded ? "folded" : "unfolded");
+    showState();
   });
-  show();
+  showState();
   return fold;
 }
 

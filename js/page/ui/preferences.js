@@ -6,7 +6,7 @@ const STORAGE_KEY = "fethsaim.choices";
 /** @typedef {Pick<Storage, "getItem" | "setItem">} PreferenceStore */
 
 /** Returns the browser's local storage, or null if the page cannot use it. */
-export function browserStore() {
+export function getBrowserStore() {
   try {
     return localStorage;
   } catch {
@@ -30,7 +30,7 @@ function parsePreferences(text) {
 
 export class Preferences {
   /** @param {PreferenceStore | null} store null if the browser has no storage */
-  constructor(store = browserStore()) {
+  constructor(store = getBrowserStore()) {
     this.store = store;
     this.valuesByName = parsePreferences(this.read());
   }

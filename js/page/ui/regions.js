@@ -1,7 +1,7 @@
 // The regions of a narrow window. A phone shows one region of the workbench at a time, and has tabs at the bottom to choose a region. A
 // window that is too narrow for three columns shows the debugger's panels in a drawer.
 
-import { Switch, block, button, onClick, pressedSwitch } from "./dom.js";
+import { Switch, block, button, onClick, makePressedSwitch } from "./dom.js";
 
 /**
  * @typedef {import("./preferences.js").Preferences} Preferences
@@ -18,7 +18,7 @@ export class Regions {
     this.preferences = preferences;
     this.marks = REGIONS.map((name) => {
       onClick(button(`region-${name}`), () => this.show(name));
-      return { name, buttonSwitch: pressedSwitch(button(`region-${name}`)) };
+      return { name, buttonSwitch: makePressedSwitch(button(`region-${name}`)) };
     });
     this.drawerSwitch = new Switch((isOpen) => {
       button("drawer-button").setAttribute("aria-expanded", String(isOpen));

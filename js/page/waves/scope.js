@@ -49,9 +49,9 @@ function listenToPanels() {
     for (const panel of panels) if (panel.open && !(target instanceof Node && panel.contains(target))) panel.open = false;
   };
   addEventListener("pointerdown", ({ target }) => closeOthers(target), true);
-  const files = byId("wave-files", HTMLDetailsElement);
-  files.addEventListener("click", ({ target }) => {
-    if (target instanceof HTMLButtonElement) files.open = false;
+  const filesPanel = byId("wave-files", HTMLDetailsElement);
+  filesPanel.addEventListener("click", ({ target }) => {
+    if (target instanceof HTMLButtonElement) filesPanel.open = false;
   });
   for (const panel of panels) {
     panel.addEventListener("toggle", () => panel.open && closeOthers(panel));
@@ -289,8 +289,8 @@ export class Scope {
     const { waves, line, view } = this.view;
     if (!waves) return;
     this.searchStatus.set("");
-    const text = field("wave-search").value;
-    const { search, error } = readSearch(text, waves, line);
+    const query = field("wave-search").value;
+    const { search, error } = readSearch(query, waves, line);
     field("wave-search").setAttribute("aria-invalid", String(error !== ""));
     if (!search) {
       this.searchStatus.set(error);
@@ -301,7 +301,7 @@ export class Scope {
     this.view.selectRowOfLine(search.line);
     const moment = findMatch(waves, search, view.moment, isForward);
     if (moment >= 0) this.view.moveCursor(moment);
-    else this.searchStatus.set(say.notFoundMessage(text.trim(), isForward, formatNumber(view.moment)));
+    else this.searchStatus.set(say.notFoundMessage(query.trim(), isForward, formatNumber(view.moment)));
   }
 
   /** Forgets the recording when another session is opened. */

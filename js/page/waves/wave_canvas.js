@@ -122,13 +122,13 @@ function strokeLine(context, ...points) {
 /**
  * @param {Context} context
  * @param {Picture} picture
- * @param {number} row
+ * @param {number} rowIndex
  * @param {number} y
  */
-function drawRow(context, picture, row, y) {
+function drawRow(context, picture, rowIndex, y) {
   const { waves, rows, selectedIndex, view, gutter, colours, measuredRange } = picture;
-  const { line, title, colour, group, isFolded } = rows[row];
-  if (row === selectedIndex) {
+  const { line, title, colour, group, isFolded } = rows[rowIndex];
+  if (rowIndex === selectedIndex) {
     context.fillStyle = colours.chosen;
     context.fillRect(0, y, gutter + view.width, ROW_HEIGHT);
   }
@@ -139,8 +139,8 @@ function drawRow(context, picture, row, y) {
     context.fillText(`${isFolded ? "\u25B8" : "\u25BE"} ${title}`, 4, y + ROW_HEIGHT / 2);
     return;
   }
-  const name = `${row === selectedIndex ? "\u25B8" : ""}${title || nameInGutter(waves.lines[line])}`;
-  const value = valueInGutter(picture, line);
+  const name = `${rowIndex === selectedIndex ? "\u25B8" : ""}${title || formatGutterName(waves.lines[line])}`;
+  const value = formatGutterValue(picture, line);
   const valueWidth = Math.min(88, context.measureText(value).width);
   const ink = colour === "" ? colours.ink : colours[colour];
   context.fillStyle = ink;
@@ -154,7 +154,7 @@ function drawRow(context, picture, row, y) {
     context.strokeStyle = context.fillStyle = ink;
     if (isDrawnAsBoxes(waves.lines[line])) drawTexts(context, picture, line, y);
     else drawLevels(context, picture, line, y);
-    if (measuredRange && measuredRange.row === row) drawMeasuredRange(context, picture, measuredRange, y);
+    if (measuredRange && measuredRange.row === rowIndex) drawMeasuredRange(context, picture, measuredRange, y);
   });
 }
 
@@ -176,7 +176,7 @@ function drawMeasuredRange(context, { view, gutter, colours }, { from, to }, y) 
  * title.
  * @param {import("../../core/waves/wave_lines.js").WaveLine} line
  */
-function nameInGutter(line) {
+function formatGutterName(line) {
   const { name, title, kind } = line;
   if (isDecoder(line)) return title;
   return kind === "port" && title !== "" ? `${title} ${name}` : name;
@@ -187,7 +187,7 @@ function nameInGutter(line) {
  * @param {Picture} picture
  * @param {number} line
  */
-function valueInGutter({ waves, view }, line) {
+function formatGutterValue({ waves, view }, line) {
   return waves.lines[line].kind === "label" || isDecoder(waves.lines[line]) ? "" : waves.valueAt(line, view.moment);
 }
 
@@ -240,18 +240,18 @@ function drawTexts(context, { waves, view, gutter }, line, y) {
   const changes = waves.changesOf(line);
   const [high, low] = [y + LEVEL_MARGIN + 0.5, y + ROW_HEIGHT - LEVEL_MARGIN - 0.5];
   const endX = Math.min(view.width, view.xAt(waves.cycles));
-  let from = 0;
+  let startX = 0;
   let changeIndex = countUpTo(changes, Math.floor(view.from));
   strokeLine(context, gutter, high, gutter + endX, high);
   strokeLine(context, gutter, low, gutter + endX, low);
-  while (from < endX) {
-    const change = changeIndex < changes.length ? view.xAt(changes[changeIndex]) : endX;
-    const to = Math.min(Math.max(change, from + 1), endX);
+  while (startX < endX) {
+    const changeX = changeIndex < changes.length ? view.xAt(changes[changeIndex]) : endX;
+    const nextX = Math.min(Math.max(changeX, startX + 1), endX);
     const moment = Math.floor(Math.max(view.from, changeIndex > 0 ? changes[changeIndex - 1] : 0));
-    drawValue(context, waves.valueAt(line, moment), gutter + from, gutter + to, y);
-    if (to < endX) strokeLine(context, gutter + to, high, gutter + to, low);
-    from = to;
-    changeIndex = Math.max(changeIndex + 1, countUpTo(changes, view.timeAt(to)));
+    drawValue(context, waves.valueAt(line, moment), gutter + startX, gutter + nextX, y);
+    if (nextX < endX) strokeLine(context, gutter + nextX, high, gutter + nextX, low);
+    startX = nextX;
+    changeIndex = Math.max(changeIndex + 1, countUpTo(changes, view.timeAt(nextX)));
   }
 }
 
@@ -287,7 +287,7 @@ function drawCursor(context, picture, cursor, colour) {
  * @param {number} x the x coordinate of the mark
  * @param {number} right the x coordinate of the right edge
  */
-export function flagLeft(x, right) {
+export function findFlagLeft(x, right) {
   return Math.min(x - FLAG_WIDTH / 2, right - FLAG_WIDTH);
 }
 
@@ -306,9 +306,9 @@ function drawMark(context, { view, gutter, height, colours }, { moment, letter, 
   context.setLineDash([]);
   context.lineWidth = 1;
   context.textAlign = "center";
-  const flag = flagLeft(x, gutter + view.width);
-  context.fillRect(flag, y, FLAG_WIDTH, 12);
+  const left = findFlagLeft(x, gutter + view.width);
+  context.fillRect(left, y, FLAG_WIDTH, 12);
   context.fillStyle = colours.sheet;
-  context.fillText(letter, flag + FLAG_WIDTH / 2, y + 6.5);
+  context.fillText(letter, left + FLAG_WIDTH / 2, y + 6.5);
   context.textAlign = "left";
 }

@@ -63,9 +63,9 @@ export class WaveChoice {
    * @param {Waves} waves
    */
   selectChangingIn(waves) {
-    const names = chooseFirstLines(waves).map((line) => waves.lines[line].name);
-    const values = waves.lines.filter(({ name, kind }) => kind === "value" && this.selectedNames.has(name)).map(({ name }) => name);
-    const newSelection = new Set([...names, ...values]);
+    const lineNames = chooseFirstLines(waves).map((line) => waves.lines[line].name);
+    const valueNames = waves.lines.filter(({ name, kind }) => kind === "value" && this.selectedNames.has(name)).map(({ name }) => name);
+    const newSelection = new Set([...lineNames, ...valueNames]);
     if (newSelection.size === this.selectedNames.size && [...newSelection].every((name) => this.selectedNames.has(name))) return false;
     this.selectedNames = newSelection;
     this.updateCheckBoxes();

@@ -1,6 +1,6 @@
 // The view of the waves: the canvas, the cursors, and the values at the cursors as text.
 
-import { Cell, block, button, byId, field, onClick, pressedSwitch } from "../ui/dom.js";
+import { Cell, block, button, byId, field, onClick, makePressedSwitch } from "../ui/dom.js";
 import { AXIS_HEIGHT, ROW_HEIGHT, drawWaves } from "./wave_canvas.js";
 import { measureAt, describeMeasurement } from "../../core/waves/measurement.js";
 import { RowMenu } from "./row_menu.js";
@@ -81,7 +81,7 @@ export class WaveView {
     /** The moment of the trigger, or -1 if there is none. */
     this.trigger = -1;
     this.statusCells = ["wave-first", "wave-second", "wave-between"].map((id) => new Cell(block(id)));
-    this.cursorSwitches = [pressedSwitch(button("cursor-a")), pressedSwitch(button("cursor-b"))];
+    this.cursorSwitches = [makePressedSwitch(button("cursor-a")), makePressedSwitch(button("cursor-b"))];
     this.values = new WaveValues(() => this.requestDrawing());
     this.addListeners();
     this.listenToButtons();
@@ -167,8 +167,8 @@ export class WaveView {
   fit() {
     const { waves, view, rows } = this;
     const row = rows.find(({ line }) => waves !== null && line >= 0 && waves.changesOf(line).length > 0);
-    const edges = [...(waves && row ? waves.changesOf(row.line).slice(0, 2) : []), view.begin, view.begin];
-    view.placeCursors(edges[0], edges[1]);
+    const cursorMoments = [...(waves && row ? waves.changesOf(row.line).slice(0, 2) : []), view.begin, view.begin];
+    view.placeCursors(cursorMoments[0], cursorMoments[1]);
     this.changeView(() => view.showAllIfUnzoomed());
   }
 
@@ -312,9 +312,9 @@ export class WaveView {
     const { pointer, gutter, view } = this;
     const row = pointer ? this.rowIndexAt(pointer) : -1;
     const { line = -1 } = this.rows[row] || {};
-    const isOn = pointer !== null && pointer.x >= gutter && line >= 0;
-    if (this.measurementBlock.hidden === isOn) this.measurementBlock.hidden = !isOn;
-    if (!pointer || !isOn) return null;
+    const isOnWave = pointer !== null && pointer.x >= gutter && line >= 0;
+    if (this.measurementBlock.hidden === isOnWave) this.measurementBlock.hidden = !isOnWave;
+    if (!pointer || !isOnWave) return null;
     const moment = Math.min(Math.max(Math.floor(view.timeAt(pointer.x - gutter)), waves.from), waves.cycles);
     const measurement = measureAt(waves, line, moment);
     this.measurementCell.set(describeMeasurement(waves.valueAt(line, moment), measurement));

@@ -103,9 +103,9 @@ fn a_settled_file_has_no_records(rt: HostRuntime) {
         (FIRST_INPUT, FIRST_ANSWERS),
     );
     expect_equal(&rt, commit_byte(file.as_slice()), Some(1));
-    // settle the file again, now into the other slot
-    let third: (&[u8], &[u8]) = (b"step\nseq\n", b"session 4\nok 5 ran 2 end\nseq 5\n");
-    for row in [(SECOND_INPUT, SECOND_ANSWERS), third] {
+    // the input after the file was settled a second time, into the other slot
+    let third_row: (&[u8], &[u8]) = (b"step\nseq\n", b"session 4\nok 5 ran 2 end\nseq 5\n");
+    for row in [(SECOND_INPUT, SECOND_ANSWERS), third_row] {
         expect_settled(alloc, &rt, file.as_mut_slice(), row);
     }
 }
@@ -164,7 +164,7 @@ fn one_call_serves_and_settles(rt: HostRuntime) {
 }
 
 #[test]
-fn questions_do_not_change_the_file(rt: HostRuntime) {
+fn asking_does_not_change_the_file(rt: HostRuntime) {
     let alloc = rt.alloc();
     let mut file = new_file(alloc, &rt);
     let before = copy(alloc, &rt, file.as_slice());
@@ -246,18 +246,18 @@ fn files_that_hold_no_session(rt: HostRuntime) {
 /// leaves the buffer unchanged.
 fn expect_no_room(alloc: Global, rt: &impl Abort, file: &mut [u8], room: usize) {
     let mut buffer = [b'#'; 128];
-    let Some(short) = buffer.get_mut(..room) else {
+    let Some(short_buffer) = buffer.get_mut(..room) else {
         panic!(rt; "a short buffer");
     };
     for call in CALLS {
-        let error = make_call(alloc, call, file, FIRST_INPUT, short).err();
+        let error = make_call(alloc, call, file, FIRST_INPUT, short_buffer).err();
         expect_equal(rt, error, Some(ServeFault::NoRoom(FIRST_ANSWERS.len())));
     }
     expect_equal(rt, buffer, [b'#'; 128]);
 }
 
-/// Checks that a call writes the answers to `FIRST_INPUT` to the start of a longer buffer, and leaves the next byte
-/// unchanged.
+/// Checks that a call writes the answers to `FIRST_INPUT` to the start of a longer buffer, and leaves the byte after
+/// the answers unchanged.
 fn expect_room(alloc: Global, rt: &impl Abort, file: &mut [u8]) {
     let count = FIRST_ANSWERS.len();
     let mut buffer = [b'#'; 128];

@@ -252,14 +252,14 @@ const SECOND_WITHOUT_LISTING: &[u8] = b"session 2\nok 3\nno 90\nseq 3\n";
 /// fails.
 #[derive(Drop)]
 struct MemoryFailure {
-    report: &'static str,
+    part: &'static str,
 }
 
 impl MemoryFailure {
-    fn record(&mut self, rt: &impl Abort, is_refused: bool, part: &'static str) {
-        if is_refused {
-            expect_equal(rt, self.report, "nothing");
-            self.report = part;
+    fn record(&mut self, rt: &impl Abort, has_failed: bool, part: &'static str) {
+        if has_failed {
+            expect_equal(rt, self.part, "nothing");
+            self.part = part;
         }
     }
 }
@@ -285,7 +285,7 @@ fn expect_too_long_answers(
 }
 
 /// Serves the input `FIRST_INPUT`, and returns the answers that `SECOND_INPUT` must get afterwards.
-fn serve_first(
+fn serve_first_input(
     alloc: Global,
     rt: &impl Abort,
     fixture: &mut PageFixture,
@@ -303,7 +303,7 @@ fn serve_first(
 }
 
 /// Serves the input `SECOND_INPUT`, and checks the answers.
-fn serve_second(
+fn serve_second_input(
     alloc: Global,
     rt: &impl Abort,
     fixture: &mut PageFixture,
@@ -326,14 +326,14 @@ fn ask_and_settle(
     fixture: &mut PageFixture,
     failure: &mut MemoryFailure,
 ) {
-    let asked = fixture.call(alloc, rt, Call::Ask, (b"seq\n", 128));
-    failure.record(rt, asked.is_repeated, "the question");
+    let ask_report = fixture.call(alloc, rt, Call::Ask, (b"seq\n", 128));
+    failure.record(rt, ask_report.is_repeated, "the question");
     let answers = fixture.buffer;
-    let settled = fixture.call(alloc, rt, Call::ServeAndSettle, (b"seq\n", 128));
-    failure.record(rt, settled.is_repeated, "the input settled");
+    let settle_report = fixture.call(alloc, rt, Call::ServeAndSettle, (b"seq\n", 128));
+    failure.record(rt, settle_report.is_repeated, "the input settled");
     // the length of the lines `session N` and `seq N` with their line feeds
-    expect_equal(rt, asked.count, Ok(16));
-    expect_equal(rt, settled.count, Ok(16));
+    expect_equal(rt, ask_report.count, Ok(16));
+    expect_equal(rt, settle_report.count, Ok(16));
     expect_equal(rt, fixture.buffer, answers);
 }
 
@@ -343,20 +343,20 @@ fn begin_and_serve(alloc: Global, rt: &impl Abort) -> &'static str {
     let Ok(mut fixture) = PageFixture::new(alloc) else {
         return "a file";
     };
-    let mut failure = MemoryFailure { report: "nothing" };
+    let mut failure = MemoryFailure { part: "nothing" };
     failure.record(rt, fixture.begin(alloc, rt), "the file begun");
     expect_too_long_answers(alloc, rt, &mut fixture, &mut failure);
-    let second = serve_first(alloc, rt, &mut fixture, &mut failure);
+    let second_answers = serve_first_input(alloc, rt, &mut fixture, &mut failure);
     failure.record(rt, fixture.settle(alloc, rt), "the file settled");
-    serve_second(alloc, rt, &mut fixture, &mut failure, second);
+    serve_second_input(alloc, rt, &mut fixture, &mut failure, second_answers);
     ask_and_settle(alloc, rt, &mut fixture, &mut failure);
-    failure.report
+    failure.part
 }
 
 #[test]
 fn one_allocation(rt: HostRuntime) {
-    let refused = begin_and_serve(rt.alloc(), &rt);
-    let _ = println!(rt; "refused: {refused}");
+    let part = begin_and_serve(rt.alloc(), &rt);
+    let _ = println!(rt; "refused: {part}");
 }
 
 /// Settles a file of version 1, and serves an input on another file of version 1. Returns the part that ran out of
@@ -365,18 +365,18 @@ fn convert_version_1(alloc: Global, rt: &impl Abort) -> &'static str {
     let Ok(mut fixture) = PageFixture::new(alloc) else {
         return "a file";
     };
-    let mut failure = MemoryFailure { report: "nothing" };
+    let mut failure = MemoryFailure { part: "nothing" };
     overwrite_with_version_1(rt, fixture.file.as_mut_slice());
     failure.record(rt, fixture.settle(alloc, rt), "the file settled");
     overwrite_with_version_1(rt, fixture.file.as_mut_slice());
     let report = fixture.serve(alloc, rt, b"regs\n", 128);
     failure.record(rt, report.is_repeated, "the input");
     assert!(rt; fixture.has_answers(rt, &report, CONVERTED_ANSWERS));
-    failure.report
+    failure.part
 }
 
 #[test]
 fn a_file_of_version_1(rt: HostRuntime) {
-    let refused = convert_version_1(rt.alloc(), &rt);
-    let _ = println!(rt; "refused: {refused}");
+    let part = convert_version_1(rt.alloc(), &rt);
+    let _ = println!(rt; "refused: {part}");
 }

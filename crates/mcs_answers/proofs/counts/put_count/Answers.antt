@@ -18,7 +18,7 @@ loop-i-init c =
     record {
       report = c.new-text.ensures.items ∙ sym (ap lines_text none);
       count = sym (ap length none);
-      few = omega arith;
+      within = omega arith;
     }
 
 pub loop-i-preserved : goal.loop-i-preserved
@@ -42,7 +42,7 @@ loop-i-preserved c =
           record {
             report = text-of-appended-lines (flat_map f (addresses i)) (line ∷ []) _ c.loop-i.text.items _ more c.loop-i.invariant.report text;
             count = length-of-appended-lines (flat_map f (addresses i)) (line ∷ []) _ c.loop-i.lines _ more c.loop-i.invariant.count w.lines-is;
-            few = (let is = w.lines-is in let few = c.loop-i.invariant.few in omega arith);
+            within = (let is = w.lines-is in let within = c.loop-i.invariant.within in omega arith);
           })
       | else-runs-gt0 w ↦ (
           let none : f i ≡ [] = no-count-line-if-not-begun begun s i c.count_at-runs.result runs (let no = w.if-runs-gt0.false in omega arith) in
@@ -50,7 +50,7 @@ loop-i-preserved c =
           record {
             report = text-of-appended-lines (flat_map f (addresses i)) [] _ c.loop-i.text.items _ more c.loop-i.invariant.report (ap (λ (v : Vec ℕ Global). v.items) w.text-is ∙ sym (append-nil c.loop-i.text.items));
             count = length-of-appended-lines (flat_map f (addresses i)) [] _ c.loop-i.lines _ more c.loop-i.invariant.count (let is = w.lines-is in omega arith);
-            few = (let is = w.lines-is in let few = c.loop-i.invariant.few in omega arith);
+            within = (let is = w.lines-is in let within = c.loop-i.invariant.within in omega arith);
           })
     ]
 

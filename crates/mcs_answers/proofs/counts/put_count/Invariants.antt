@@ -10,5 +10,5 @@ abbrev pub invariant-loop-i : goal.invariant-loop-i
 invariant-loop-i l = record {
   report : l.text.items ≡ flat_map as_line (flat_map (count_line (instructions_begun_in (stops_of l.bench) l.n (machine_of l.bench)) (machine_of l.bench)) (addresses l.i));
   count : l.lines ≡ length (flat_map (count_line (instructions_begun_in (stops_of l.bench) l.n (machine_of l.bench)) (machine_of l.bench)) (addresses l.i));
-  few : l.lines ≤ l.i;
+  within : l.lines ≤ l.i;
 }

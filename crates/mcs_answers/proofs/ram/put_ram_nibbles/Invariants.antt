@@ -1,9 +1,9 @@
 use Rattle.std.proofs.Common.{◌≡◌, ◌+◌, ◌*◌, ◌++◌, length, map}
-use Rattle.mcs_model.specs.QueryText.{hex_digit, stretch}
+use Rattle.mcs_model.specs.QueryText.{hex_digit, sublist}
 use Rattle.mcs_answers.proofs.ram.put_ram_nibbles.Given as goal
 
 abbrev pub invariant-loop-k : goal.invariant-loop-k
 invariant-loop-k l = record {
-  text : l.answer.items ≡ l.fn.answer.items ++ map hex_digit (stretch l.bench.bus.ram (l.bank * 256 + l.chip * 64 + l.r * 16) l.k);
+  text : l.answer.items ≡ l.fn.answer.items ++ map hex_digit (sublist l.bench.bus.ram (l.bank * 256 + l.chip * 64 + l.r * 16) l.k);
   count : length l.answer.items ≡ length l.fn.answer.items + l.k;
 }

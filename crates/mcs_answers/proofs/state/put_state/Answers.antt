@@ -24,9 +24,9 @@ returns c =
     c.put_chain_list.ensures.text
     c.put_key_list.ensures.text
     c.put-2.ensures.text
-    c.put_lamps_without_feed.ensures.text
+    c.put_lamps_without_line_feed.ensures.text
     (c.put_address_list-2.ensures.text
-    ∙ ap (λ (v : List ℕ). c.put_lamps_without_feed.new.answer.items ++ codes " breaks " ++ comma_list (map address_text v)) c.breaks.ensures.same)
+    ∙ ap (λ (v : List ℕ). c.put_lamps_without_line_feed.new.answer.items ++ codes " breaks " ++ comma_list (map address_text v)) c.breaks.ensures.same)
     (c.put_watch_list.ensures.text
     ∙ ap (λ (v : List ℕ). c.put_address_list-2.new.answer.items ++ codes " watches " ++ comma_list (map watch_text v)) c.watches.ensures.same)
     c.put-3.ensures.text

@@ -4,12 +4,12 @@ use Rattle.mcs_bench.specs.Runs.{RunContinuesAt}
 use Rattle.mcs_answers.proofs.ForecastLines.{IsTraceSoFar}
 use Rattle.mcs_answers.proofs.traces.add_lines.Given as goal
 
-abbrev pub invariant-loop-done : goal.invariant-loop-done
-invariant-loop-done g l = record {
-  continues : RunContinuesAt (stops_of l.fn.bench) l.n l.done (machine_of l.fn.bench) (machine_of l.copy);
+abbrev pub invariant-loop-elapsed : goal.invariant-loop-elapsed
+invariant-loop-elapsed g l = record {
+  continues : RunContinuesAt (stops_of l.fn.bench) l.n l.elapsed (machine_of l.fn.bench) (machine_of l.copy);
   stops : stops_of l.copy ≡ stops_of l.fn.bench;
-  report : IsTraceSoFar l.probes l.done (machine_of l.fn.bench) (machine_of l.copy) l.rows.last.items l.text.items l.lines;
+  report : IsTraceSoFar l.probes l.elapsed (machine_of l.fn.bench) (machine_of l.copy) l.rows.last.items l.text.items l.lines;
 }
 
-abbrev pub decreases-loop-done : goal.decreases-loop-done
-decreases-loop-done g l = l.n - l.done
+abbrev pub decreases-loop-elapsed : goal.decreases-loop-elapsed
+decreases-loop-elapsed g l = l.n - l.elapsed

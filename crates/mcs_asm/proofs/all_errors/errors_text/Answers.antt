@@ -11,4 +11,4 @@ text_is_errors_text errors empty head text e h t = t ∙ ap (λ (x : List ℕ). 
 pub returns : goal.returns
 returns c =
     ap (λ (v : Vec ℕ Global). v.items) c.into_bytes.ensures.value
-    ∙ text_is_errors_text c.args.errors.now _ _ _ c.new-out.ensures.bytes c.in_ok-push_count.ensures c.in_ok-push_errors.ensures
+    ∙ text_is_errors_text c.args.errors.now _ _ _ c.new-out.ensures.bytes c.in_ok-push_header.ensures c.in_ok-push_errors.ensures

@@ -5,4 +5,4 @@ use Rattle.mcs_asm.proofs.ValueLists.{prepend_all}
 use Rattle.mcs_asm.proofs.bytes.values.Given as goal
 
 abbrev pub invariant-loop-operand : goal.invariant-loop-operand
-invariant-loop-operand l = prepend_all l.found.items (values_in l.names.names (map operand_view (drop l.operand-index l.operands))) ≡ values_in l.names.names (map operand_view l.operands)
+invariant-loop-operand l = prepend_all l.value_list.items (values_in l.names.names (map operand_view (drop l.operand-index l.operands))) ≡ values_in l.names.names (map operand_view l.operands)

@@ -1,7 +1,7 @@
 use Rattle.std.proofs.Common.{◌<◌, ◌∙◌, arith, length, sym}
 use Rattle.std.proofs.lemmas.List.{get_or_read}
 use Rattle.std.proofs.lemmas.Bool.Decides.{nat_tests}
-use Rattle.mcs_bench.proofs.Marks.{insert-at-first-greater}
+use Rattle.mcs_bench.proofs.OrderedLists.{insert-at-first-greater}
 use Rattle.mcs_bench.proofs.breaks.insertion_index.Goals as goal
 
 pub returns-then-lt-clause-index : goal.returns-then-lt-clause-index

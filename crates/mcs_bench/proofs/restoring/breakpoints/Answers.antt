@@ -1,7 +1,7 @@
 use Rattle.std.proofs.Common.{◌≡◌, ◌∙◌, ◌<◌, ℕ, List, ap, arith, take, get_or}
 use Rattle.std.proofs.lemmas.List.Elements.{All-get_or}
 use Rattle.mcs_model.specs.Listed.{with_listed}
-use Rattle.mcs_bench.proofs.Marks.{with_listed-next-element}
+use Rattle.mcs_bench.proofs.OrderedLists.{with_listed-next-element}
 use Rattle.mcs_bench.proofs.restoring.breakpoints.Goals as goal
 
 pub loop-at-preserved : goal.loop-at-preserved

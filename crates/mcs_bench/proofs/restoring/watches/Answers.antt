@@ -1,7 +1,7 @@
 use Rattle.std.proofs.Common.{◌≡◌, ◌∙◌, ◌/◌, ◌%◌, ℕ, List, ap, arith, length, length-take-le, take, get_or}
 use Rattle.mcs_model.specs.Listed.{with_listed}
 use Rattle.mcs_model.specs.Bus.{ram_index}
-use Rattle.mcs_bench.proofs.Marks.{with_listed-next-element, room-if-fewer-than-eight}
+use Rattle.mcs_bench.proofs.OrderedLists.{with_listed-next-element, room-if-fewer-than-eight}
 use Rattle.mcs_bench.proofs.restoring.watches.Goals as goal
 
 pub loop-at-preserved : goal.loop-at-preserved

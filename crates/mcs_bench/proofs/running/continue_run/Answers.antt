@@ -34,6 +34,6 @@ returns-in-Some c =
     let ran : IsInstructionRun c.args.left s t c.run_instruction-cycles.result.1 =
     subst (λ (r : Regs). IsInstructionRun c.args.left s (r, c.run_instruction-cycles.new.rig) c.run_instruction-cycles.result.1) (sym c.set_pc.ensures)
     (subst (λ (r : Regs). IsInstructionRun c.args.left (r, c.args.rig.now) (record c.run_instruction-cycles.new.cpu { pc = c.run_instruction-cycles.result.0 }, c.run_instruction-cycles.new.rig) c.run_instruction-cycles.result.1) here c.run_instruction-cycles.ensures.ran) in
-    let predicted : PredictsWatchChange c.args.watches.now s c.op_changes_any_watch-changes.result = subst (λ (r : Regs). PredictsWatchChange c.args.watches.now (r, c.args.rig.now) c.op_changes_any_watch-changes.result) here c.op_changes_any_watch-changes.ensures in
-    let mark = c.debug_stop_at.ensures.mark ∙ ap (λ p. debug_stop_of (eqb c.set_pc.new.self.owed 0 && is_listed c.args.breaks.now p) c.op_changes_any_watch-changes.result) (sym (ap (λ (r : Regs). r.pc) c.set_pc.ensures)) in
-    instruction-result-of-op stops c.args.left s t c.in-Some.op c.op_changes_any_watch-changes.result _ free at ran c.run_instruction-cycles.ensures.goes predicted mark refl
+    let predicted : PredictsWatchChange c.args.watches.now s c.op_changes_any_watch-changes_watch.result = subst (λ (r : Regs). PredictsWatchChange c.args.watches.now (r, c.args.rig.now) c.op_changes_any_watch-changes_watch.result) here c.op_changes_any_watch-changes_watch.ensures in
+    let mark = c.debug_stop_at.ensures.mark ∙ ap (λ p. debug_stop_of (eqb c.set_pc.new.self.owed 0 && is_listed c.args.breaks.now p) c.op_changes_any_watch-changes_watch.result) (sym (ap (λ (r : Regs). r.pc) c.set_pc.ensures)) in
+    instruction-result-of-op stops c.args.left s t c.in-Some.op c.op_changes_any_watch-changes_watch.result _ free at ran c.run_instruction-cycles.ensures.goes predicted mark refl

@@ -12,23 +12,23 @@ returns-in-Some g c =
     let stops : StopConditions = record { breaks = c.args.breaks.now; watches = c.args.watches.now } in
     let s : Machine = (c.args.cpu.now, c.args.rig.now) in
     let counter : ℕ = c.regs-at.result.pc in
-    let there : counter ≡ c.args.cpu.now.pc = ap (λ (r : Regs). r.pc) c.regs-at.ensures.same in
+    let counter_is_pc : counter ≡ c.args.cpu.now.pc = ap (λ (r : Regs). r.pc) c.regs-at.ensures.same in
     let owed : c.args.cpu.now.owed ≡ 1 = sym (ap (λ (r : Regs). r.owed) c.regs.ensures.same) ∙ c.if-regs-eq1.true in
-    let on = ap (λ p. debug_stop_of (is_listed c.args.breaks.now p) false) there ∙ sym c.run_second_cycle.ensures.mark ∙ c.in-Some.is in
+    let on = ap (λ p. debug_stop_of (is_listed c.args.breaks.now p) false) counter_is_pc ∙ sym c.run_second_cycle.ensures.mark ∙ c.in-Some.is in
     subst (λ (r : Regs). RunStopsAt stops c.args.n s (record r { pc = counter }, c.args.rig.now) 1 (Some c.in-Some.why)) (sym c.run_second_cycle.ensures.state)
-    (stop-after-second-cycle stops c.args.n s counter c.in-Some.why c.if-n-gt0.true owed there on)
+    (stop-after-second-cycle stops c.args.n s counter c.in-Some.why c.if-n-gt0.true owed counter_is_pc on)
 
 pub loop-left-init : goal.loop-left-init
 loop-left-init g c =
     let stops : StopConditions = record { breaks = c.args.breaks.now; watches = c.args.watches.now } in
     let s : Machine = (c.args.cpu.now, c.args.rig.now) in
     let counter : ℕ = c.regs-at.result.pc in
-    let there : counter ≡ c.args.cpu.now.pc = ap (λ (r : Regs). r.pc) c.regs-at.ensures.same in
+    let counter_is_pc : counter ≡ c.args.cpu.now.pc = ap (λ (r : Regs). r.pc) c.regs-at.ensures.same in
     elim c.if-n-gt0.branch [
       | then-n-gt0+then-regs-eq1+in_default w ↦ (
           let owed : c.args.cpu.now.owed ≡ 1 = sym (ap (λ (r : Regs). r.owed) w.regs.ensures.same) ∙ w.if-regs-eq1.true in
-          let off = ap (λ p. debug_stop_of (is_listed c.args.breaks.now p) false) there ∙ sym w.run_second_cycle.ensures.mark ∙ w.in_default.is in
-          let first = invariant-after-second-cycle stops c.args.n s counter w.if-n-gt0.true owed there off in
+          let off = ap (λ p. debug_stop_of (is_listed c.args.breaks.now p) false) counter_is_pc ∙ sym w.run_second_cycle.ensures.mark ∙ w.in_default.is in
+          let first = invariant-after-second-cycle stops c.args.n s counter w.if-n-gt0.true owed counter_is_pc off in
           subst (λ l. RunInvariant stops c.args.n l s (record c.if-n-gt0.cpu { pc = counter }, c.args.rig.now)) (sym w.left-is)
           (subst (λ (r : Regs). RunInvariant stops c.args.n (c.args.n - 1) s (record r { pc = counter }, c.args.rig.now)) (sym (w.cpu-is ∙ w.run_second_cycle.ensures.state)) first))
       | else-n-gt0 w ↦ (
@@ -37,7 +37,7 @@ loop-left-init g c =
             | else-n-gt0-via-else-n-gt0 v ↦ absurd (let none = v.if-n-gt0.false in omega arith)
           ] in
           subst (λ l. RunInvariant stops c.args.n l s (record c.if-n-gt0.cpu { pc = counter }, c.args.rig.now)) (sym w.left-is)
-          (subst (λ (r : Regs). RunInvariant stops c.args.n c.args.n s (record r { pc = counter }, c.args.rig.now)) (sym w.cpu-is) (invariant-at-start stops c.args.n s counter free there)))
+          (subst (λ (r : Regs). RunInvariant stops c.args.n c.args.n s (record r { pc = counter }, c.args.rig.now)) (sym w.cpu-is) (invariant-at-start stops c.args.n s counter free counter_is_pc)))
     ]
 
 pub returns-then-contains : goal.returns-then-contains

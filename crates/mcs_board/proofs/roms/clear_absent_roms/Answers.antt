@@ -1,5 +1,5 @@
 use Rattle.std.proofs.Common.{◌≡◌, ◌∙◌, ℕ, ◌/◌, ◌<◌, List, length, get_or, is_some, arith, if◌then◌else◌}
-use Rattle.mcs_nibble.proofs.TabledLemmas.{table_of-unique}
+use Rattle.mcs_nibble.proofs.TableLemmas.{table_of-unique}
 use Rattle.mcs_model.specs.declared.board.BoardParts.{BoardParts}
 use Rattle.mcs_model.specs.Boards.{rom_masks}
 use Rattle.mcs_model.specs.ChipWrites.{rom_of_board}

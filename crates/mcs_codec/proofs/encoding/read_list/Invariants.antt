@@ -3,7 +3,8 @@ use Rattle.mcs_codec.specs.Reading.{read_times}
 use Rattle.mcs_codec.proofs.Loops.{with_front}
 use Rattle.mcs_codec.proofs.encoding.read_list.Given as goal
 
--- the values already read, followed by the values still to be read, are all the values
+-- the values read so far, followed by the values still to be read, are the values that the whole
+-- reading gives
 abbrev pub invariant-loop : goal.invariant-loop
 invariant-loop g l = record {
   count : length l.items.items ≡ l.counter;

@@ -18,8 +18,8 @@ returns g c =
     ∙ ap₂ with_rule c.new-2.ensures.app new_file_is in
     let open_command_is : app_of c.in_ok-open_command.open_command ≡ subcommand_with_file (codes "open") = c.in_ok-open_command.ensures.shape (search rules)
     ∙ ap₂ with_rule c.new-4.ensures.app open_file_is in
-    let program_is : app_of c.in_ok-with_both.with_both ≡ program = c.in_ok-with_both.ensures.shape (search rules)
-    ∙ ap₂ with_subcommand (c.in_ok-with_new.ensures.shape (search rules) ∙ ap₂ with_subcommand c.new-bench.ensures.app (ap (λ (a : App). a.top) new_command_is)) (ap (λ (a : App). a.top) open_command_is) in
+    let program_is : app_of c.in_ok-app_with_both.app_with_both ≡ program = c.in_ok-app_with_both.ensures.shape (search rules)
+    ∙ ap₂ with_subcommand (c.in_ok-app_with_new.ensures.shape (search rules) ∙ ap₂ with_subcommand c.new-app.ensures.app (ap (λ (a : App). a.top) new_command_is)) (ap (λ (a : App). a.top) open_command_is) in
     let arguments = map g.S.AsStr.text c.args.arguments.now in
     let parse = c.try_get_matches_from in
     record {

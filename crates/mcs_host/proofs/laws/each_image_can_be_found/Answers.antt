@@ -8,4 +8,4 @@ abbrev file_with_found_bytes : FileDisk → List ℕ → FileDisk
 file_with_found_bytes file c = record file { inner_disk = record file.inner_disk { end = record file.inner_disk.end { notes = file.inner_disk.history.notes; start = c } } }
 
 pub returns : goal.returns
-returns g = λ file c image. (file_with_found_bytes file c, image, record { faults = refl; bytes = refl; start = refl; calls = refl; asked = refl; stable = refl; calls_before_end = refl; found = refl })
+returns g = λ file c image. (file_with_found_bytes file c, image, record { faults = refl; bytes = refl; start = refl; calls = refl; same_host_state = refl; stable = refl; calls_before_end = refl; found = refl })

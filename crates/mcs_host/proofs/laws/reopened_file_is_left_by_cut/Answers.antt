@@ -9,7 +9,7 @@ use Rattle.mcs_host.proofs.laws.reopened_file_is_left_by_cut.Goals as goal
 pub returns : goal.returns
 returns c = λ t file reopened honest left reopened_honest opened same.
     let start = file.inner_disk.history.start in
-    let found = found_image_is_image_since start (calls_in file.inner_disk.history.notes) left.never_made left.made (calls_in file.inner_disk.end.notes) t (bytes_found_in file) left.all left.calls_before_end left.clock_reached honest in
+    let found = found_image_is_image_since start (calls_in file.inner_disk.history.notes) left.calls_not_made left.calls_made (calls_in file.inner_disk.end.notes) t (bytes_found_in file) left.all left.calls_before_end left.clock_reached honest in
     record {
       honest = reopened_honest;
       found = subst (λ (bytes : List ℕ). images_after_since start (calls_in file.inner_disk.history.notes) t bytes) (sym same) found;

@@ -12,9 +12,9 @@ use Rattle.mcs_journal.proofs.reading.read_record.Goals.{then-len-eq0-via-then-l
 pub returns-then-len-eq0-clause-damaged : goal.returns-then-len-eq0-clause-damaged
 returns-then-len-eq0-clause-damaged g c = λ h is_damaged.
     let f = bytes_of (g.D.Disk.state c.args.disk.now) in
-    let commit_byte = c.in_ok-read_at.ensures.given h in
+    let commit_byte = c.in_ok-read_at.ensures.read_bytes h in
     let first = c.read_at.ensures.reads.adds_no_image in
-    let prefix = c.in_ok-read_at-2.ensures.given (c.read_at.ensures.reads.counts.honest.1 h) ∙ ap (part (c.args.at + 1) 2) (bytes_unchanged_without_new_image _ _ first) in
+    let prefix = c.in_ok-read_at-2.ensures.read_bytes (c.read_at.ensures.reads.counts.honest.1 h) ∙ ap (part (c.args.at + 1) 2) (bytes_unchanged_without_new_image _ _ first) in
     no_record_at_if_length_is_invalid f c.args.at c.args.room _ _ _ commit_byte (search rules) prefix refl (λ some few fits. elim c.then-len-eq0.branch [
       | then-len-eq0-via-then-len-eq0 w ↦ omega arith
       | then-len-eq0-via-else-len-eq0+then-len-gt-MAX_RECORD_SIZE w ↦ omega arith
@@ -24,13 +24,13 @@ returns-then-len-eq0-clause-damaged g c = λ h is_damaged.
 pub returns-clause-next : goal.returns-clause-next
 returns-clause-next g c = λ h.
     let f = bytes_of (g.D.Disk.state c.args.disk.now) in
-    let commit_byte = c.in_ok-read_at.ensures.given h in
+    let commit_byte = c.in_ok-read_at.ensures.read_bytes h in
     let first = c.read_at.ensures.reads.adds_no_image in
     let h1 = c.read_at.ensures.reads.counts.honest.1 h in
     let second = c.read_at-2.ensures.reads.adds_no_image in
     let h2 = c.read_at-2.ensures.reads.counts.honest.1 h1 in
-    let prefix = c.in_ok-read_at-2.ensures.given h1 ∙ ap (part (c.args.at + 1) 2) (bytes_unchanged_without_new_image _ _ first) in
-    let payload = c.in_ok-read_at-3.ensures.given h2 in
+    let prefix = c.in_ok-read_at-2.ensures.read_bytes h1 ∙ ap (part (c.args.at + 1) 2) (bytes_unchanged_without_new_image _ _ first) in
+    let payload = c.in_ok-read_at-3.ensures.read_bytes h2 in
     let n : ℕ = get_or c.read_at-2.new.into 0 0 * 256 + get_or c.read_at-2.new.into 1 0 in
     let long : length c.read_at-3.new.into ≡ c.in_ok-bytes.bytes.len = c.read_at-3.auto.into ∙ c.deref_mut.ensures.len in
     let count : c.in_ok-bytes.bytes.len ≡ n = c.in_ok-bytes.ensures.len in

@@ -26,8 +26,8 @@ returns-in_err-commit-clause-changes g c = λ h durable old_snap records held ot
     (λ x torn. holds_after_torn_area_write f old_snap c.args.snap.now _ records c.start.result held (c.start.ensures ∙ ap start_of other) area x (area_write_is_torn_by_area_size _ _ _ _ _ area torn)) _ (c.commit.ensures.commits h) in
     record { after = search rules; durable = search rules; ticks = search rules; leaves = images }
 
-pub returns-clause-named : goal.returns-clause-named
-returns-clause-named g c = λ h.
+pub returns-clause-selected : goal.returns-clause-selected
+returns-clause-selected g c = λ h.
     let new = g.D.Disk.state c.commit-2.new.disk in
     let last = c.commit-2.ensures.commits (c.commit.ensures.call.honest.1 h) in
     on_ok_weaker _ (λ (here : part 8 1 (bytes_of new) ≡ c.selector.result ∷ []). ap slot_selected_by (sym (byte_of_part 8 1 (bytes_of new) 0 (omega arith)) ∙ ap (λ (l : List ℕ). get_or l 0 0) here ∙ c.selector.ensures) ∙ slot_selected_by_its_selector c.args.other) last.written

@@ -23,8 +23,8 @@ file_holds_snapshot_after_first_header g c snap area long is_area there torn hea
     (sym (part_of_part 0 16 9 7 7 c (omega arith) (omega arith)) ∙ ap (part 9 7) header)
     is_area (ap (λ (s : ℕ). part s 16385 c) (ap start_of (slot_of_first_header c header)) ∙ part_unchanged_outside_write 0 16 16 16385 g c torn (inr (omega arith)) ∙ there)
 
-pub returns-clause-made : goal.returns-clause-made
-returns-clause-made g c = λ h.
+pub returns-clause-written : goal.returns-clause-written
+returns-clause-written g c = λ h.
     let mid = c.commit.ensures.call.honest.1 h in
     let area = c.encode_snapshot.ensures in
     let step = c.in_ok-commit.ensures.commits h in
@@ -33,8 +33,8 @@ returns-clause-made g c = λ h.
     on_ok_weaker _ (λ (here : part 0 16 (bytes_of (g.D.Disk.state c.commit-2.new.disk)) ≡ FIRST_HEADER).
     file_holds_snapshot_after_first_header _ _ _ _ (length-bytes_of (g.D.Disk.state c.commit-2.new.disk) ∙ ap length (c.commit-2.ensures.call.start ∙ c.commit.ensures.call.start) ∙ c.requires.size) area there last.outside here) last.written
 
-pub returns-clause-named : goal.returns-clause-named
-returns-clause-named g c = λ h. on_ok_weaker _ (λ (here : part 0 16 (bytes_of (g.D.Disk.state c.commit-2.new.disk)) ≡ FIRST_HEADER). slot_of_first_header _ here) (c.commit-2.ensures.commits (c.commit.ensures.call.honest.1 h)).written
+pub returns-clause-selected : goal.returns-clause-selected
+returns-clause-selected g c = λ h. on_ok_weaker _ (λ (here : part 0 16 (bytes_of (g.D.Disk.state c.commit-2.new.disk)) ≡ FIRST_HEADER). slot_of_first_header _ here) (c.commit-2.ensures.commits (c.commit.ensures.call.honest.1 h)).written
 
 pub returns-clause-is_later : goal.returns-clause-is_later
 returns-clause-is_later g c = λ h. is_later_transitive _ _ _ (c.commit.ensures.commits h).later (c.commit-2.ensures.commits (c.commit.ensures.call.honest.1 h)).later

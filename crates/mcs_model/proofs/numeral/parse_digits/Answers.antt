@@ -14,8 +14,8 @@ returns-in_err-digit c =
 
 pub loop-c-preserved : goal.loop-c-preserved
 loop-c-preserved c =
-    let made : c.min-value.result ≡ min (c.loop-c.value * c.args.base + c.in_ok-digit.digit) 4294967296 = rw (c.min-value.ensures, c.from-in-loop-c.ensures, c.from-in-loop-c-2.ensures) refl in
-    value_with_digit_read c.args.base c.loop-c.value c.loop-c.c-index c.args.ds.now c.from.result c.in_ok-digit.digit c.min-value.result c.requires c.loop-c-test.true c.from.ensures c.in_ok-digit.ensures.value.0 c.in_ok-digit.ensures.value.1 made c.loop-c.invariant
+    let capped : c.min-value.result ≡ min (c.loop-c.value * c.args.base + c.in_ok-digit.digit) 4294967296 = rw (c.min-value.ensures, c.from-in-loop-c.ensures, c.from-in-loop-c-2.ensures) refl in
+    value_with_digit_read c.args.base c.loop-c.value c.loop-c.c-index c.args.ds.now c.from.result c.in_ok-digit.digit c.min-value.result c.requires c.loop-c-test.true c.from.ensures c.in_ok-digit.ensures.value.0 c.in_ok-digit.ensures.value.1 capped c.loop-c.invariant
 
 pub returns : goal.returns
 returns c =

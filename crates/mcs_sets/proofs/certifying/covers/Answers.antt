@@ -11,7 +11,7 @@ returns c = λ h.
       ret = λ k few inside. absurd (omega arith);
       acc = sym c.allows_acc.ensures ∙ c.if-not-allows_acc.false;
       locations = c.allows_all_values.ensures h;
-      carry = c.machine_is_sized.ensures.carry;
-      registers = c.machine_is_sized.ensures.registers;
-      banks = c.machine_is_sized.ensures.banks;
+      carry = c.machine_is_well_formed.ensures.carry;
+      registers = c.machine_is_well_formed.ensures.registers;
+      banks = c.machine_is_well_formed.ensures.banks;
     }

@@ -27,4 +27,4 @@ returns c = λ _.
     let end = c.loop-i-test.false in
     closure-suffices r.board r.rom es (with_zero_counts (c.args.cpu.now, r))
     (λ e there. subst (StaysCoveredOneCycle r.board r.rom es) there.2 (c.loop-i.invariant.stays_covered_one_cycle there.0 e (let inside = there.1 in omega arith)))
-    c.rig_is_valid.ensures (c.first_covers.ensures c.if-not-first_covers.false)
+    c.rig_is_valid.ensures (c.first_entry_covers.ensures c.if-not-first_entry_covers.false)

@@ -23,24 +23,24 @@ returns-in-Ask g c =
 pub returns-in-Listing : goal.returns-in-Listing
 returns-in-Listing g c =
     answered_equal_input _ _ _ (Line (Listing c.in-Listing.from c.in-Listing.lines)) _ _ (ap Line (search rules))
-    (answered_with_allocation c.set_listing-put.result _ (Line (Listing c.in-Listing.from c.in-Listing.lines)) _ c.set_listing-put.new.self _ refl refl
-    (rw c.bench-in-Listing.ensures.is at c.set_listing-put.ensures) c.outcome_of_allocation.ensures.put c.outcome_of_allocation.ensures.refused)
+    (answered_with_allocation c.set_listing-set_result.result _ (Line (Listing c.in-Listing.from c.in-Listing.lines)) _ c.set_listing-set_result.new.self _ refl refl
+    (rw c.bench-in-Listing.ensures.is at c.set_listing-set_result.ensures) c.outcome_of_allocation.ensures.answered c.outcome_of_allocation.ensures.refused)
 
 pub returns-in-Board : goal.returns-in-Board
 returns-in-Board g c =
-    answered_equal_input _ _ _ (Line Board) _ _ (ap Line (search rules)) (answered_with_allocation c.set_board-put.result _ (Line Board) _ c.set_board-put.new.self _ refl refl (rw c.bench-in-Board.ensures.is at c.set_board-put.ensures) c.outcome_of_allocation-in-Board.ensures.put c.outcome_of_allocation-in-Board.ensures.refused)
+    answered_equal_input _ _ _ (Line Board) _ _ (ap Line (search rules)) (answered_with_allocation c.set_board-set_result.result _ (Line Board) _ c.set_board-set_result.new.self _ refl refl (rw c.bench-in-Board.ensures.is at c.set_board-set_result.ensures) c.outcome_of_allocation-in-Board.ensures.answered c.outcome_of_allocation-in-Board.ensures.refused)
 
 pub returns-in-Count : goal.returns-in-Count
 returns-in-Count g c =
     answered_equal_input _ _ _ (Line (Count c.in-Count.n)) _ _ (ap Line (search rules))
-    (answered_with_allocation c.set_count-put.result _ (Line (Count c.in-Count.n)) _ c.set_count-put.new.self _ refl refl
-    (rw c.bench-in-Count.ensures.is at c.set_count-put.ensures) c.outcome_of_allocation-in-Count.ensures.put c.outcome_of_allocation-in-Count.ensures.refused)
+    (answered_with_allocation c.set_count-set_result.result _ (Line (Count c.in-Count.n)) _ c.set_count-set_result.new.self _ refl refl
+    (rw c.bench-in-Count.ensures.is at c.set_count-set_result.ensures) c.outcome_of_allocation-in-Count.ensures.answered c.outcome_of_allocation-in-Count.ensures.refused)
 
 pub returns-in-Trace : goal.returns-in-Trace
 returns-in-Trace g c =
     answered_equal_input _ _ _ (Line (Trace c.in-Trace.n c.in-Trace.probes)) _ _ (ap Line (search rules))
-    (answered_with_allocation c.set_trace-put.result _ (Line (Trace c.in-Trace.n c.in-Trace.probes)) _ c.set_trace-put.new.self _ refl refl
-    (rw (c.bench-in-Trace.ensures.is, c.as_slice.ensures.value) at c.set_trace-put.ensures) c.outcome_of_allocation-in-Trace.ensures.put c.outcome_of_allocation-in-Trace.ensures.refused)
+    (answered_with_allocation c.set_trace-set_result.result _ (Line (Trace c.in-Trace.n c.in-Trace.probes)) _ c.set_trace-set_result.new.self _ refl refl
+    (rw (c.bench-in-Trace.ensures.is, c.as_slice.ensures.value) at c.set_trace-set_result.ensures) c.outcome_of_allocation-in-Trace.ensures.answered c.outcome_of_allocation-in-Trace.ensures.refused)
 
 pub returns-in-Change : goal.returns-in-Change
 returns-in-Change g c =

@@ -12,7 +12,7 @@ use Rattle.mcs_shell.proofs.laws.a_text_ends_at_a_dot.Goals as goal
 abbrev bytes_of_lines : List (List ℕ) → List ℕ
 bytes_of_lines text = flat_map as_line text
 
--- Lines that are not a dot line are appended to the open text.
+-- Lines that are not dot lines are appended to the open text.
 inputs_in_mode-text_lines : (whole : Bool) (kind : TextKind) (text : List ℕ) (ts rest : List (List ℕ)) → list_any is_dot_line ts ≡ false
     → inputs_in_mode whole (InText kind text) (ts ++ rest) ≡ inputs_in_mode whole (InText kind (text ++ bytes_of_lines ts)) rest
 inputs_in_mode-text_lines whole kind text [] rest h = ap (λ t. inputs_in_mode whole (InText kind t) rest) (sym (append-nil text))

@@ -33,7 +33,7 @@ refused_on_opened_disk choice (Err fault) (Ok s) is refused none = tt
 refused_on_opened_disk choice (Err fault) (Err r) is refused none = inl (fault, none)
 
 pub returns-clause-begun : goal.returns-clause-begun
-returns-clause-begun c = begun_on_opened_disk c.args.choice.now c.open_at-opened.result c.begin_session_on.result c.open_at-opened.ensures.opened c.begin_session_on.ensures.begun c.begin_session_on.ensures.unopened
+returns-clause-begun c = begun_on_opened_disk c.args.choice.now c.open_at-open_result.result c.begin_session_on.result c.open_at-open_result.ensures.opened c.begin_session_on.ensures.begun c.begin_session_on.ensures.unopened
 
 pub returns-clause-refused : goal.returns-clause-refused
-returns-clause-refused c = refused_on_opened_disk c.args.choice.now c.open_at-opened.result c.begin_session_on.result c.open_at-opened.ensures.opened c.begin_session_on.ensures.refused c.begin_session_on.ensures.unopened
+returns-clause-refused c = refused_on_opened_disk c.args.choice.now c.open_at-open_result.result c.begin_session_on.result c.open_at-open_result.ensures.opened c.begin_session_on.ensures.refused c.begin_session_on.ensures.unopened

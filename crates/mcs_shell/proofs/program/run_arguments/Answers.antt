@@ -13,8 +13,8 @@ use Rattle.mcs_shell.specs.declared.ends.ShellEnd.{ShellEnd}
 use Rattle.mcs_shell.specs.declared.ends.ShellEnd.TheVariants.{End}
 use Rattle.mcs_shell.proofs.program.run_arguments.Goals as goal
 
--- Holds if no session began, or if the session that began was served and `session` is the session
--- after its shell.
+-- Holds if no session began, or if a session began and was served. `session` is this session, as
+-- its shell left it.
 abbrev pub ServesIfBegun : {F : Type 0} → Result (SessionView FileDisk) F → Option (SessionView FileDisk) → ℕ
     → StreamsView → StreamsView → Type 0
 ServesIfBegun begun session status streams streams' = IfOk begun (λ before. IsSomeAnd session (λ after.
@@ -68,21 +68,21 @@ holds_if_not_served (Err refusal) None status streams streams' P served same = s
 
 pub returns-clause-usage : goal.returns-clause-usage
 returns-clause-usage g c =
-    status_is_not_two_after_begin c.begin_session_in-begun.result c.serve_if_begun-ended.result.session (exit_status c.serve_if_begun-ended.result.status) _ _ _ c.serve_if_begun-ended.ensures.served c.serve_if_begun-ended.ensures.refused
+    status_is_not_two_after_begin c.begin_session_in-begin_result.result c.serve_if_begun-program_result.result.session (exit_status c.serve_if_begun-program_result.result.status) _ _ _ c.serve_if_begun-program_result.ensures.served c.serve_if_begun-program_result.ensures.refused
 
 pub returns-clause-served : goal.returns-clause-served
 returns-clause-served g c =
-    served_chosen_session_if_begun _ c.in-Ok.choice c.begin_session_in-begun.result c.serve_if_begun-ended.result.session (exit_status c.serve_if_begun-ended.result.status) _ _
-    c.in-Ok.ensures.given c.begin_session_in-begun.ensures.begun c.serve_if_begun-ended.ensures.served c.serve_if_begun-ended.ensures.unserved
+    served_chosen_session_if_begun _ c.in-Ok.choice c.begin_session_in-begin_result.result c.serve_if_begun-program_result.result.session (exit_status c.serve_if_begun-program_result.result.status) _ _
+    c.in-Ok.ensures.selected c.begin_session_in-begin_result.ensures.begun c.serve_if_begun-program_result.ensures.served c.serve_if_begun-program_result.ensures.unserved
 
 pub returns-clause-unserved : goal.returns-clause-unserved
 returns-clause-unserved g c =
-    status_if_not_served c.begin_session_in-begun.result c.serve_if_begun-ended.result.session (exit_status c.serve_if_begun-ended.result.status) _ _ c.serve_if_begun-ended.ensures.served c.serve_if_begun-ended.ensures.refused
+    status_if_not_served c.begin_session_in-begin_result.result c.serve_if_begun-program_result.result.session (exit_status c.serve_if_begun-program_result.result.status) _ _ c.serve_if_begun-program_result.ensures.served c.serve_if_begun-program_result.ensures.refused
 
 pub returns-clause-unread : goal.returns-clause-unread
 returns-clause-unread g c =
-    holds_if_not_served c.begin_session_in-begun.result c.serve_if_begun-ended.result.session (exit_status c.serve_if_begun-ended.result.status) _ _ _ c.serve_if_begun-ended.ensures.served c.serve_if_begun-ended.ensures.unread
+    holds_if_not_served c.begin_session_in-begin_result.result c.serve_if_begun-program_result.result.session (exit_status c.serve_if_begun-program_result.result.status) _ _ _ c.serve_if_begun-program_result.ensures.served c.serve_if_begun-program_result.ensures.unread
 
 pub returns-clause-unwritten : goal.returns-clause-unwritten
 returns-clause-unwritten g c =
-    holds_if_not_served c.begin_session_in-begun.result c.serve_if_begun-ended.result.session (exit_status c.serve_if_begun-ended.result.status) _ _ _ c.serve_if_begun-ended.ensures.served c.serve_if_begun-ended.ensures.unwritten
+    holds_if_not_served c.begin_session_in-begin_result.result c.serve_if_begun-program_result.result.session (exit_status c.serve_if_begun-program_result.result.status) _ _ _ c.serve_if_begun-program_result.ensures.served c.serve_if_begun-program_result.ensures.unwritten

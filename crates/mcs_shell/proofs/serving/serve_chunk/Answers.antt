@@ -1,10 +1,10 @@
 use Rattle.std.proofs.Common.{rules, refl, ◌≡◌, ◌++◌, ◌∷◌}
 use Rattle.mcs_shell.specs.LineFeeds.{HasNoFeed}
-use Rattle.mcs_shell.proofs.Exchanges.{serves_chunk_if_line_halts, no_feed_in_unfinished_line, serves_chunk_if_rest_has_no_feed, served_part_after_line, served_part_start}
+use Rattle.mcs_shell.proofs.Exchanges.{serves_chunk_if_line_halts, no_feed_in_unfinished_line, serves_chunk_if_rest_has_no_feed, served_part_after_line, served_part_at_start}
 use Rattle.mcs_shell.proofs.serving.serve_chunk.Goals as goal
 
 pub loop-front-init : goal.loop-front-init
-loop-front-init g c = record { served = served_part_start _ _ _ c.requires; counted = refl }
+loop-front-init g c = record { served = served_part_at_start _ _ _ c.requires; counted = refl }
 
 pub returns-in-Err-clause-fed : goal.returns-in-Err-clause-fed
 returns-in-Err-clause-fed g c =

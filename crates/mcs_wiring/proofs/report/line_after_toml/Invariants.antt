@@ -9,7 +9,7 @@ use Rattle.mcs_wiring.proofs.report.line_after_toml.Given as goal
 abbrev pub invariant-loop-line : goal.invariant-loop-line
 invariant-loop-line l =
     shadow (Utf8 l.rest)
-    × (line_after is_toml l.number l.found (string_bytes l.before) (slice_split is_line_feed l.rest) ≡ line_after_toml l.text)
+    × (line_after is_toml l.number l.after_toml (string_bytes l.before) (slice_split is_line_feed l.rest) ≡ line_after_toml l.text)
     × (l.number + length l.rest ≤ length l.text + 1)
 
 abbrev pub decreases-loop-line : goal.decreases-loop-line

@@ -21,7 +21,7 @@ returns-clause-bytes c = λ pairs kept.
     let form : Some (line_view c.in-Some.line) ≡ line_of (tokens c.args.line.now) = ap (option_map line_view) (sym c.in-Some.is) ∙ c.in_ok-line.ensures in
     let bytes = c.in_ok-bytes.ensures ∙ ap Ok (sym c.deref.ensures.value) in
     let before : SecondPassState = record { at = c.args.self.now.at; pairs = pairs } in
-    subst (MatchesStateWithAddedBytes c.add.result c.add.new.self.at c.add.new.self.cells) (bytes_of_line_are_added c.args.names.now.names before (line_of (tokens c.args.line.now)) (line_view c.in-Some.line) c.deref.result.now c.next_at-next.result form bytes c.next_at-next.ensures.at)
+    subst (MatchesStateWithAddedBytes c.add.result c.add.new.self.at c.add.new.self.cells) (bytes_of_line_are_added c.args.names.now.names before (line_of (tokens c.args.line.now)) (line_view c.in-Some.line) c.deref.result.now c.address_after_line-next.result form bytes c.address_after_line-next.ensures.at)
     (c.add.ensures.bytes pairs kept)
 
 pub returns-clause-span : goal.returns-clause-span

@@ -1,6 +1,6 @@
 use Rattle.std.proofs.Common.{◌∙◌, ℕ, List, sym, subst, arith, slice_set, false}
 use Rattle.mcs_bench.specs.BreakpointSet.{HasFlags}
-use Rattle.mcs_bench.proofs.Marks.{flags-after-breakpoint-clear}
+use Rattle.mcs_bench.proofs.OrderedLists.{flags-after-breakpoint-clear}
 use Rattle.mcs_bench.proofs.breaks.BreakpointSet.clear.Goals as goal
 
 pub invariant_of-self : goal.invariant_of-self

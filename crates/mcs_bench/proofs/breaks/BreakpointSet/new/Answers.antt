@@ -1,6 +1,6 @@
 use Rattle.std.proofs.Common.{ℕ, List, sym, subst, replicate, false}
 use Rattle.mcs_bench.specs.BreakpointSet.{HasFlags}
-use Rattle.mcs_bench.proofs.Marks.{flags-of-empty-set}
+use Rattle.mcs_bench.proofs.OrderedLists.{flags-of-empty-set}
 use Rattle.mcs_bench.proofs.breaks.BreakpointSet.new.Goals as goal
 
 pub invariant_of-result : goal.invariant_of-result

@@ -2,7 +2,7 @@ use Rattle.std.proofs.Common.{◌≡◌, ◌∙◌, ℕ, List, sym, ap, subst, a
 use Rattle.std.specs.List.{insert}
 use Rattle.mcs_model.specs.Listed.{insert_in_order, is_listed}
 use Rattle.mcs_bench.specs.BreakpointSet.{HasFlags}
-use Rattle.mcs_bench.proofs.Marks.{flags-after-breakpoint-set}
+use Rattle.mcs_bench.proofs.OrderedLists.{flags-after-breakpoint-set}
 use Rattle.mcs_bench.proofs.breaks.BreakpointSet.set.Goals as goal
 
 pub invariant_of-self : goal.invariant_of-self

@@ -2,7 +2,7 @@ use Rattle.std.proofs.Common.{ℕ, List, sym, subst, slice_index}
 use Rattle.mcs_model.specs.Boards.{rom_masks}
 use Rattle.mcs_bench.specs.declared.chip_list.ChipList.TheVariants.{RomBytes, RamNibbles, StatusCharacters, RamPorts, BankSrcBytes}
 use Rattle.mcs_bench.specs.States.{state_of}
-use Rattle.mcs_bench.proofs.ChipListLemmas.{zero-where-absent-if-valid, absent-parts-zero-if-lists-zero, each-list-is-zero, latch_can_hold}
+use Rattle.mcs_bench.proofs.ChipListLemmas.{zero-where-absent-if-valid, absent-parts-zero-if-lists-zero, zero-where-absent-in-each-list, latch_can_hold}
 use Rattle.mcs_bench.proofs.PartTests.{decided_by_failed_part, decided_by_last_part}
 use Rattle.mcs_bench.proofs.flat.Flat.are_absent_values_zero.Goals as goal
 
@@ -24,5 +24,5 @@ returns-then-not-is_list_zero_where_absent-5 c = decided_by_failed_part c.is_lis
 pub returns : goal.returns
 returns c =
     let s = (state_of c.args.self.now).bus in
-    let zero = each-list-is-zero s (c.is_list_zero_where_absent.ensures.0 c.if-not-is_list_zero_where_absent.false) (c.is_list_zero_where_absent-2.ensures.0 c.if-not-is_list_zero_where_absent-2.false) (c.is_list_zero_where_absent-3.ensures.0 c.if-not-is_list_zero_where_absent-3.false) (c.is_list_zero_where_absent-4.ensures.0 c.if-not-is_list_zero_where_absent-4.false) (c.is_list_zero_where_absent-5.ensures.0 c.if-not-is_list_zero_where_absent-5.false) in
+    let zero = zero-where-absent-in-each-list s (c.is_list_zero_where_absent.ensures.0 c.if-not-is_list_zero_where_absent.false) (c.is_list_zero_where_absent-2.ensures.0 c.if-not-is_list_zero_where_absent-2.false) (c.is_list_zero_where_absent-3.ensures.0 c.if-not-is_list_zero_where_absent-3.false) (c.is_list_zero_where_absent-4.ensures.0 c.if-not-is_list_zero_where_absent-4.false) (c.is_list_zero_where_absent-5.ensures.0 c.if-not-is_list_zero_where_absent-5.false) in
     decided_by_last_part c.latches_can_hold.result c.latches_can_hold.ensures (λ ports. absent-parts-zero-if-lists-zero s c.requires zero (subst (λ (xs : List ℕ). (chip : ℕ) → latch_can_hold (rom_masks s.board chip) (slice_index xs chip)) c.bytes.ensures ports)) (λ v. subst (λ (xs : List ℕ). (chip : ℕ) → latch_can_hold (rom_masks s.board chip) (slice_index xs chip)) (sym c.bytes.ensures) v.rom_ports)

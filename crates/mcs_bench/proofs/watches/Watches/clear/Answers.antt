@@ -1,6 +1,6 @@
 use Rattle.std.proofs.Common.{sym, subst}
 use Rattle.mcs_bench.specs.BreakpointSet.{AreRamIndices}
-use Rattle.mcs_bench.proofs.Marks.{ram-indices-without_listed}
+use Rattle.mcs_bench.proofs.OrderedLists.{ram-indices-without_listed}
 use Rattle.mcs_bench.proofs.watches.Watches.clear.Goals as goal
 
 pub invariant_of-self : goal.invariant_of-self

@@ -2,7 +2,7 @@ use Rattle.std.proofs.Common.{◌≡◌, ◌||◌, true, ℕ, List, sym, subst, 
 use Rattle.mcs_model.specs.Listed.{is_listed}
 use Rattle.mcs_model.specs.Bus.{ram_index}
 use Rattle.mcs_bench.specs.BreakpointSet.{AreRamIndices}
-use Rattle.mcs_bench.proofs.Marks.{ram-indices-with_listed}
+use Rattle.mcs_bench.proofs.OrderedLists.{ram-indices-with_listed}
 use Rattle.mcs_bench.proofs.watches.Watches.set.Goals as goal
 
 pub invariant_of-self : goal.invariant_of-self

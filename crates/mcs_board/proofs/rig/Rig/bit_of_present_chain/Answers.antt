@@ -19,18 +19,18 @@ pub returns-in-Some : goal.returns-in-Some
 returns-in-Some g c =
     let i = c.self.inside in
     let e = ap (λ (s : BusState). chain_count s.board) c.self.view_is in
-    let within : c.args.n < chain_count i.keys.board = let r = c.requires in omega arith in
+    let within : c.args.n < chain_count i.key_pad.board = let r = c.requires in omega arith in
     let there : c.args.n < length i.chains.items = let v = c.self.invariant in omega (arith, v.chains_len, v.chains_fit) in
     let row : c.index-chains-n.result ≡ get_or c.args.self.now.chains c.args.n [] =
-    c.index-chains-n.is ∙ ap (λ xs. get_or xs c.args.n c.index-chains-n.result) c.as_slice-chains.ensures.value ∙ get_or_default i.chains.items c.args.n c.index-chains-n.result [] there ∙ sym (wired_chains-at_index i.keys.board i.chains.items c.args.n within) ∙ ap (λ (s : BusState). get_or s.chains c.args.n []) c.self.view_is in
+    c.index-chains-n.is ∙ ap (λ xs. get_or xs c.args.n c.index-chains-n.result) c.as_slice-chains.ensures.value ∙ get_or_default i.chains.items c.args.n c.index-chains-n.result [] there ∙ sym (wired_chains-at_index i.key_pad.board i.chains.items c.args.n within) ∙ ap (λ (s : BusState). get_or s.chains c.args.n []) c.self.view_is in
     element_if_slice_get_some (get_or c.args.self.now.chains c.args.n []) c.args.i c.in-Some.bit (sym c.in-Some.is ∙ c.bit.ensures ∙ ap (λ xs. slice_get xs c.args.i) row)
 
 pub returns-in-None : goal.returns-in-None
 returns-in-None g c =
     let i = c.self.inside in
     let e = ap (λ (s : BusState). chain_count s.board) c.self.view_is in
-    let within : c.args.n < chain_count i.keys.board = let r = c.requires in omega arith in
+    let within : c.args.n < chain_count i.key_pad.board = let r = c.requires in omega arith in
     let there : c.args.n < length i.chains.items = let v = c.self.invariant in omega (arith, v.chains_len, v.chains_fit) in
     let row : c.index-chains-n.result ≡ get_or c.args.self.now.chains c.args.n [] =
-    c.index-chains-n.is ∙ ap (λ xs. get_or xs c.args.n c.index-chains-n.result) c.as_slice-chains.ensures.value ∙ get_or_default i.chains.items c.args.n c.index-chains-n.result [] there ∙ sym (wired_chains-at_index i.keys.board i.chains.items c.args.n within) ∙ ap (λ (s : BusState). get_or s.chains c.args.n []) c.self.view_is in
+    c.index-chains-n.is ∙ ap (λ xs. get_or xs c.args.n c.index-chains-n.result) c.as_slice-chains.ensures.value ∙ get_or_default i.chains.items c.args.n c.index-chains-n.result [] there ∙ sym (wired_chains-at_index i.key_pad.board i.chains.items c.args.n within) ∙ ap (λ (s : BusState). get_or s.chains c.args.n []) c.self.view_is in
     zero_if_slice_get_none (get_or c.args.self.now.chains c.args.n []) c.args.i (sym c.in-None.is ∙ c.bit.ensures ∙ ap (λ xs. slice_get xs c.args.i) row)

@@ -19,10 +19,10 @@ returns-then-clock_rises g c =
     let i = c.self.inside in
     let s = c.args.self.now in
     let board = ap (λ (s : BusState). s.board) c.self.view_is in
-    let within : c.args.i < chain_count i.keys.board = let e = ap chain_count board in let r = c.requires in omega arith in
+    let within : c.args.i < chain_count i.key_pad.board = let e = ap chain_count board in let r = c.requires in omega arith in
     let there : c.args.i < length i.chains.items = let v = c.self.invariant in omega (arith, v.chains_len, v.chains_fit) in
     let row : c.index_mut.result.now ≡ get_or s.chains c.args.i [] =
-    c.index_mut.ensures.value ∙ get_or_default i.chains.items c.args.i c.index_mut.result.now [] there ∙ sym (wired_chains-at_index i.keys.board i.chains.items c.args.i within) ∙ ap (λ (s : BusState). get_or s.chains c.args.i []) c.self.view_is in
+    c.index_mut.ensures.value ∙ get_or_default i.chains.items c.args.i c.index_mut.result.now [] there ∙ sym (wired_chains-at_index i.key_pad.board i.chains.items c.args.i within) ∙ ap (λ (s : BusState). get_or s.chains c.args.i []) c.self.view_is in
     let new : c.shift.new.self ≡ bits_after_latch_change s c.args.port c.args.before c.args.after c.args.i (get_or s.chains c.args.i []) =
     c.shift.ensures
     ∙ ap (λ xs. take (length xs) (c.data_level-data.result ∷ xs)) row
@@ -42,14 +42,14 @@ returns-else-clock_rises g c =
 pub shift-requires : goal.shift-requires
 shift-requires g c =
     let i = c.self.inside in
-    let within : c.args.i < chain_count i.keys.board = let e = ap (λ (s : BusState). chain_count s.board) c.self.view_is in let r = c.requires in omega arith in
+    let within : c.args.i < chain_count i.key_pad.board = let e = ap (λ (s : BusState). chain_count s.board) c.self.view_is in let r = c.requires in omega arith in
     let there : c.args.i < length i.chains.items = let v = c.self.invariant in omega (arith, v.chains_len, v.chains_fit) in
     element_size-bounded c.args.i (length c.as_slice-chains.result.now) _ (let l = ap length c.as_slice-chains.ensures.value in omega arith) c.as_slice-chains.type_inv.1
 
 pub invariant_of-self : goal.invariant_of-self
 invariant_of-self g c =
     let i = c.self.inside in
-    let within : c.args.i < chain_count i.keys.board = let e = ap (λ (s : BusState). chain_count s.board) c.self.view_is in let r = c.requires in omega arith in
+    let within : c.args.i < chain_count i.key_pad.board = let e = ap (λ (s : BusState). chain_count s.board) c.self.view_is in let r = c.requires in omega arith in
     let there : c.args.i < length i.chains.items = let v = c.self.invariant in omega (arith, v.chains_len, v.chains_fit) in
     let row : c.index_mut.result.now ≡ get_or i.chains.items c.args.i [] = c.index_mut.ensures.value ∙ get_or_default i.chains.items c.args.i c.index_mut.result.now [] there in
     matches_board-after_set_chain c.self.invariant c.args.i c.shift.new.self there (ap length c.shift.ensures ∙ length-unchanged_by_shift c.data_level-data.result c.index_mut.result.now ∙ ap length row)

@@ -21,12 +21,12 @@ pub returns-then-index-from : goal.returns-then-index-from
 returns-then-index-from g c =
     let i = c.self.inside in
     let s = c.args.self.now in
-    let board : s.board ≡ i.keys.board = sym (ap (λ (t : BusState). t.board) c.self.view_is) in
+    let board : s.board ≡ i.key_pad.board = sym (ap (λ (t : BusState). t.board) c.self.view_is) in
     let same = ap chain_count board in
     let count = c.chain_count.ensures.count in
-    let within : c.args.chain < chain_count i.keys.board = omega arith in
-    let row : get_or s.chains c.args.chain [] ≡ get_or i.chains.items c.args.chain [] = ap (λ (t : BusState). get_or t.chains c.args.chain []) (sym c.self.view_is) ∙ wired_chains-at_index i.keys.board i.chains.items c.args.chain within in
-    let bits : c.from.result ≡ chain_bits i.keys.board c.args.chain = c.from.ensures ∙ c.bits.ensures ∙ ap (λ (p : ChainPart). 10 * p.chips) (c.chain.ensures ∙ ap (λ (b : BoardParts). chain_part b c.from-n.result) (c.board.ensures ∙ board)) ∙ ap (chain_bits i.keys.board) c.from-n.ensures in
+    let within : c.args.chain < chain_count i.key_pad.board = omega arith in
+    let row : get_or s.chains c.args.chain [] ≡ get_or i.chains.items c.args.chain [] = ap (λ (t : BusState). get_or t.chains c.args.chain []) (sym c.self.view_is) ∙ wired_chains-at_index i.key_pad.board i.chains.items c.args.chain within in
+    let bits : c.from.result ≡ chain_bits i.key_pad.board c.args.chain = c.from.ensures ∙ c.bits.ensures ∙ ap (λ (p : ChainPart). 10 * p.chips) (c.chain.ensures ∙ ap (λ (b : BoardParts). chain_part b c.from-n.result) (c.board.ensures ∙ board)) ∙ ap (chain_bits i.key_pad.board) c.from-n.ensures in
     let len : length (get_or s.chains c.args.chain []) ≡ c.from.result = ap length row ∙ c.self.invariant.bits c.args.chain within ∙ sym bits in
     with_chain_bit-past_chain_end s c.args.chain c.args.i c.args.bit (omega arith)
 
@@ -42,12 +42,12 @@ returns g c =
     let i = c.self.inside in
     let s = c.args.self.now in
     let n = c.from-n.result in
-    let board : c.args.self.now.board ≡ i.keys.board = sym (ap (λ (t : BusState). t.board) c.self.view_is) in
+    let board : c.args.self.now.board ≡ i.key_pad.board = sym (ap (λ (t : BusState). t.board) c.self.view_is) in
     let same = ap chain_count board in
     let count = c.chain_count.ensures.count in
-    let within : n < chain_count i.keys.board = omega arith in
+    let within : n < chain_count i.key_pad.board = omega arith in
     let there : n < length i.chains.items = omega (arith, c.self.invariant.chains_len, c.self.invariant.chains_fit) in
-    let row : c.index_mut.result.now ≡ get_or s.chains n [] = c.index_mut.ensures.value ∙ get_or_default i.chains.items n c.index_mut.result.now [] there ∙ sym (wired_chains-at_index i.keys.board i.chains.items n within) ∙ ap (λ (t : BusState). get_or t.chains n []) c.self.view_is in
+    let row : c.index_mut.result.now ≡ get_or s.chains n [] = c.index_mut.ensures.value ∙ get_or_default i.chains.items n c.index_mut.result.now [] there ∙ sym (wired_chains-at_index i.key_pad.board i.chains.items n within) ∙ ap (λ (t : BusState). get_or t.chains n []) c.self.view_is in
     let new : c.set_bit.new.self ≡ slice_set (get_or s.chains n []) c.from-index.result c.args.bit = c.set_bit.ensures ∙ ap (λ xs. slice_set xs c.from-index.result c.args.bit) row in
     state-after_set_chain (rig_parts i) n c.set_bit.new.self within there
     ∙ ap (λ (t : BusState). record t { chains = slice_set t.chains n c.set_bit.new.self }) c.self.view_is
@@ -59,12 +59,12 @@ pub set_bit-requires : goal.set_bit-requires
 set_bit-requires g c =
     let i = c.self.inside in
     let n = c.from-n.result in
-    let board : c.args.self.now.board ≡ i.keys.board = sym (ap (λ (t : BusState). t.board) c.self.view_is) in
+    let board : c.args.self.now.board ≡ i.key_pad.board = sym (ap (λ (t : BusState). t.board) c.self.view_is) in
     let same = ap chain_count board in
     let count = c.chain_count.ensures.count in
-    let within : n < chain_count i.keys.board = omega arith in
+    let within : n < chain_count i.key_pad.board = omega arith in
     let there : n < length i.chains.items = omega (arith, c.self.invariant.chains_len, c.self.invariant.chains_fit) in
     let row : c.index_mut.result.now ≡ get_or i.chains.items n [] = c.index_mut.ensures.value ∙ get_or_default i.chains.items n c.index_mut.result.now [] there in
-    let bits : c.from.result ≡ chain_bits i.keys.board n = c.from.ensures ∙ c.bits.ensures ∙ ap (λ (p : ChainPart). 10 * p.chips) (c.chain.ensures ∙ ap (λ (b : BoardParts). chain_part b n) (c.board.ensures ∙ board)) in
-    let len : length c.index_mut.result.now ≡ chain_bits i.keys.board n = ap length row ∙ c.self.invariant.bits n within in
+    let bits : c.from.result ≡ chain_bits i.key_pad.board n = c.from.ensures ∙ c.bits.ensures ∙ ap (λ (p : ChainPart). 10 * p.chips) (c.chain.ensures ∙ ap (λ (b : BoardParts). chain_part b n) (c.board.ensures ∙ board)) in
+    let len : length c.index_mut.result.now ≡ chain_bits i.key_pad.board n = ap length row ∙ c.self.invariant.bits n within in
     (element_size-bounded n (length c.as_slice-chains.result.now) _ (let l = ap length c.as_slice-chains.ensures.value in omega arith) c.as_slice-chains.type_inv.1, omega arith)

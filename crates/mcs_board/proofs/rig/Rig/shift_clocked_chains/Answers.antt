@@ -2,7 +2,7 @@ use Rattle.std.proofs.Common.{◌≡◌, ◌<◌, ℕ, [], length, get_or, slice
 use Rattle.std.proofs.lemmas.Grind.{get_or-set_at}
 use Rattle.std.proofs.lemmas.Bool.{cases_eq}
 use Rattle.std.proofs.lemmas.List.{length-set}
-use Rattle.mcs_nibble.proofs.TabledLemmas.{table_of-unique}
+use Rattle.mcs_nibble.proofs.TableLemmas.{table_of-unique}
 use Rattle.mcs_model.specs.declared.board.Line.{Line}
 use Rattle.mcs_model.specs.Bus.{BusState}
 use Rattle.mcs_model.specs.Boards.{board_fault_of, chain_count}
@@ -14,12 +14,13 @@ all_chains-clocked : (s t : BusState) (port : Line) (before after : ℕ) → t �
 unfolding state_after_latch_change
 all_chains-clocked s t port before after same l h = same ∙ ap (λ cs. record s { chains = cs }) (table_of-unique (chain_count s.board) _ t.chains [] l h)
 
--- the state after chain `i` is shifted if its clock line rises
+-- the state after a latch change that affects only chain `i`, which is shifted if its clock line
+-- rises
 abbrev after_chain_clock : BusState → Line → ℕ → ℕ → ℕ → BusState
 after_chain_clock s port before after i = record s { chains = slice_set s.chains i (bits_after_latch_change s port before after i (get_or s.chains i [])) }
 
--- If the states `s` and `t` differ only in their chains, both give the same new bits for chain `i`
--- of `t`.
+-- If `s` and `t` differ only in their chains, clocking chain `i` of `t` gives the new bits that
+-- `bits_after_latch_change` computes from `s`.
 clocked_chains-equal : (s t u : BusState) (port : Line) (before after i : ℕ) → board_fault_of s.board ≡ None → i < chain_count s.board → t ≡ record s { chains = t.chains } → u ≡ after_chain_clock t port before after i → u.chains ≡ slice_set t.chains i (bits_after_latch_change s port before after i (get_or t.chains i []))
 clocked_chains-equal s t u port before after i v l same new =
     ap (λ (x : BusState). x.chains) new

@@ -9,9 +9,9 @@ use Rattle.mcs_board.specs.RigFields.{rig_parts}
 use Rattle.mcs_board.proofs.LifecycleLemmas.{IsRewired, each_socket-after_wiring, state-after_wiring, matches_board-after_wiring}
 use Rattle.mcs_board.proofs.rig.Rig.wire.Goals as goal
 
--- A key pad for a copy of board `b` is the key pad of `b`, with all keys up.
+-- A new key pad for a copy of board `b` equals a new key pad for `b`: all keys are up.
 key_state-of_copied_board : (b copy : BoardParts) (k : KeyState) → k ≡ record { board = copy; down = replicate (key_count copy) 0 } → copy ≡ b → k ≡ record { board = b; down = replicate (key_count b) 0 }
-key_state-of_copied_board b copy k new same = new ∙ ap (λ (x : BoardParts). let made : KeyState = record { board = x; down = replicate (key_count x) 0 } in made) same
+key_state-of_copied_board b copy k new same = new ∙ ap (λ (x : BoardParts). let key_pad : KeyState = record { board = x; down = replicate (key_count x) 0 } in key_pad) same
 
 pub returns-then-is_empty : goal.returns-then-is_empty
 returns-then-is_empty g c =

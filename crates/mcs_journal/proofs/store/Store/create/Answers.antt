@@ -31,7 +31,7 @@ returns-in-Ok-write_first-clause-created g c = λ h.
     let mid = c.check_blank.ensures.reads.counts.honest.1 h in
     record {
       blank = c.in-Ok-check_blank.ensures.blank h;
-      holds = c.in-Ok-write_first.ensures.made mid;
+      holds = c.in-Ok-write_first.ensures.written mid;
       durable = c.in-Ok-write_first.ensures.durable mid;
       ticks = omega (arith, c.in-Ok-check_blank.ensures.ticks h, c.in-Ok-write_first.ensures.ticks mid);
       later = is_later_transitive _ _ _ c.check_blank.ensures.reads.adds_no_image.later (c.write_first.ensures.is_later mid);
@@ -51,15 +51,15 @@ invariant_of-result g c = record {
   disk_size = ap length (c.write_first.ensures.call.start ∙ c.check_blank.ensures.reads.counts.start) ∙ sym c.size.ensures ∙ c.if-size-ne-FILE_SIZE.false;
   within = omega arith;
   room = simp (length-take, length-append, length-drop) (omega (arith, c.as_mut_slice.ensures.len, ap length c.as_mut_slice.ensures.value, c.write_first.ensures.room, c.in-Ok.ensures.len, c.write_first.auto.buffer));
-  synced = λ alive. ap unsynced_writes c.in-Ok-write_first.ensures.calls.made.all;
+  synced = λ alive. ap unsynced_writes c.in-Ok-write_first.ensures.calls.makes_calls.all;
   intact = λ alive h.
       let mid = c.write_first.ensures.call.honest.0 h in
       record {
         durable = c.in-Ok-write_first.ensures.durable mid;
-        active = c.in-Ok-write_first.ensures.named mid;
+        active = c.in-Ok-write_first.ensures.selected mid;
         snap = c.args.snap.now;
         records = [];
-        holds = c.in-Ok-write_first.ensures.made mid;
+        holds = c.in-Ok-write_first.ensures.written mid;
         count = refl;
       };
 }

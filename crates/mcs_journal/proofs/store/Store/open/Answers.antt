@@ -1,6 +1,6 @@
 use Rattle.mcs_disk.proofs.CallSequences.{at_most_one_unsynced_without_calls}
 use Rattle.mcs_journal.proofs.ReadCalls.{property_of_error}
-use Rattle.mcs_journal.proofs.StoreMethodCalls.{open_at_most_one_unsynced, no_unsynced_write_after_open, at_most_one_unsynced_after_failed_open}
+use Rattle.mcs_journal.proofs.StoreMethodCalls.{at_most_one_unsynced_during_open, no_unsynced_write_after_open, at_most_one_unsynced_after_failed_open}
 use Rattle.std.proofs.Common.{rules, length, List, ℕ, inl, sym, ◌∙◌, ap, subst, Err}
 use Rattle.mcs_disk.proofs.StretchComposition.{adds_no_image_without_calls, bytes_unchanged_without_new_image}
 use Rattle.mcs_journal.specs.File.{Holds, slot_of}
@@ -59,7 +59,7 @@ pub returns-in-Err-clause-error_one_unsynced : goal.returns-in-Err-clause-error_
 returns-in-Err-clause-error_one_unsynced g c = at_most_one_unsynced_without_calls _
 
 pub returns-in-Ok-read_contents-clause-one_unsynced : goal.returns-in-Ok-read_contents-clause-one_unsynced
-returns-in-Ok-read_contents-clause-one_unsynced g c = open_at_most_one_unsynced _ _ _ c.in-Ok-read_contents.ensures.calls
+returns-in-Ok-read_contents-clause-one_unsynced g c = at_most_one_unsynced_during_open _ _ _ c.in-Ok-read_contents.ensures.calls
 
 pub returns-in-Err-read_contents-clause-error_calls : goal.returns-in-Err-read_contents-clause-error_calls
 returns-in-Err-read_contents-clause-error_calls g c = property_of_error _ _ c.in-Err-read_contents.is c.read_contents.ensures.error_calls

@@ -24,7 +24,7 @@ invariant_of-self g c = record {
   disk_size = ap length c.replace_contents.ensures.call.start ∙ c.self.invariant.disk_size;
   within = omega arith;
   room = simp (length-take, length-append, length-drop) (omega (arith, c.deref_mut.ensures.len, ap length c.deref_mut.ensures.value, c.replace_contents.auto.buffer, c.self.invariant.room));
-  synced = λ alive. ap unsynced_writes c.in-Ok.ensures.calls.made.all;
+  synced = λ alive. ap unsynced_writes c.in-Ok.ensures.calls.makes_calls.all;
   intact = λ alive h.
       let live : IsTrue c.self.inside.live = subst (λ (v : StoreView g.row.D.Denot). IsTrue v.live) (sym c.self.view_is) c.requires.live in
       let was_honest = c.replace_contents.ensures.call.honest.0 h in
@@ -32,7 +32,7 @@ invariant_of-self g c = record {
       let changes = c.in-Ok.ensures.changes was_honest intact.durable intact.snap intact.records intact.holds (c.other-other.ensures ∙ sym (ap other_slot intact.active)) in
       record {
         durable = changes.durable;
-        active = c.in-Ok.ensures.named was_honest;
+        active = c.in-Ok.ensures.selected was_honest;
         snap = c.args.snap.now;
         records = [];
         holds = changes.after;

@@ -6,6 +6,6 @@ use Rattle.mcs_keypad.proofs.scanned.ScannedKeys.driven_columns.Given as goal
 
 abbrev pub invariant-loop-r : goal.invariant-loop-r
 invariant-loop-r g l = record {
-  left : l.left ≡ l.levels / 2 ^ l.r;
+  remaining_levels : l.remaining_levels ≡ l.levels / 2 ^ l.r;
   byte : IsColumnMask l.driven_columns (length l.matrix.columns.items) (λ j. list_any (row_drives_column l.bits l.self.down l.matrix j) (range_with_len 0 l.r));
 }

@@ -8,7 +8,7 @@ make_room-requires-clause-more g c = rw c.replay_cycles-more.ensures (accepted_c
 
 pub returns-in_err-append-clause-moments : goal.returns-in_err-append-clause-moments
 returns-in_err-append-clause-moments g c = λ honest was.
-    let made_room = c.in_ok-make_room.ensures.made honest was c.args.command.now c.encode_command-count.ensures.count c.replay_cycles-more.ensures in
+    let made_room = c.in_ok-make_room.ensures.makes_room honest was c.args.command.now c.encode_command-count.ensures.count c.replay_cycles-more.ensures in
     let is_recorded = made_room.recorded in
     let still_honest = c.in_ok-make_room.ensures.counts.honest.1 honest in
     let changes = c.in_err-append.ensures.appends still_honest is_recorded.represents.snap is_recorded.represents.records is_recorded.represents.holds in
@@ -17,7 +17,7 @@ returns-in_err-append-clause-moments g c = λ honest was.
 
 pub returns-clause-moments : goal.returns-clause-moments
 returns-clause-moments g c = λ honest was.
-    let made_room = c.in_ok-make_room.ensures.made honest was c.args.command.now c.encode_command-count.ensures.count c.replay_cycles-more.ensures in
+    let made_room = c.in_ok-make_room.ensures.makes_room honest was c.args.command.now c.encode_command-count.ensures.count c.replay_cycles-more.ensures in
     let is_recorded = made_room.recorded in
     let still_honest = c.in_ok-make_room.ensures.counts.honest.1 honest in
     let changes = c.in_ok-append.ensures.appends still_honest is_recorded.represents.snap is_recorded.represents.records is_recorded.represents.holds in
@@ -26,14 +26,14 @@ returns-clause-moments g c = λ honest was.
 
 pub returns-clause-recorded : goal.returns-clause-recorded
 returns-clause-recorded g c = λ honest was.
-    let is_recorded = (c.in_ok-make_room.ensures.made honest was c.args.command.now c.encode_command-count.ensures.count c.replay_cycles-more.ensures).recorded in
+    let is_recorded = (c.in_ok-make_room.ensures.makes_room honest was c.args.command.now c.encode_command-count.ensures.count c.replay_cycles-more.ensures).recorded in
     let still_honest = c.in_ok-make_room.ensures.counts.honest.1 honest in
     let changes = c.in_ok-append.ensures.appends still_honest is_recorded.represents.snap is_recorded.represents.records is_recorded.represents.holds in
     recorded_after_append _ _ _ _ _ _ _ is_recorded (rw (c.as_slice.ensures.value, c.in_ok-make_room.ensures.payload) c.encode_command-count.ensures.spells) c.requires.accepted c.replay_cycles-more.ensures c.in_ok-make_room.ensures.room.1 changes.durable changes.after
 
 pub returns-clause-acknowledges : goal.returns-clause-acknowledges
 returns-clause-acknowledges g c = λ honest was.
-    let made_room = c.in_ok-make_room.ensures.made honest was c.args.command.now c.encode_command-count.ensures.count c.replay_cycles-more.ensures in
+    let made_room = c.in_ok-make_room.ensures.makes_room honest was c.args.command.now c.encode_command-count.ensures.count c.replay_cycles-more.ensures in
     let is_recorded = made_room.recorded in
     let still_honest = c.in_ok-make_room.ensures.counts.honest.1 honest in
     let changes = c.in_ok-append.ensures.appends still_honest is_recorded.represents.snap is_recorded.represents.records is_recorded.represents.holds in

@@ -1,7 +1,7 @@
 use Rattle.std.proofs.Common.{rules}
 use Rattle.mcs_disk.proofs.CallSequences.{at_most_one_unsynced_without_calls, at_most_one_unsynced_in_both}
 use Rattle.mcs_disk.proofs.StretchComposition.{counts_fault_of_two_stretches}
-use Rattle.mcs_session.proofs.Files.{fails_migrating_if_version_1, opened_store_keeps_contents, failed_open_leaves_if_no_image_added, migrates_session_of_either_version, opens_session_of_either_version, recorded_after_open_if_version_2, device_error_if_migration_fails, damaged_if_no_state_is_represented, session_error_from_store_error}
+use Rattle.mcs_session.proofs.Files.{fails_during_migration_if_version_1, opened_store_keeps_contents, failed_open_effect_if_no_image_added, migrates_session_of_either_version, opens_session_of_either_version, recorded_after_open_if_version_2, device_error_if_migration_fails, damaged_if_no_state_is_represented, session_error_from_store_error}
 use Rattle.mcs_session.proofs.session.Session.open.Goals as goal
 
 pub start_session-requires-clause-recorded : goal.start_session-requires-clause-recorded
@@ -43,7 +43,7 @@ returns-in-Ok-Some-clause-refused g c = λ honest.
     let honest_after = c.in-Ok-open.ensures.counts.honest.1 honest in
     let replayed = rw (c.bytes.ensures, c.in-Ok-Some.field-0-is) at c.in-Ok-Some.ensures.some in
     let refusal = c.in-Err-start_session.ensures.refused in
-    device_error_if_migration_fails _ _ _ refusal.0 (fails_migrating_if_version_1 _ _ _ _ _ _ _ _ refusal.1.0 opened replayed
+    device_error_if_migration_fails _ _ _ refusal.0 (fails_during_migration_if_version_1 _ _ _ _ _ _ _ _ refusal.1.0 opened replayed
     (c.in-Err-start_session.ensures.failed honest_after _ _ (opened_store_keeps_contents _ _ _ _ opened)))
 
 pub returns-in-Ok-None-clause-error_counts_fault : goal.returns-in-Ok-None-clause-error_counts_fault
@@ -67,7 +67,7 @@ returns-in-Ok-open-clause-error_counts_fault g c = rw c.into_disk-in-Err-replay.
 })
 
 pub returns-clause-refused : goal.returns-clause-refused
-returns-clause-refused g c = λ honest. let h = c.in-Err.ensures.refused honest in (session_error_from_store_error _ _ h.0, failed_open_leaves_if_no_image_added c.in-Err.refused.0 _ _ h.1)
+returns-clause-refused g c = λ honest. let h = c.in-Err.ensures.refused honest in (session_error_from_store_error _ _ h.0, failed_open_effect_if_no_image_added c.in-Err.refused.0 _ _ h.1)
 
 pub returns-in_default-clause-error_one_unsynced : goal.returns-in_default-clause-error_one_unsynced
 returns-in_default-clause-error_one_unsynced g c = at_most_one_unsynced_without_calls _

@@ -1,0 +1,157 @@
+"""Random questions for mcs4-prove with `wait`, reproducible from a seed. Most of them are about programs that read an input several times, and that
+look for certain levels, one after another. The time between two changes decides whether these levels are possible. The other questions are those of
+seeded_questions.py. The boards have few keys, or the limits allow few keys, so that a search can try all levels."""
+
+from __future__ import annotations
+
+import dataclasses
+import random
+
+from assembler import assemble
+from seeded_questions import KeyWiring, comparisons_at_address, chord_question, seeded_question
+from second_search import InputLimits, Key, Mark, Question, all_keys, power_on, search
+from second_waits import search_by_steps, with_wait
+
+# The largest `wait`, and the maximum number of keys whose levels can change.
+MAX_WAIT, MAX_KEYS = 40, 3
+# The maximum numbers of states of a search by steps, and of different cycles of a literal search.
+MAX_STATES, MAX_CYCLES = 1500, 12000
+# The maximum number of questions that are tried for a seed, until `wait` matters, and the maximum number of states of the searches that decide this.
+MAX_ATTEMPTS, FEW_STATES = 6, 300
+
+
+class FewKeyWiring(KeyWiring):
+    """A small board with a matrix of few keys."""
+
+    def __init__(self, rng: random.Random) -> None:
+        super().__init__(rng)
+        self.rows, column_count = rng.choice([(1, 1), (1, 2), (1, 2), (1, 3), (2, 1), (2, 1), (3, 1)])
+        self.columns = rng.choices(self.inputs, k=column_count)
+
+
+def delay_phrases(rng: random.Random) -> list[str]:
+    """Returns instructions between two reads, which take some cycles."""
+    kind = rng.random()
+    if kind < 0.2:
+        register = rng.choice([8, 9])
+        return [f" LDM {rng.randrange(10, 16)}", f" XCH R{register}", f"d%d: ISZ R{register}, d%d"]
+    return rng.randrange(9) * [" NOP"]
+
+
+def pattern_question(rng: random.Random, wiring: KeyWiring) -> Question:
+    """Returns a question about a program that reads an input several times. Usually each read must show the opposite of the read before it. Then the
+    program stores a number in a register, or it takes some time. The property excludes this number, or this time, or this number before marks."""
+    row, register, number = rng.randrange(wiring.rows), rng.randrange(8), rng.randrange(1, 16)
+    program = [" FIM P7, 0", " SRC P7"]
+    for bit in range(wiring.first + row + 1):
+        data = 2 if bit == 0 or rng.random() < 0.2 else 0
+        program += [f" LDM {data}", " WRR", f" LDM {data + 1}", " WRR"]
+    program += [" FIM P6, 0x10", " SRC P6", "loop: CLB", *([f" XCH R{register}"] if rng.random() < 0.8 else [])]
+    level, column, reads_test, marks = rng.randrange(2), rng.randrange(len(wiring.columns)), rng.random() < 0.4, []
+    # At another level, the program begins again, or it ends.
+    other = rng.choice(["loop", "loop", "end"])
+    for n in range(rng.choice([2, 3, 3, 3, 4])):
+        # Some reads are repeated until the level is right.
+        target = other if rng.random() < 0.85 else f"read{n}"
+        if reads_test:
+            program += [f"read{n}: JCN {1 if level else 9}, {target}"]
+        else:
+            to_carry = (int(wiring.columns[column][-1]) + 1) * [" RAR"]
+            program += [f"read{n}: RDR", *to_carry, f" JCN {10 if level else 2}, {target}"]
+            marks.append(("down" if level else "up", row, column))
+        program += [line.replace("%d", str(n)) for line in delay_phrases(rng)]
+        level = 1 - level if rng.random() < 0.9 else level
+        column, reads_test = (rng.randrange(len(wiring.columns)), rng.random() < 0.4) if rng.random() < 0.3 else (column, reads_test)
+    question = Question(wiring.text(), program)
+    kind = rng.random()
+    if kind < 0.2:
+        question.program += ["late:", *rng.randrange(20, 60) * [" NOP"]]
+    question.program += [f" LDM {number}", f" XCH R{register}", " JUN loop", "end: JUN end"]
+    if kind < 0.2:
+        add_time_limit(question, rng)
+    elif kind < 0.45:
+        add_marks(question, rng, wiring, marks)
+        question.opens = [[("in", "register", register, "whole", number, number)]]
+    else:
+        question.nevers = [[("in", "register", register, "whole", number, number)]]
+    question.pause = rng.choice([7, 20, 50, 100, 300])
+    return question
+
+
+def add_time_limit(question: Question, rng: random.Random) -> None:
+    """Adds a stopwatch that measures the time of a pass through the program's loop. Its limit is below the time of a pass that sees all levels."""
+    names = assemble(question.program)[2]
+    begin = comparisons_at_address({("counter", 4): names["loop"] >> 8, ("counter", 5): names["loop"] & 255})
+    question.begins, question.ends = [begin], [begin]
+    question.within = names["late"] - names["loop"] + rng.randrange(10, 60)
+
+
+def add_marks(question: Question, rng: random.Random, wiring: KeyWiring, marks: list[Mark]) -> None:
+    """Adds marks: some of those that the program waits for, and usually another one, which it does not wait for."""
+    question.marks = [mark for mark in marks if rng.random() < 0.8]
+    if rng.random() < 0.7 or not question.marks:
+        mark = rng.choice(["up", "down"]), rng.randrange(wiring.rows), rng.randrange(len(wiring.columns))
+        question.marks.insert(rng.randrange(len(question.marks) + 1), mark)
+
+
+def few_inputs(rng: random.Random, keys: list[Key]) -> InputLimits:
+    """Returns limits that allow few levels of the keys of a board."""
+    if len(keys) <= MAX_KEYS and rng.random() < 0.5:
+        return InputLimits(rng.choice([None, None, None, 1, 2]))
+    return InputLimits(rng.choice([None, None, None, 1, 2]), True, rng.sample(keys, rng.randrange(min(len(keys), MAX_KEYS) + 1)), rng.random() < 0.7)
+
+
+def random_spaced_question(rng: random.Random) -> Question:
+    """Returns a random question with few levels, without `wait`."""
+    kind = rng.random()
+    if kind < 0.7:
+        question = pattern_question(rng, FewKeyWiring(rng))
+    elif kind < 0.85:
+        question = chord_question(rng, FewKeyWiring(rng))
+        question.pause = rng.choice([7, 30, 100])
+    else:
+        question = seeded_question(rng.randrange(100000), MAX_STATES)
+        question.pause = min(question.pause, 50)
+    question.max_states = MAX_STATES
+    question.limits = few_inputs(rng, all_keys(power_on(question)))
+    return question
+
+
+def largest_failing_wait(question: Question) -> int:
+    """Returns the largest `wait` up to MAX_WAIT with which a short search finds a failure. Returns 1 if there is none."""
+    few_states = dataclasses.replace(question, max_states=FEW_STATES)
+    low, high = 1, MAX_WAIT if search(few_states).verdict == "may fail" else 1
+    while low < high:
+        middle = (low + high + 1) // 2
+        low, high = (middle, high) if search_by_steps(with_wait(few_states, middle)).verdict == "may fail" else (low, middle - 1)
+    return low
+
+
+def spaced_question(seed: int) -> Question:
+    """Returns a random question with `wait`. Seven of eight are the first one, among a few attempts, for which `wait` matters. Then `wait` is usually
+    the largest one with which the property can fail, or one more. The search for one in eight may visit only a few states."""
+    rng = random.Random(f"waits {seed}")
+    for _attempt in range(1 if seed % 8 == 7 else MAX_ATTEMPTS):
+        question = random_spaced_question(rng)
+        longest = largest_failing_wait(question)
+        question = with_wait(question, min(max(longest + rng.choice([0, 0, 1, 1, 1, rng.randrange(-3, 4)]), 2), MAX_WAIT))
+        if 2 <= longest < MAX_WAIT:
+            break
+    if seed % 8 == 3:
+        question.max_states = rng.randrange(4, 30)
+    return question
+
+
+def long_wait_question() -> tuple[Question, int]:
+    """Returns a question about a program that reads TEST three times, thousands of cycles apart, and stores a number after it reads 1, 0 and 1. Also
+    returns the number of cycles from the first read to the last one. The program can store the number only if `wait` is less than this."""
+    board = ["[[rom]]", "chip = 0", 'port = "0000"']
+
+    def delay(name: str, passes: int) -> list[str]:
+        return [f" LDM {16 - passes}", " XCH R3", *(f"{name}{n}: ISZ R{n}, {name}0" for n in range(4))]
+
+    program = ["loop: JCN 1, other", *delay("a", 2), " JCN 9, other", *delay("b", 2), " JCN 1, other", " LDM 1", " XCH R4", "other: LDM 0",
+               *delay("c", 5), " JUN loop"]
+    # An instruction with two words takes two cycles.
+    cycles_of_delay = 1 + 1 + 2 * (16 * (16 * (16 * 2 + 2) + 2) + 2)
+    return Question(board, program, [[("in", "register", 4, "whole", 1, 1)]], MAX_STATES), 2 * (2 + cycles_of_delay)

@@ -1,0 +1,112 @@
+//! What a search remembers of inputs whose levels change at moments that are far enough apart.
+ghost use Rattle.std.specs.Prelude.{◌≡◌, ◌≤◌, drop, length, slice_index};
+ghost use Rattle.mcs_check.specs.SpacedInputs.{age_at_begin, can_begin_at, spacing_after, spacing_of_bytes};
+
+/// The index that stands for no levels, before the first step of a search.
+pub(crate) const NO_LEVELS: u8 = 255;
+
+/// The largest number of cycles between two changes for which each age fits into 32 bits.
+pub(crate) const MAX_WAIT: u32 = 2_147_483_647;
+
+/// The number of bytes that hold a `Spacing`.
+pub(crate) const SPACING_BYTES: usize = 5;
+
+/// What a search remembers of its inputs, if two changes of the levels are at least `wait` cycles apart. The search
+/// makes each change as early as possible.
+#[derive(Clone, Copy)]
+pub(crate) struct Spacing {
+    /// The index of the levels at which the last step began, or `NO_LEVELS`.
+    pub(crate) last: u8,
+    /// The age of the last change, in cycles. It is `wait` at the first moment at which the levels can change again,
+    /// and at most twice `wait`.
+    pub(crate) age: u32,
+}
+
+/// Returns the byte at index `i`, or 0 if there is none.
+fn byte_at(bytes: &[u8], i: usize) -> u8
+    ensures { result ≡ slice_index bytes.now i }
+{
+    match bytes.get(i) {
+        Some(byte) => *byte,
+        None => 0,
+    }
+}
+
+impl Spacing {
+    /// Returns what a search remembers before its first step.
+    pub(crate) fn none() -> Spacing
+        ensures { result.last ≡ NO_LEVELS }
+    {
+        Spacing {
+            last: NO_LEVELS,
+            age: 0,
+        }
+    }
+
+    /// Returns what these bytes say. Bytes that are missing are 0.
+    pub(crate) fn of_bytes(bytes: &[u8]) -> Spacing
+        ensures { result ≡ spacing_of_bytes bytes.now }
+    {
+        let low = u32::from(byte_at(bytes, 1)) + 256 * u32::from(byte_at(bytes, 2));
+        let high = u32::from(byte_at(bytes, 3)) + 256 * u32::from(byte_at(bytes, 4));
+        Spacing {
+            last: byte_at(bytes, 0),
+            age: low + 65_536 * high,
+        }
+    }
+
+    /// Returns what the bytes of a spaced key after its first `len` bytes say.
+    pub(crate) fn of_key(key: &[u8], len: usize) -> Spacing
+        ensures { result ≡ spacing_of_bytes (drop len key.now) }
+    {
+        match key.get(len..) {
+            Some(bytes) => Spacing::of_bytes(bytes),
+            None => Spacing::of_bytes(&[]),
+        }
+    }
+
+    /// Writes what a search remembers into these bytes.
+    pub(crate) fn write(self, bytes: &mut [u8])
+        requires { length bytes.old ≡ SPACING_BYTES }
+        ensures { spacing_of_bytes bytes.new ≡ self }
+    {
+        bytes[0] = self.last;
+        bytes[1] = (self.age % 256) as u8;
+        bytes[2] = (self.age / 256 % 256) as u8;
+        bytes[3] = (self.age / 65_536 % 256) as u8;
+        bytes[4] = (self.age / 16_777_216) as u8;
+    }
+
+    /// Returns whether the next step can begin at the levels with this index.
+    pub(crate) fn can_begin_at(self, wait: u32, index: u8) -> bool
+        ensures { result ≡ can_begin_at wait self index }
+    {
+        self.last == NO_LEVELS || index == self.last || wait <= self.age
+    }
+
+    /// Returns the age at the beginning of a step at the levels with this index.
+    fn age_at_begin(self, wait: u32, index: u8) -> u32
+        ensures { result ≡ age_at_begin wait self index }
+    {
+        let most = wait.saturating_sub(1);
+        if self.last == NO_LEVELS {
+            most
+        } else if index == self.last {
+            self.age.min(most)
+        } else {
+            self.age.saturating_sub(wait).min(most)
+        }
+    }
+
+    /// Returns what a search remembers after a step of `cycles` cycles that began at the levels with this index.
+    pub(crate) fn after(self, wait: u32, index: u8, cycles: u64) -> Spacing
+        requires { wait ≤ MAX_WAIT }
+        ensures { result ≡ spacing_after wait self index cycles }
+    {
+        let age = u64::from(self.age_at_begin(wait, index)).saturating_add(cycles);
+        Spacing {
+            last: index,
+            age: age.min(2 * u64::from(wait)) as u32,
+        }
+    }
+}
