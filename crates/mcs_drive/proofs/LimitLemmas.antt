@@ -33,4 +33,5 @@ pub all-inputs-allowed : (b : BoardParts) (f : ℕ → Levels) → ((k : ℕ) �
 all-inputs-allowed b f fit = record {
   levels = λ k. levels-allowed b (f k) (fit k);
   spaced = λ i j before first second. (omega arith);
+  released = λ limited key k. absurd (omega arith);
 }

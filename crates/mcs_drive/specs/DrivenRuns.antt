@@ -3,7 +3,7 @@
 -- believe that a property holds for all inputs, a reader needs to trust only this file,
 -- TrackedMachine, Marks, and the definitions that these three use. (Defined by Fethsaim, not by
 -- Intel.)
-use Rattle.std.specs.Prelude.{◌≢◌, ◌<◌, ◌≤◌, ◌+◌, ℕ, zero, suc, List, replicate, slice_index, unwrap_or}
+use Rattle.std.specs.Prelude.{◌≡◌, ◌≢◌, ◌<◌, ◌≤◌, ◌+◌, ℕ, zero, suc, List, replicate, slice_index, unwrap_or}
 use Rattle.std.specs.List.{sum}
 use Rattle.mcs_model.specs.declared.board.BoardParts.{BoardParts}
 use Rattle.mcs_model.specs.Boards.{key_count}
@@ -24,15 +24,17 @@ pub record FitsBoard (b : BoardParts) (l : Levels) : Type 0 where
 -- Limits on the inputs. `keys` has the highest level, 0 or 1, of each key, row by row. `test` is
 -- the highest level of the TEST pin. `together` is the largest number of keys that are down at the
 -- same time. `wait` is the smallest number of cycles between two changes of the levels; 0 and 1
--- allow all changes.
+-- allow all changes. `held` is the largest number of cycles for which a key stays down; 0 sets no
+-- limit.
 pub record InputLimits : Type 0 where
   pub keys : List ℕ
   pub test : ℕ
   pub together : ℕ
   pub wait : ℕ
+  pub held : ℕ
 
 -- Holds if `l` has a level for each key of the board and for TEST, and all levels are within the
--- limits. The limit `wait` does not apply to the levels of a single moment.
+-- limits. The limits `wait` and `held` do not apply to the levels of a single moment.
 pub record AreAllowed (limits : InputLimits) (b : BoardParts) (l : Levels) : Type 0 where
   pub fits : FitsBoard b l
   pub keys : (i : ℕ) → slice_index l.keys i ≤ slice_index limits.keys i
@@ -45,16 +47,29 @@ abbrev pub Changes : (ℕ → Levels) → ℕ → Type 0
 Changes f zero = ⊥
 Changes f (suc k) = f (suc k) ≢ f k
 
+-- Holds if each key is up at some moment of any `limit + 1` successive moments, so that it stays
+-- down for at most `limit` cycles. A limit of 0 allows any time.
+abbrev pub AreReleasedWithin : ℕ → (ℕ → Levels) → Type 0
+AreReleasedWithin limit f =
+    1 ≤ limit → (key k : ℕ) → (d : ℕ) × (d ≤ limit) × (slice_index (f (k + d)).keys key ≡ 0)
+
 -- Holds if the inputs `f` are within the limits: all levels before each cycle are within the
--- limits, and two changes of the levels are at least `wait` cycles apart. `f i` has the levels
--- before cycle `i`, counted from 0.
+-- limits, two changes of the levels are at least `wait` cycles apart, and no key stays down for more
+-- than `held` cycles. `f i` has the levels before cycle `i`, counted from 0.
 pub record AreInputsAllowed (limits : InputLimits) (b : BoardParts) (f : ℕ → Levels) : Type 0 where
   pub levels : (k : ℕ) → AreAllowed limits b (f k)
   pub spaced : (i j : ℕ) → i < j → Changes f i → Changes f j → i + limits.wait ≤ j
+  pub released : AreReleasedWithin limits.held f
 
 -- the limits that allow all inputs of a board
 abbrev pub no_limits : BoardParts → InputLimits
-no_limits b = record { keys = replicate (key_count b) 1; test = 1; together = key_count b; wait = 0 }
+no_limits b = record {
+  keys = replicate (key_count b) 1;
+  test = 1;
+  together = key_count b;
+  wait = 0;
+  held = 0;
+}
 
 -- `no_limits` allows all inputs that have a level for each key of the board and for TEST
 abbrev pub NoLimitsAllowAllLevels : Type 0
