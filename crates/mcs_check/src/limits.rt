@@ -7,14 +7,15 @@ use mcs_nibble::Bit;
 use std::alloc::{AllocError, Global};
 use std::marker::Model;
 
-/// Limits on the inputs: the highest level of each key and of the TEST pin, the most keys that are down together, and
-/// the fewest cycles between two changes.
+/// Limits on the inputs: the highest level of each key and of the TEST pin, the most keys that are down together, the
+/// fewest cycles between two changes, and the most cycles for which a key stays down.
 #[derive(Drop)]
 pub struct InputLimits {
     keys: Vec<Bit>,
     test: Bit,
     together: u32,
     wait: u32,
+    held: u32,
 }
 
 impl Model for InputLimits {
@@ -22,19 +23,33 @@ impl Model for InputLimits {
 
     ghost Value = { driven.InputLimits };
 
-    ghost view = { λ a. record { keys = a.keys.items; test = a.test; together = a.together; wait = a.wait } };
+    ghost view = { λ a. record {
+      keys = a.keys.items;
+      test = a.test;
+      together = a.together;
+      wait = a.wait;
+      held = a.held;
+    } };
 }
 
 impl InputLimits {
-    /// Creates limits. `keys` has the highest level of each key, row by row. A `wait` of 0 or 1 limits nothing.
-    pub fn of(keys: Vec<Bit>, test: Bit, together: u32, wait: u32) -> InputLimits
-        ensures { result ≡ record { keys = keys.items; test = test; together = together; wait = wait } }
+    /// Creates limits. `keys` has the highest level of each key, row by row. A `wait` of 0 or 1 limits nothing, and
+    /// neither does a `held` of 0.
+    pub fn of(keys: Vec<Bit>, test: Bit, together: u32, wait: u32, held: u32) -> InputLimits
+        ensures { result ≡ record {
+          keys = keys.items;
+          test = test;
+          together = together;
+          wait = wait;
+          held = held;
+        } }
     {
         InputLimits {
             keys,
             test,
             together,
             wait,
+            held,
         }
     }
 
@@ -44,7 +59,7 @@ impl InputLimits {
     {
         let count = board.key_count();
         let keys = vec![in alloc; Bit::ONE; count]?;
-        Ok(InputLimits::of(keys, Bit::ONE, count as u32, 0))
+        Ok(InputLimits::of(keys, Bit::ONE, count as u32, 0, 0))
     }
 
     /// Returns the highest level of each key, row by row.
@@ -66,6 +81,13 @@ impl InputLimits {
         ensures { result ≡ self.now.wait }
     {
         self.wait
+    }
+
+    /// Returns the largest number of cycles for which a key stays down, or 0 if there is no limit.
+    pub(crate) fn held(&self) -> u32
+        ensures { result ≡ self.now.held }
+    {
+        self.held
     }
 
     /// Returns the largest number of keys that are down together.
