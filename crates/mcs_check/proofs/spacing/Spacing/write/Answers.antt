@@ -1,5 +1,4 @@
 use Rattle.std.proofs.Common.{◌≡◌, ◌∙◌, ◌/◌, ◌%◌, ℕ, List, ap, rules, slice_index, slice_set}
-use Rattle.mcs_check.specs.declared.spacing.Spacing.{Spacing}
 use Rattle.mcs_check.specs.SpacedInputs.{number_at}
 use Rattle.mcs_check.proofs.spacing.Spacing.write.Goals as goal
 
