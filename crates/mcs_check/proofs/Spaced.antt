@@ -1,5 +1,6 @@
--- If the keys that a search with spaced inputs found are a closure, the property holds for all
--- inputs whose changes are far enough apart, and whose keys stay down for a limited time.
+-- Suppose that the keys that a search with spaced inputs found are a closure. The property then
+-- holds for all inputs whose changes are far enough apart, and whose keys stay down for a limited
+-- time.
 use Rattle.std.proofs.Common.{◌≡◌, ◌≢◌, ◌⊎◌, ◌<◌, ◌≤◌, ◌+◌, ◌-◌, ◌*◌, ℕ, zero, suc, min, List, [], ◌∷◌, Bool, true, false, Option, Some, unwrap_or, inl, inr, length, nat_le, nat_lt, slice_index, refl, sym, ap, ◌∙◌, subst, arith, eqb, ◌==◌, ◌&&◌, ◌||◌}
 use Rattle.std.specs.List.{All, Contains, slice_get, sum}
 use Rattle.std.specs.Str.{bytes_eq}
@@ -75,8 +76,8 @@ key-down (suc level ∷ keys) down = (0, omega arith)
 -- Holds if `s` is what a search remembers of the inputs `f` at moment `n`. The last step began at
 -- the levels with index `s.last`. Other levels come no earlier than the age allows. An age of twice
 -- `wait` says nothing about the moments before `n`. If the levels at moment `n` are those of the
--- last step, they have stayed the same for `s.down` cycles. If `s.down` is above 0, a key is down at
--- them.
+-- last step, they have stayed the same for `s.down` cycles. If `s.down` is above 0, a key is down
+-- at them.
 record IsSinceStep (wait : ℕ) (levels : List Levels) (f : ℕ → Levels) (n : ℕ) (s : Spacing) : Type 0 where
   moment : ℕ
   before : moment < n

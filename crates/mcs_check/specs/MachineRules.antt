@@ -1,7 +1,7 @@
 -- The rules of a search through machines. `Rules` of mcs_search describes any search whose states
--- are identified by keys, which are lists of bytes. In this search, a key identifies machines, and a
--- step runs each of them from one read of an input to its next read. `is_key_of` says which machines
--- a key identifies.
+-- are identified by keys, which are lists of bytes. In this search, a key identifies machines, and
+-- a step runs each of them from one read of an input to its next read. `is_key_of` says which
+-- machines a key identifies.
 use Rattle.std.specs.Prelude.{◌≡◌, ℕ, suc, List, Bool, true, false, None}
 use Rattle.std.specs.List.{Contains}
 use Rattle.mcs_model.specs.Boards.{board_fault_of}

@@ -1,7 +1,7 @@
 -- A search through inputs whose levels change at moments that are at least `wait` cycles apart. No
--- key stays down for more than `held` cycles, if `held` is not 0. A step of the search runs from one
--- read of an input to the next, so only the levels at its beginning matter. If two steps begin at
--- different levels, the search makes the change between them as early as possible. (Defined by
+-- key stays down for more than `held` cycles, if `held` is not 0. A step of the search runs from
+-- one read of an input to the next, so only the levels at its beginning matter. If two steps begin
+-- at different levels, the search makes the change between them as early as possible. (Defined by
 -- Fethsaim, not by Intel.)
 use Rattle.std.specs.Prelude.{◌≡◌, ◌<◌, ◌+◌, ◌-◌, ◌*◌, ◌==◌, ◌||◌, ◌&&◌, ℕ, suc, min, List, Bool, true, Some, drop, length, nat_le, nat_lt, slice_get, slice_index, take, if◌then◌else◌}
 use Rattle.std.specs.List.{Contains, sum}
@@ -36,8 +36,8 @@ down_at_begin s d =
     else 0
 
 -- True if the limit `held` allows the next step to begin at the levels with index `d`. This is so
--- unless a key has been down for `held` cycles: it would stay down for the step's first cycle. A
--- limit of 0 allows all levels.
+-- unless a key is known to have been down for `held` cycles, because it would also be down in the
+-- step's first cycle. A limit of 0 allows all levels.
 abbrev pub held_allows : ℕ → Spacing → ℕ → Bool
 held_allows held s d = held == 0 || nat_lt (down_at_begin s d) held
 
@@ -54,9 +54,10 @@ age_at_begin wait s d =
     else if d == s.last then min s.age (wait - 1)
     else min (s.age - wait) (wait - 1)
 
--- The number of cycles, at most `held`, for which a key is known to have been down after a step of
--- `cycles` cycles that began at the levels `l` with index `d`, if the levels are `l` again. They
--- have then not changed, unless the step is longer than `wait`: two changes need more time.
+-- The number of cycles, at most `held`, for which a key is known to have been down after a step.
+-- The step began at the levels `l` with index `d` and took `cycles` cycles, and the levels are `l`
+-- again at its end. If it took at most `wait` cycles, there was no time for a change to other
+-- levels and a change back.
 abbrev pub down_after : ℕ → ℕ → Spacing → ℕ → Levels → ℕ → ℕ
 down_after wait held s d l cycles =
     if has_key_down l && nat_le cycles wait then min (down_at_begin s d + cycles) held else 0
@@ -75,8 +76,9 @@ abbrev pub number_at : List ℕ → ℕ → ℕ
 number_at bytes i =
     slice_index bytes i + 256 * slice_index bytes (i + 1) + 65536 * slice_index bytes (i + 2) + 16777216 * slice_index bytes (i + 3)
 
--- what nine bytes say: the index of the levels at which the last step began, then the age and the
--- cycles for which a key has been down, in four bytes each
+-- What nine bytes say. The first byte is the index of the levels at which the last step began. The
+-- next four bytes are the age, and the last four are the cycles for which a key is known to have
+-- been down.
 abbrev pub spacing_of_bytes : List ℕ → Spacing
 spacing_of_bytes bytes = record {
   last = slice_index bytes 0;

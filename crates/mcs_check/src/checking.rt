@@ -72,8 +72,8 @@ fn search_by_values(
 /// Searches all runs of a machine, for all levels of its keys and its TEST pin within the limits, and checks the
 /// property after each cycle. It gives up if the limit `wait` is above 1 and the limits allow more than 255 levels. If
 /// `wait` is 0 or 1, it ignores the limit `held`, and so also checks inputs that this limit excludes. It stores at most
-/// `most` states and uses about `memory` bytes. It splits each run of cycles without reads into steps of `pause` cycles.
-/// Fails if memory for the layout or for the first state cannot be allocated.
+/// `most` states and uses about `memory` bytes. It splits each run of cycles without reads into steps of `pause`
+/// cycles. Fails if memory for the layout or for the first state cannot be allocated.
 pub fn check_all(
     alloc: Global,
     mut replica: SearchMachine,

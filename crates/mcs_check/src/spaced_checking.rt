@@ -11,10 +11,10 @@ use crate::spacing::MAX_WAIT;
 use mcs_search::{MAX_STATES, Verdict, search_all};
 use std::alloc::{AllocError, Global};
 
-/// Searches all runs of the machine that `key` identifies, for inputs within the limits. Two changes of these inputs are
-/// at least `wait` cycles apart, and no key stays down for more than `held` cycles. Gives up if the limits allow more
-/// than 255 levels. See `check_all` for `most` and `memory`. Fails if memory for the levels or for the first state runs
-/// out.
+/// Searches all runs of the machine that `key` identifies, for inputs within the limits. Two changes of these inputs
+/// are at least `wait` cycles apart, and no key stays down for more than `held` cycles. Gives up if the limits allow
+/// more than 255 levels. See `check_all` for `most` and `memory`. Fails if memory for the levels or for the first state
+/// runs out.
 pub(crate) fn search_by_levels(
     alloc: Global,
     machines: MachineSearch,

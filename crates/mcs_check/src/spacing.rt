@@ -14,8 +14,8 @@ pub(crate) const MAX_WAIT: u32 = 2_147_483_647;
 /// The number of bytes that hold a `Spacing`.
 pub(crate) const SPACING_BYTES: usize = 9;
 
-/// What a search remembers of its inputs, if two changes of the levels are at least `wait` cycles apart and no key stays
-/// down for more than `held` cycles. The search makes each change as early as possible.
+/// What a search remembers of its inputs, if two changes of the levels are at least `wait` cycles apart and no key
+/// stays down for more than `held` cycles. The search makes each change as early as possible.
 #[derive(Clone, Copy)]
 pub(crate) struct Spacing {
     /// The index of the levels at which the last step began, or `NO_LEVELS`.
@@ -24,7 +24,8 @@ pub(crate) struct Spacing {
     /// and at most twice `wait`.
     pub(crate) age: u32,
     /// The number of cycles for which a key is known to have been down, up to now, if the levels are still those of the
-    /// last step. It is at most `held`, and 0 if the levels can have changed twice during the last step.
+    /// last step. It is at most `held`. It is 0 if no key was down at these levels, or if the levels can have changed
+    /// twice during the last step.
     pub(crate) down: u32,
 }
 
