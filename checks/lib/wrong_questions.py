@@ -14,7 +14,8 @@ INVALID_LINES = [
     "togethers 1", "only x", "only 1", "only only", "only press 0 0", "Only", "press", "press 1", "press 1 2 3", "press 256 0", "press 0 256",
     "press x 0", "press 0 x", "press 0 -1", "press 1.0", "press 1,0", "Press 0 0", "presses 0 0", "test 0", "test 1", "test x", "test test", "Test",
     "tests", "wait", "wait x", "wait -1", "wait 0", "wait 1", "wait 100001", "wait 2 3", f"wait {'9' * 5000}", "wait 0x", "wait 2.5", "Wait 2",
-    "waits 2", "release 0 0", "together 1\0", "only\0", "press 0 0\0", "test\0", "wait 2\0", "press 0 0 0 0 0", "test register 0 whole 0 0",
+    "waits 2", "held", "held x", "held -1", "held 0", "held 100001", "held 1 2", f"held {'9' * 5000}", "held 0x", "held 1.5", "Held 1", "helds 1",
+    "held at most 1", "release 0 0", "together 1\0", "only\0", "press 0 0\0", "test\0", "wait 2\0", "held 1\0", "press 0 0 0 0 0", "test register 0 whole 0 0",
     "open x", "opens", "up", "up 0", "up 0 0 0", "up x 0", "up 0 256", "up 0 -1", "Up 0 0", "ups 0 0", "down", "down 256 0", "in 0 0",
     "\0", "most 1\0", "\x7f", "x" * 100000, "in register 0 whole 0 0", "out register 0 whole 0 0", "mistake code"]
 # Invalid comparisons.
@@ -28,7 +29,8 @@ INVALID_COMPARISONS = [
 # Lines that start a stopwatch with a condition that is never true.
 NEVER_STARTED = ["begin", "in register 0 whole 9 3"]
 # Lines that limit the inputs of the question in QUESTION_LINES, whose board has no inputs.
-LIMIT_LINES = ["together 0", "together 255", " together\t0xFF ", "only", "\tonly ", "test", "press 0 0", "press 255 255", "press 0x0  0xff"]
+LIMIT_LINES = ["together 0", "together 255", " together\t0xFF ", "only", "\tonly ", "test", "press 0 0", "press 255 255", "press 0x0  0xff", "held 1",
+               "held 100000", "\theld  0x1 "]
 # Lines that limit the times of changes, with which the search of this question finds three states.
 WAIT_LINES = ["wait 2", "\twait  0x2 ", "wait 3"]
 # A question about a board with eight keys, which allows the keys alone.
@@ -131,6 +133,8 @@ ALLOWED_READS: list[tuple[list[str], set[str]]] = [
     # The board does not have these keys.
     (["only", "press 1 0", "press 1 1", "press 0 2", "press 0 255", "press 255 0", "press 255 255"], {"none"}),
     (["only", "press 0 1", "press 1 0"], {"none", "second"}),
+    # Without `wait`, a proof does not use `held`.
+    (["held 1"], ALL_READS), (["held 100000", "together 1"], ALL_BUT_BOTH),
     # Only the last `together` line counts.
     (["together 1", "together 2"], ALL_READS), (["together 2", "together 1"], ALL_BUT_BOTH),
     (["together 0", "together 255", "together 0x1"], ALL_BUT_BOTH), (["together 2", "only", "together 0", "press 0 0"], {"none"}),
