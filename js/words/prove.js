@@ -55,6 +55,8 @@ export const NOT_CONFIRMED = "the bench does not confirm the counterexample that
 /** @type {(guards: string, isGoal: boolean) => string} */
 export const failsWithoutGuards = (guards, isGoal) =>
   `it can ${isGoal ? "be reached" : "fail"} without ${guards}, which a proof leaves out`;
+export const UNSEEN_RELEASES = `${NOT_CONFIRMED}; keys can go up and down unseen between reads that are further apart than the `
+  + "shortest wait";
 /** @type {(maximum: string) => string} */
 export const allowsLongerPresses = (maximum) => `${NOT_CONFIRMED}; with this \`wait\`, a proof allows presses of up to ${maximum} cycles`;
 export const TRUE_BEFORE_KEYS_ARE_READ = "it can become true before the program has read each key up and then down";

@@ -275,8 +275,8 @@ export function oncePerPressProperty(text, address) {
 
 /**
  * Creates the property that the program counter reaches a label only after some key was down for at least `limit` cycles without
- * interruption. Memory: 1 if a key was down for that long since power-on; and for each input, the time at which the key went down, -1 for a
- * key that is up and for an input that is no key. A key that is down at the start, or at a power cycle, counts from then on.
+ * interruption. Memory: 1 if a key was down for that long since power-on; and for each input, the time at which the key went down. This
+ * time is -1 for a key that is up and for an input that is no key. A key that is down at the start, or at a power cycle, counts from then.
  * @param {string} text
  * @param {number} address
  * @param {number} limit

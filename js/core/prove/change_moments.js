@@ -5,8 +5,8 @@
  * @typedef {import("../explore/search_inputs.js").Input} Input
  * @typedef {import("../explore/walks.js").WalkStep} WalkStep
  *
- * A change of one or several inputs in the same cycle: the indices of the inputs that go up (`released`) and that go down (`pressed`), and
- * the first and the last moment at which they can change. A moment is a number of cycles since power-on.
+ * A change of one or several inputs in the same cycle. `released` and `pressed` are the indices of the inputs that go up and down. `first`
+ * and `last` are the first and the last moment at which they can change. A moment is a number of cycles since power-on.
  * @typedef {{ released: number[], pressed: number[], first: number, last: number }} Change
  *
  * A press that ends: the index of the change at which a key goes down, -1 if it is down at power-on, and the change at which it goes up.
@@ -34,7 +34,7 @@ function listPresses(changes, inputs) {
  * latest such moments, or null if there are none.
  *
  * Each limit says that one moment is at most another one plus a constant. So the method of Bellman and Ford decides whether there are such
- * moments: it begins with the last moment of each change, and repeatedly lowers the moments that exceed a limit. Each moment stays at or
+ * moments. It begins with the last moment of each change, and repeatedly lowers the moments that exceed a limit. Each moment stays at or
  * above the same moment in all solutions, so the result is the latest solution. It also makes the presses that do not end as short as
  * possible. If there is a solution, no moment needs to be lowered after as many passes as there are changes.
  * @param {Change[]} changes in the order in which they happen

@@ -70,7 +70,7 @@ function explainUnconfirmed(property, { inputLimits }, campaign, { names: { boar
   if (form !== "no press") return say.NOT_CONFIRMED;
   const maxPressTime = inputLimits && inputLimits.maxPressTime;
   if (maxPressTime !== null && maxPressTime >= limit) return say.allowsLongerPresses(formatNumber(maxPressTime));
-  return explainMissingPressLimit(property, campaign, board) || say.NOT_CONFIRMED;
+  return explainMissingPressLimit(property, campaign, board) || say.UNSEEN_RELEASES;
 }
 
 /**
