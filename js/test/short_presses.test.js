@@ -1,5 +1,5 @@
-// Tests the property that no press below a time reaches a label: its errors, its meaning on a run, and the search for a counterexample. Also
-// tests the limits of its proof, and how a counterexample with levels becomes short presses.
+// Tests the property that no press below a time reaches a label: its errors, its meaning on a run, and the search for a counterexample.
+// Also tests the limits of its proof, and how a counterexample with levels becomes short presses.
 import assert from "node:assert/strict";
 import { test } from "node:test";
 import { Engine } from "../core/engine/engine.js";
