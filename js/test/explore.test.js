@@ -348,7 +348,7 @@ test("a counted walk ends in the same state as a watched walk", () => {
       [down, ages] = [updateDownInputs(down, step), updateAges(ages, step)];
       return step;
     });
-    const memories = properties.map(({ createMemory }) => createMemory(7, 0));
+    const memories = properties.map(({ createMemory }) => createMemory(7, []));
     const start = { file: threeCallSubject.file, time: 7, downInputs: initialDownInputs(campaign),
       memories };
     const { violation, stepStates: watchedStates } = watcher.watch(start, steps, propertyIndexes);

@@ -148,13 +148,13 @@ function createRandomRun(random) {
  * violated.
  */
 function findViolationTime(property, { c, g, events }) {
-  const memory = property.createMemory(0, 0);
+  const memory = property.createMemory(0, []);
   const areGuardsOpenAt = (time) => property.guards.map(({ condition }) => condition !== null && g[time]);
   let violationTime = -1;
   const notify = (event, time, input = "") => {
     const isValuesEvent = event === "values";
     const areOpen = isValuesEvent || event === "down" ? areGuardsOpenAt(time) : [];
-    const moment = { time, changeTime: time, address: -1, holds: isValuesEvent && c[time], areOpen, input, downCount: 0 };
+    const moment = { time, changeTime: time, address: -1, holds: isValuesEvent && c[time], areOpen, input, downCount: 0, key: -1 };
     const newViolationTime = property.update(memory, event, moment);
     if (newViolationTime >= 0 && (violationTime < 0 || newViolationTime < violationTime)) violationTime = newViolationTime;
   };

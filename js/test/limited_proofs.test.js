@@ -43,8 +43,7 @@ const allLimitsOf = (text, subject = subjectOf()) => (
 /** Returns the limits of `press`, `test` and `together` in a text; null for none. */
 const limitsOf = (text, subject) => {
   const [limits = null] = allLimitsOf(text, subject).filter(({ minWait }) => minWait === 1);
-  if (limits) delete limits.minWait;
-  return limits;
+  return limits && { keys: limits.keys, maxKeysDown: limits.maxKeysDown, words: limits.words };
 };
 const keysOf = (...places) => places.map(([row, column]) => ({ kind: "matrix", row, column }));
 
@@ -91,11 +90,12 @@ test("the limits on the inputs are lines of a question", () => {
   const linesOf = (inputLimits, limits = { maxStates: 77 }) => (
     questionText({ board: "rom = []\n", program: "NOP" }, { ...neverQuestion([[]]), inputLimits }, limits).split("\n"));
   assert.deepEqual(linesOf(null).slice(0, 3), ["most 77", "pause 1000000", "wire"]);
-  assert.deepEqual(linesOf({ keys: null, maxKeysDown: 2, minWait: 1, words: [] }).slice(1, 4), ["pause 1000000", "together 2", "wire"]);
+  assert.deepEqual(linesOf({ keys: null, maxKeysDown: 2, minWait: 1, maxPressTime: null, words: [] }).slice(1, 4),
+    ["pause 1000000", "together 2", "wire"]);
   // TEST is 1 at power-on. A proof without the line `test` would be valid only for TEST 0.
-  assert.deepEqual(linesOf({ keys: keysOf([1, 0], [0, 10]), maxKeysDown: null, minWait: 1, words: [] }).slice(1, 7),
+  assert.deepEqual(linesOf({ keys: keysOf([1, 0], [0, 10]), maxKeysDown: null, minWait: 1, maxPressTime: null, words: [] }).slice(1, 7),
     ["pause 1000000", "only", "press 1 0", "press 0 10", "test", "wire"]);
-  assert.deepEqual(linesOf({ keys: [], maxKeysDown: 1, minWait: 1, words: [] }).slice(1, 6),
+  assert.deepEqual(linesOf({ keys: [], maxKeysDown: 1, minWait: 1, maxPressTime: null, words: [] }).slice(1, 6),
     ["pause 1000000", "together 1", "only", "test", "wire"]);
 });
 

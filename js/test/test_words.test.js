@@ -15,7 +15,8 @@ const manual = [{ title: "The lines of a test", tables: [
   table(["`lamps NAME ..`, `lamps none`", "these lamps are lit"], ["`@LABEL`", "the counter is there"], ["`acc V`", "a register"],
     ["`ram.B.S V ..`", "the RAM character: `ram.0.0x00 2 4`"]),
 ] }, { title: "Inputs", tables: [table(["`press KEY ..`", "these keys may go down"])],
-}, { title: "Properties", tables: [table(["`never C`", "the condition never holds"], ["`at @LABEL C`", "it holds there"])] }];
+}, { title: "Properties", tables: [table(["`never C`", "the condition never holds"], ["`at @LABEL C`", "it holds there"],
+  ["`no press below TIME reaches @LABEL`", "short presses do not count"])] }];
 const forms = testForms(manual);
 const completeLine = (line) => completeTest([line], 0, line.length, names, forms).list.map(({ text }) => text);
 const helpAt = (line, at) => helpForTest([line], 0, at, forms);
@@ -80,6 +81,10 @@ test("words of properties are completed, and have the help of the manual", () =>
   const listedForms = propertyForms(manual);
   const listCompletions = (line) => completeProperty([line], 0, line.length, names, listedForms).list.map(({ text }) => text);
   assert.deepEqual(listCompletions("ne"), ["never"]);
+  assert.deepEqual(["n", "no ", "no press ", "no press below ", "no press below 5 ", "no press below 5 ms r"].map(listCompletions),
+    [["never", "no"], ["press below"], ["below"], [], ["reaches"], ["reaches"]]);
+  assert.deepEqual([listCompletions("no press below 5 reaches "), listCompletions("no press below 5 ms reaches @sto")],
+    [["@start", "@stop"], ["@stop"]]);
   assert.deepEqual(listCompletions("press "), ["1", "2", "ENTER"]);
   assert.deepEqual(listCompletions("lamp red on only after press "), ["1", "2", "ENTER"]);
   assert.deepEqual(listCompletions("never lamp "), ["red", "green"]);
@@ -91,6 +96,8 @@ test("words of properties are completed, and have the help of the manual", () =>
   assert.deepEqual(listCompletions("@stop only after press "), ["1", "2", "ENTER"]);
   assert.deepEqual(listCompletions("# ne"), []);
   assert.equal(helpForProperty(["never lamp red on"], 0, 2, listedForms), "never C: the condition never holds");
+  assert.equal(helpForProperty(["no press below 5 ms reaches @stop"], 0, 1, listedForms),
+    "no press below TIME reaches @LABEL: short presses do not count");
   assert.equal(helpForProperty(["never lamps none"], 0, 8, listedForms), "lamps NAME ..: these lamps are lit");
   assert.match(createFirstProperties(names), /\nnote lamps\n\nreach lamp red on\n/);
   assert.match(createFirstProperties({ ...names, keys: [] }), /\ntest\nwait /);

@@ -39,10 +39,10 @@ const limitsOf = (text, boardSubject = subject) => listInputLimits(campaignOf(te
 
 test("a proof uses the shortest wait of a text last", () => {
   const a = [{ kind: "matrix", row: 0, column: 0 }];
-  assert.deepEqual(limitsOf("wait 2 to 9"), [{ keys: null, maxKeysDown: null, minWait: 2, words: ["wait"] }]);
+  assert.deepEqual(limitsOf("wait 2 to 9"), [{ keys: null, maxKeysDown: null, minWait: 2, maxPressTime: null, words: ["wait"] }]);
   assert.deepEqual(limitsOf("press A\nwait 1 ms to 5 ms\ntogether 1"), [
-    { keys: a, maxKeysDown: null, minWait: 1, words: ["press"] },
-    { keys: a, maxKeysDown: null, minWait: 93, words: ["press", "wait"] },
+    { keys: a, maxKeysDown: null, minWait: 1, maxPressTime: null, words: ["press"] },
+    { keys: a, maxKeysDown: null, minWait: 93, maxPressTime: null, words: ["press", "wait"] },
   ]);
   assert.deepEqual(limitsOf("wait 5 to 9\ntogether 1").map(({ maxKeysDown, words }) => [maxKeysDown, words]),
     [[1, ["together 1"]], [1, ["together 1", "wait"]]]);
@@ -60,8 +60,10 @@ test("a proof with waits needs few combinations of input levels", () => {
 });
 
 test("the shortest wait is a line of a question, and the answer has levels", () => {
-  assert.deepEqual(formatInputLimits({ keys: null, maxKeysDown: 2, minWait: 93, words: [] }), ["together 2", "wait 93"]);
-  assert.deepEqual(formatInputLimits({ keys: [], maxKeysDown: null, minWait: 2, words: [] }), ["wait 2", "only", "test"]);
+  const format = (keys, maxKeysDown, minWait, maxPressTime) => formatInputLimits({ keys, maxKeysDown, minWait, maxPressTime, words: [] });
+  assert.deepEqual(format(null, 2, 93, null), ["together 2", "wait 93"]);
+  assert.deepEqual(format([], null, 2, null), ["wait 2", "only", "test"]);
+  assert.deepEqual(format([], 1, 2, 9), ["together 1", "wait 2", "held 9", "only", "test"]);
   assert.deepEqual(readAnswer("may fail with 4 b\n"), { kind: "fails", reads: { levels: [[0, 0, 1, 0], [1, 1, 0, 1]] } });
   assert.deepEqual(readAnswer("may fail with 10 05\n").reads.levels[1], [0, 0, 0, 0, 1, 0, 1, 0]);
   assert.equal(readAnswer("may fail with\n"), null);
@@ -73,7 +75,7 @@ const levels = (a, b = 0, pin = 1) => [a, b, pin, 0];
 const replay = (text, reads, lineSubject = subject) => (
   replayCounterexample(lineSubject, campaignOf(text, lineSubject), 0, { levels: reads }, async () => {}));
 
-test("changes of levels are as early as the shortest wait allows", async () => {
+test("changes of levels keep the shortest wait if they can", async () => {
   // A reading loop takes 7 cycles. The first step, the cycle before the first read, reads nothing.
   const reads = [levels(1), levels(1), levels(0), levels(1)];
   for (const [wait, isAllowed] of [[2, true], [4, true], [60, false]]) {
@@ -85,7 +87,7 @@ test("changes of levels are as early as the shortest wait allows", async () => {
   const down = await replay(`wait 60 to 1000\n${NEVER_ON}`, [...slowReads, ...Array(30).fill(levels(0)), levels(1)]);
   assert.ok(down.isAllowed);
   assert.match(down.text,
-    /\n {2}run 1\n {2}press A\n {2}run 60\n {2}release A\n {2}run 60\n {2}press A\n {2}run \d+\n {2}expect not lamp on on\n$/);
+    /\n {2}run \d+\n {2}press A\n {2}run 60\n {2}release A\n {2}run 60\n {2}press A\n {2}run \d+\n {2}expect not lamp on on\n$/);
 });
 
 test("two inputs that change in the same cycle break the shortest wait, unless one of them can change earlier", async () => {

@@ -12,7 +12,7 @@ export const testFails = (line, text, message) => `line ${line} of its tests fai
 
 // --- explore/campaign.js ---
 export const PROPERTY_FORMS = "press, test, reset, together, wait, held, apart, from, begin, note, pace, never, always, at, after press, "
-  + "every, reach, model, while, once, or are written as `C only after press K, press K ..`, `@LABEL at most once for each press` or "
+  + "every, no, reach, model, while, once, or are written as `C only after press K, press K ..`, `@LABEL at most once for each press` or "
   + "`@LABEL to @LABEL within TIME`";
 /** @type {(word: string) => string} */
 export const labelSyntax = (word) => `a label is written as @LABEL, not ${word}`;
@@ -42,6 +42,9 @@ export const GUARD_SYNTAX = "a guard is written as `while CONDITION,`, `once CON
 /** @type {(maximum: number) => string} */
 export const tooManyGuardsMessage = (maximum) => `at most ${maximum} guards are before a property`;
 export const WITHIN_SYNTAX = "write `@LABEL to @LABEL within TIME`, as in: @scan to @shown within 20 ms";
+export const SHORT_PRESS_SYNTAX = "write `no press below TIME reaches @LABEL`, from 2 cycles to 100,000 (1.08 s), as in: "
+  + "no press below 5 ms reaches @open";
+export const NOTHING_TO_PRESS = "the board's text names no keys and no button or switch at TEST, so nothing can be pressed";
 export const EVERY_SYNTAX = "write `every TIME @LABEL`, as in: every 20 ms @scan";
 /** @type {(line: string) => string} */
 export const noInstructionInMessage = (line) => `line ${line} of the program has no instruction`;

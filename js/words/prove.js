@@ -8,8 +8,17 @@ export const dependsOnInput = (place) => `its condition uses ${place}, an input`
 // --- prove/input_limits.js ---
 /** @type {(count: number) => string} */
 export const togetherLine = (count) => `together ${count}`;
-/** The first word of the line that sets the minimum time between two changes. */
+/** The first words of the lines that set the minimum time between two changes, and the maximum length of a press. */
 export const WAIT_WORD = "wait";
+export const HELD_WORD = "held";
+export const NEEDS_WAIT = "keys can go up and down unseen between two reads; write a line `wait TIME to TIME`, from 2 cycles";
+export const HELD_SHORTENS_WAITS = "with its line `held`, a proof cannot use `wait`; this property does not need `held`";
+/** @type {(maximum: number) => string} */
+export const tooManyCombinations = (maximum) => "a proof can use `wait` only if keys and TEST have at most "
+  + `${maximum} allowed combinations; name fewer keys with \`press\`, or write \`together 1\``;
+export const TEST_IS_NOT_LIMITED = "a proof limits only how long keys of the matrix are down";
+/** @type {(maximum: number) => string} */
+export const pressTimeTooLong = (maximum) => `its time and the shortest wait are together longer than ${maximum} cycles`;
 
 // --- prove/question.js ---
 /** @type {(form: string) => string} */
@@ -46,6 +55,10 @@ export const NOT_CONFIRMED = "the bench does not confirm the counterexample that
 /** @type {(guards: string, isGoal: boolean) => string} */
 export const failsWithoutGuards = (guards, isGoal) =>
   `it can ${isGoal ? "be reached" : "fail"} without ${guards}, which a proof leaves out`;
+export const UNSEEN_RELEASES = `${NOT_CONFIRMED}; keys can go up and down unseen between reads that are further apart than the `
+  + "shortest wait";
+/** @type {(maximum: string) => string} */
+export const allowsLongerPresses = (maximum) => `${NOT_CONFIRMED}; with this \`wait\`, a proof allows presses of up to ${maximum} cycles`;
 export const TRUE_BEFORE_KEYS_ARE_READ = "it can become true before the program has read each key up and then down";
 
 // --- prove/bounded_proof.js ---

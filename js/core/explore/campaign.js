@@ -11,7 +11,8 @@ import { TOOL_KEY_DOWN_CYCLES, TOOL_KEY_UP_CYCLES, cyclesFromMilliseconds } from
 import { listKeyInputs, listInputNames, createTestInput } from "./search_inputs.js";
 import {
   GUARDABLE_FORMS, afterPressProperty, alwaysProperty, atProperty, everyProperty, guardedProperty, modelProperty, neverForProperty,
-  neverProperty, oncePerPressProperty, onlyAfterProperty, reachAddressProperty, reachProperty, standardProperties, withinProperty,
+  neverProperty, noPressProperty, oncePerPressProperty, onlyAfterProperty, reachAddressProperty, reachProperty, standardProperties,
+  withinProperty,
 } from "./properties.js";
 import { NO_DISPLAY, boardLacks, errorInColumn, noLabelMessage } from "../../words/conditions.js";
 import * as say from "../../words/explore.js";
@@ -64,6 +65,8 @@ function findOriginalColumn(originalLine, column) {
 const MAX_NOTES = 16;
 /** The default for the maximum number of keys that are down at the same time. */
 const DEFAULT_MAX_KEYS_DOWN = 2;
+/** The shortest and the longest time in the line `no press below TIME reaches @LABEL`, in cycles. A proof can use these times. */
+const PRESS_TIMES = { min: 2, max: 100000 };
 /** The default waits, 1 and 20 ms, in cycles. */
 const DEFAULT_WAITS = { minWait: cyclesFromMilliseconds(1), maxWait: cyclesFromMilliseconds(20) };
 /** The default times for which each key in a sequence for a model is pressed and then released, in cycles. */
@@ -307,6 +310,14 @@ const PROPERTY_PARSERS = {
     const words = remainingText.split(" ");
     if (words.length < 2) fail(syntax);
     return everyProperty(text, reader.parseLabel(words[words.length - 1]), reader.parseTime(words.slice(0, -1).join(" "), syntax));
+  },
+  no: (reader, remainingText, text) => {
+    const syntax = say.SHORT_PRESS_SYNTAX;
+    const [, time, label] = /^press below (.+) reaches (\S+)$/.exec(remainingText) || fail(syntax);
+    const limit = reader.parseTime(time, syntax);
+    if (limit < PRESS_TIMES.min || limit > PRESS_TIMES.max) fail(syntax);
+    if (listInputNames(reader.names.face).length === 0) fail(say.NOTHING_TO_PRESS);
+    return noPressProperty(text, reader.parseLabel(label), limit);
   },
   reach: (reader, remainingText, text) => {
     const line = /^line (\d+)$/.exec(remainingText);

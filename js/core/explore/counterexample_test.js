@@ -135,6 +135,7 @@ const FINAL_LINES = {
   within: (writer) => writer.writeUntil(writer.formatCounterCondition(writer.property.address), writer.time - writer.property.limit),
   "after press": (writer) => writer.writeUntil(writer.formatCondition(true), writer.time - writer.property.limit),
   once: (writer) => writer.writeExpect(`not ${writer.formatCounterCondition(writer.property.address)}`),
+  "no press": (writer) => writer.writeExpect(`not ${writer.formatCounterCondition(writer.property.address)}`),
   reach: (writer) => writer.writeExpect(writer.formatCondition(true)),
   "reach at": (writer) => writer.writeExpect(writer.formatCounterCondition(writer.property.address)),
   model: () => undefined,

@@ -2,7 +2,7 @@
 // inputs. If there is none, asks for a proof for only the inputs that the properties text allows. The prover gets a part of the search
 // time. Each round asks about all properties that are not proved yet, with twice the previous bound on the number of states.
 
-import { listInputLimits } from "../prove/input_limits.js";
+import { listInputLimits, listPropertyLimits } from "../prove/input_limits.js";
 import { listMistakes } from "../prove/mistakes.js";
 import {
   createQuestion, listBounds, combineQuestions, mistakeQuestion, needsSeparateQuestion, questionText, readAnswer,
@@ -37,8 +37,10 @@ export class InitialProof {
     this.states = campaign.properties.map(() => 0);
     /** @type {string[][]} for each property, the lines of the properties text with the input limits that the proof of the property needs */
     this.limits = campaign.properties.map(() => []);
-    /** The limits that the properties text sets on the inputs, for successive attempts of a proof. */
-    this.inputLimits = listInputLimits(campaign, subject.names.board);
+    const { board } = subject.names;
+    const inputLimits = listInputLimits(campaign, board);
+    /** For each property, the limits on the inputs for successive attempts of a proof. */
+    this.inputLimits = campaign.properties.map((property) => listPropertyLimits(property, campaign, inputLimits, board));
     const separateQuestions = this.timeLeft > 0 ? createQuestions(subject, campaign) : [];
     const combinableQuestions = separateQuestions.filter(({ properties: [at], question }) => (
       !needsSeparateQuestion(campaign.properties[at], question)));
@@ -93,9 +95,10 @@ export class InitialProof {
    * @param {PropertyQuestion} propertyQuestion
    */
   createLimitedQuestions({ properties, question }) {
-    const next = question.inputLimits ? this.inputLimits.indexOf(question.inputLimits) + 1 : 0;
-    if (next === this.inputLimits.length || properties.length > 1) return [];
-    return [{ properties, question: { ...question, inputLimits: this.inputLimits[next] } }];
+    const inputLimits = this.inputLimits[properties[0]];
+    const next = question.inputLimits ? inputLimits.indexOf(question.inputLimits) + 1 : 0;
+    if (next === inputLimits.length || properties.length > 1) return [];
+    return [{ properties, question: { ...question, inputLimits: inputLimits[next] } }];
   }
 
   /**

@@ -12,17 +12,18 @@ import * as say from "../../words/explore.js";
  * The kinds of events:
  * - `values`: the places of the property's conditions have new values;
  * - `label`: the program counter reaches an address of the property;
- * - `down`: an input goes down; `reset`: the power is cut; `end`: a wait ends;
+ * - `down`, `up`: an input goes down, or up; `reset`: the power is cut; `end`: a wait ends;
  * - `call`, `return`: a subroutine is called, or returns.
- * @typedef {"values" | "label" | "down" | "reset" | "end" | "call" | "return"} Event
+ * @typedef {"values" | "label" | "down" | "up" | "reset" | "end" | "call" | "return"} Event
  *
  * The circumstances of an event. Times are in cycles since power-on.
  * - `time`: the time of the event; `changeTime`: for `values`, the end of the first cycle of the instruction that changed the values;
  * - `address`: for `label`, the address that the program counter reaches;
  * - `holds`: true if the property's condition is true; `areOpen`: for each guard, true if its condition is true;
- * - `input`: for `down`, the name of the input that goes down; `downCount`: the number of inputs that are down.
+ * - `input`: for `down`, the name of the input that goes down; `downCount`: the number of inputs that are down;
+ * - `key`: for `down` and `up`, the index of the key that goes down or up, -1 if the input is no key.
  * @typedef {{ time: number, changeTime: number, address: number, holds: boolean, areOpen: boolean[], input: string,
- *   downCount: number }} Moment
+ *   downCount: number, key: number }} Moment
  *
  * A guard of a property. The property is checked only:
  * - `press`: for `limit` cycles after a press of the key, or without a limit if `limit` is 0;
@@ -34,15 +35,16 @@ import * as say from "../../words/explore.js";
  * - `form`: the form of its line; `text`, `line`: its text and line number; `address`: the address of its label, -1 for none;
  * - `start`: for `within`, the address at which the time measurement starts; `limit`: the time limit in cycles; `keys`: the keys in its
  *   text;
- * - `createMemory`: returns the initial memory; `update`: updates the memory after an event, and returns the time of the violation or -1;
+ * - `createMemory`: returns the initial memory, for the inputs of a campaign; `update`: updates the memory after an event, and returns the
+ *   time of the violation or -1;
  * - `newStateKey`: returns the part of the memory that distinguishes states, as text;
  * - `hasApplied`: returns whether an event in the walk was relevant to the property, such as a press of its key.
  * @typedef {{ form: Form, text: string, line: number, condition: Condition | null, address: number, start: number, limit: number,
- *   isGoal: boolean, keys: string[], guards: Guard[], createMemory: (time: number, downCount: number) => number[],
+ *   isGoal: boolean, keys: string[], guards: Guard[], createMemory: (time: number, inputs: Input[]) => number[],
  *   update: (memory: number[], event: Event, moment: Moment) => number, newStateKey: (memory: number[]) => string,
  *   hasApplied: (memory: number[]) => boolean }} Property
- * @typedef {"never" | "always" | "never for" | "at" | "only after" | "every" | "within" | "after press" | "once" | "reach" | "reach at"
- *   | "model" | "code" | "calls" | "returns" | "mistake"} Form
+ * @typedef {"never" | "always" | "never for" | "at" | "only after" | "every" | "within" | "after press" | "once" | "no press"
+ *   | "reach" | "reach at" | "model" | "code" | "calls" | "returns" | "mistake"} Form
  */
 
 /** The value of a time or address that does not exist. */
@@ -256,7 +258,7 @@ export function afterPressProperty(text, key, condition, limit) {
  */
 export function oncePerPressProperty(text, address) {
   return {
-    ...DEFAULT_PROPERTY, form: "once", text, address, createMemory: (_, downCount) => [downCount, 0],
+    ...DEFAULT_PROPERTY, form: "once", text, address, createMemory: (_, inputs) => [inputs.filter(({ isDown }) => isDown).length, 0],
     hasApplied: ([, wasReached]) => wasReached > 0,
     update: (memory, event, { time, downCount }) => {
       if (event === "reset") memory[0] = downCount;
@@ -267,6 +269,30 @@ export function oncePerPressProperty(text, address) {
         if (memory[0] < 0) return time;
       }
       return UNSET;
+    },
+  };
+}
+
+/**
+ * Creates the property that the program counter reaches a label only after some key was down for at least `limit` cycles without
+ * interruption. Memory: 1 if a key was down for that long since power-on; and for each input, the time at which the key went down. This
+ * time is -1 for a key that is up and for an input that is no key. A key that is down at the start, or at a power cycle, counts from then.
+ * @param {string} text
+ * @param {number} address
+ * @param {number} limit
+ * @returns {Property}
+ */
+export function noPressProperty(text, address, limit) {
+  return {
+    ...DEFAULT_PROPERTY, form: "no press", text, address, limit,
+    createMemory: (_, inputs) => [0, ...inputs.map(({ isDown, canBePressed }) => (isDown && canBePressed ? 0 : UNSET))],
+    newStateKey: ([hadLongPress]) => `${hadLongPress}`,
+    update: (memory, event, { time, key }) => {
+      const pressTimes = memory.slice(1);
+      if (pressTimes.some((pressTime) => pressTime !== UNSET && time - pressTime >= limit)) memory[0] = 1;
+      if (event === "reset") memory.splice(0, memory.length, 0, ...pressTimes.map((pressTime) => (pressTime === UNSET ? UNSET : time)));
+      else if (key !== UNSET) memory[key + 1] = event === "down" ? time : UNSET;
+      return event === "label" && memory[0] === 0 ? time : UNSET;
     },
   };
 }
@@ -352,7 +378,7 @@ export function guardedProperty(text, property, guards) {
   const originalStart = guards.length + 1;
   return {
     ...property, text, guards,
-    createMemory: (time, downCount) => [...guards.map(() => UNSET), 0, ...property.createMemory(time, downCount)],
+    createMemory: (time, inputs) => [...guards.map(() => UNSET), 0, ...property.createMemory(time, inputs)],
     newStateKey: (memory) => (
       guards.map((_, index) => (memory[index] === UNSET ? "-" : "+")).join("") + property.newStateKey(memory.slice(originalStart))),
     hasApplied: (memory) => memory[originalStart - 1] > 0 && property.hasApplied(memory.slice(originalStart)),

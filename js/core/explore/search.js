@@ -9,7 +9,7 @@ import { DeltaFiles } from "./delta_files.js";
 import { PlaceReader } from "./place_reader.js";
 import { Conditions, PlaceValues, listConditions } from "./place_queries.js";
 import { listAddresses } from "./properties.js";
-import { chooseStep, updateDownInputs, initialDownInputs, changeLine, walkLines, createRandom } from "./walks.js";
+import { chooseStep, findChangedKey, updateDownInputs, initialDownInputs, changeLine, walkLines, createRandom } from "./walks.js";
 import { updateAges, createInitialAges, randomBelow } from "./walks.js";
 import { Watcher } from "./walk_watcher.js";
 import { MAX_ENABLED_BREAKPOINTS } from "../debug/breakpoints.js";
@@ -93,12 +93,12 @@ export class Search {
 
   /** @returns {import("./walk_watcher.js").WalkStart} the start state, at which the check of the properties begins */
   createStart() {
-    const { subject, campaign: { checkStart, properties } } = this;
+    const { subject, campaign: { checkStart, properties, inputs } } = this;
     const file = subject.file.slice();
     const downInputs = initialDownInputs(this.campaign);
     const { min, max } = this.campaign.calls;
     const memories = properties.map(({ createMemory, form }) => (
-      form === "calls" ? [min] : form === "returns" ? [max] : createMemory(checkStart, downInputs.length)));
+      form === "calls" ? [min] : form === "returns" ? [max] : createMemory(checkStart, inputs)));
     if (checkStart > 0) {
       subject.engine.serve(file, runLines(checkStart), file);
       this.setCallMemories(memories);
@@ -400,11 +400,13 @@ class EstimatedState {
    * @param {import("../engine/forecast_answers.js").InstructionCount[]} instructionCounts the instruction counts of the wait
    */
   canBeViolated(step, { holds, areOpen }, instructionCounts) {
-    const { campaign: { properties, inputs }, conditionProperties, memories } = this;
+    const { campaign, conditionProperties, memories } = this;
+    const { properties, inputs } = campaign;
     this.downInputs = updateDownInputs(this.downInputs, step);
     const input = step.kind === "down" ? inputs[step.input].name : "";
     const time = this.time + step.wait;
-    const moment = { time, changeTime: time, address: -1, holds: false, areOpen: NO_GUARDS, input, downCount: this.downInputs.length };
+    const moment = { time, changeTime: time, address: -1, holds: false, areOpen: NO_GUARDS, input, downCount: this.downInputs.length,
+      key: findChangedKey(campaign, step) };
     const countAt = (/** @type {number} */ label) => (
       (instructionCounts.find(({ address }) => address === label) || { startCount: 0 }).startCount);
     const isAtLabel = this.labelProperties.some((at) => (
@@ -442,10 +444,11 @@ class EstimatedState {
       if (moment.time - memory[0] > limit) return true;
       if (count > 0) memory[0] = this.time;
     }
+    // If the label was reached during this wait, assume that presses were as short as at the start of the wait.
+    if (form === "no press" && count > 0 && update(memory, "label", { ...moment, time: this.time, key: -1 }) >= 0) return true;
     const isCounted = form === "once" || form === "only after";
     for (let times = 0; isCounted && times < count; times++) if (update(memory, "label", moment) >= 0) return true;
-    if (step.kind === "down") update(memory, "down", moment);
-    if (step.kind === "reset") update(memory, "reset", moment);
+    if (step.kind !== "none") update(memory, step.kind, moment);
     return false;
   }
 

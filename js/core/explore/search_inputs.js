@@ -6,9 +6,10 @@ import { keyLine, pinKey } from "../board/key_place.js";
  * @typedef {import("../board/key_place.js").Key} Key
  *
  * An input, which is either down or up. `downLine` and `upLine` are the bench lines that change its position; `downTestLine` and
- * `upTestLine` are the test lines for the same changes. `isDown` is true if it is down in the start state.
- * @typedef {{ name: string, key: Key, isKey: boolean, downLine: string, upLine: string, downTestLine: string, upTestLine: string,
- *   isDown: boolean }} Input
+ * `upTestLine` are the test lines for the same changes. `isDown` is true if it is down in the start state. `isKey` is true for a key of the
+ * matrix. `canBePressed` is true for such a key, and for TEST if the front panel has a button or switch for it.
+ * @typedef {{ name: string, key: Key, isKey: boolean, canBePressed: boolean, downLine: string, upLine: string, downTestLine: string,
+ *   upTestLine: string, isDown: boolean }} Input
  *
  * @typedef {import("../board/face.js").Face} Face
  */
@@ -21,8 +22,8 @@ import { keyLine, pinKey } from "../board/key_place.js";
  * @returns {Input}
  */
 export function createInput(name, key, [downTestLine, upTestLine]) {
-  return { name, key, isKey: key.kind === "matrix", downLine: keyLine("press", key), upLine: keyLine("release", key), downTestLine,
-    upTestLine, isDown: false };
+  return { name, key, isKey: key.kind === "matrix", canBePressed: true, downLine: keyLine("press", key), upLine: keyLine("release", key),
+    downTestLine, upTestLine, isDown: false };
 }
 
 /**
@@ -44,7 +45,7 @@ export function createTestInput({ test }) {
   const level = test ? test.level : 0;
   /** @type {[string, string]} */
   const testLines = test ? [`press ${test.name}`, `release ${test.name}`] : [`set test ${level}`, `set test ${1 - level}`];
-  return { ...createInput(test ? test.name : "test", pinKey(level), testLines), isDown: level === 1 };
+  return { ...createInput(test ? test.name : "test", pinKey(level), testLines), canBePressed: test !== null, isDown: level === 1 };
 }
 
 /**

@@ -5,7 +5,7 @@ import { instructionCycles, isCall, isReturn } from "../engine/rom_codes.js";
 import { parseTraceLine } from "../engine/forecast_answers.js";
 import { Conditions, PlaceQueries, PlaceValues, listConditions } from "./place_queries.js";
 import { listAddresses } from "./properties.js";
-import { updateDownInputs, changeLine } from "./walks.js";
+import { findChangedKey, updateDownInputs, changeLine } from "./walks.js";
 
 /**
  * @typedef {import("./campaign.js").Campaign} Campaign
@@ -181,10 +181,10 @@ class Walk {
    * Reports an event to the properties, and records the first violation.
    * @param {Event} event
    * @param {number} time
-   * @param {{ address?: number, input?: string, changeTime?: number }} details the address of a label, the input that goes down, or the
-   *   time of a change of values
+   * @param {{ address?: number, input?: string, key?: number, changeTime?: number }} details the address of a label, the input that goes
+   *   down, the key that goes down or up, or the time of a change of values
    */
-  notify(event, time, { address = -1, input = "", changeTime = time } = {}) {
+  notify(event, time, { address = -1, input = "", key = -1, changeTime = time } = {}) {
     const { watcher: { campaign: { properties }, conditions, callProperties }, values } = this;
     const isCallEvent = event === "call" || event === "return";
     for (const at of isCallEvent ? callProperties : this.openProperties) {
@@ -193,7 +193,7 @@ class Walk {
       const needsConditions = event === "values" || event === "label";
       const holds = needsConditions && conditions[at].holds(values);
       const areOpen = needsConditions || event === "down" ? conditions[at].evaluateGuards(values) : NO_GUARDS;
-      const moment = { time, changeTime, address, holds, areOpen, input, downCount: this.downInputs.length };
+      const moment = { time, changeTime, address, holds, areOpen, input, downCount: this.downInputs.length, key };
       const violationTime = update(this.memories[at], event, moment);
       const isFirst = violationTime >= 0 && (!this.firstViolation || violationTime < this.firstViolation.time);
       if (isFirst && this.openProperties.includes(at)) this.firstViolation = { property: at, time: violationTime };
@@ -283,9 +283,11 @@ class Walk {
    * @param {WalkStep} step
    */
   notifyInputChange(step) {
-    const { campaign: { inputs } } = this.watcher;
+    const { campaign } = this.watcher;
     this.downInputs = updateDownInputs(this.downInputs, step);
-    if (step.kind === "down") this.notify("down", this.time, { input: inputs[step.input].name });
+    const key = findChangedKey(campaign, step);
+    if (step.kind === "down") this.notify("down", this.time, { input: campaign.inputs[step.input].name, key });
+    if (step.kind === "up") this.notify("up", this.time, { key });
     if (step.kind === "reset") {
       this.notify("reset", this.time);
       for (const at of this.watcher.callProperties) this.watcher.campaign.properties[at].update(this.memories[at], "reset", EMPTY_MOMENT);
@@ -295,4 +297,4 @@ class Walk {
 
 /** @type {boolean[]} the values of the guard conditions of a property without guards */
 const NO_GUARDS = [];
-const EMPTY_MOMENT = { time: 0, changeTime: 0, address: -1, holds: false, areOpen: NO_GUARDS, input: "", downCount: 0 };
+const EMPTY_MOMENT = { time: 0, changeTime: 0, address: -1, holds: false, areOpen: NO_GUARDS, input: "", downCount: 0, key: -1 };

@@ -131,6 +131,15 @@ export function updateDownInputs(downInputs, { kind, input }) {
 }
 
 /**
+ * Returns the index of the key that goes down or up after a step; -1 if there is none.
+ * @param {Pick<Campaign, "inputs">} campaign
+ * @param {WalkStep} step
+ */
+export function findChangedKey({ inputs }, { kind, input }) {
+  return (kind === "down" || kind === "up") && inputs[input].canBePressed ? input : -1;
+}
+
+/**
  * Returns whether a campaign allows steps from the start state. An input can go down only if it is up, and up only if it is down. The steps
  * must respect the limits on the number of keys that are down, on hold times and on release times.
  * @param {Campaign} campaign
@@ -172,7 +181,7 @@ export function findLongestWaitAfter(campaign, steps) {
 
 /**
  * Returns the bench line for the change in a step, with its line feed; "" if there is no change.
- * @param {Campaign} campaign
+ * @param {Pick<Campaign, "inputs">} campaign
  * @param {WalkStep} step
  */
 export function changeLine({ inputs }, { kind, input }) {

@@ -33,7 +33,7 @@ const MINIMISING_CYCLES = 10e6;
  */
 const MAX_MINIMISED_CYCLES = 1e6;
 /** The property forms that depend on all events since power-on. A violation is found only if the walk is watched from its start. */
-const FORMS_WITH_MEMORY = new Set(["calls", "returns", "never for", "every", "within", "only after"]);
+const FORMS_WITH_MEMORY = new Set(["calls", "returns", "never for", "every", "within", "only after", "no press"]);
 
 /**
  * Returns a campaign that checks one property and allows any change of any input at any time.
@@ -74,9 +74,9 @@ function separateChanges(steps, minWait) {
  * @returns {WalkStep[]}
  */
 function splitLongWait(step) {
-  const waits = splitCycles(step.wait);
-  const last = waits.pop() || 0;
-  return [...waits.map((wait) => ({ wait, kind: /** @type {const} */ ("none"), input: -1 })), { ...step, wait: last }];
+  const waits = createWaits(step.wait);
+  const { wait = 0 } = waits.pop() || {};
+  return [...waits, { ...step, wait }];
 }
 
 /**
@@ -88,6 +88,13 @@ function splitCycles(cycles) {
   for (let remaining = cycles; remaining > 0; remaining -= MAX_RUN_CYCLES) waits.push(Math.min(remaining, MAX_RUN_CYCLES));
   return waits;
 }
+
+/**
+ * Returns steps that only wait, for a number of cycles in total.
+ * @param {number} cycles
+ * @returns {WalkStep[]}
+ */
+const createWaits = (cycles) => splitCycles(cycles).map((wait) => ({ wait, kind: "none", input: -1 }));
 
 /**
  * Returns the steps whose input changes happen before `time`.
@@ -131,12 +138,14 @@ class Replay {
     this.allowedCampaign = campaign;
     this.freeCampaign = createFreeCampaign(campaign, property, listInputs(subject));
     this.initialDown = initialDownInputs(this.freeCampaign);
-    const [{ form, guards }] = this.freeCampaign.properties;
+    const [{ form, guards, limit }] = this.freeCampaign.properties;
     /** True if the property excludes a common mistake that watching a walk cannot detect; `countCyclesToMistake` detects it. */
     this.excludesMistake = form === "mistake";
     this.needsFullWalk = FORMS_WITH_MEMORY.has(form) || guards.length > 0;
     /** The minimum number of cycles between two changes; 0 if inputs can change in the same cycle. */
     this.shortestAllowedWait = campaign.hasWait && campaign.minWait > 1 ? campaign.minWait : 0;
+    /** The maximum length of a press in cycles. A longer one is not allowed, or does not break the property. */
+    this.maxPressTime = Math.min(campaign.maxHoldTime, form === "no press" ? limit - 1 : Infinity);
   }
 
   /**
@@ -145,8 +154,8 @@ class Replay {
    * @returns {import("../explore/walk_watcher.js").WalkStart}
    */
   createStart(file) {
-    const { initialDown } = this;
-    return { file, time: 0, downInputs: initialDown, memories: [this.freeCampaign.properties[0].createMemory(0, initialDown.length)] };
+    const { initialDown, freeCampaign: { inputs, properties: [property] } } = this;
+    return { file, time: 0, downInputs: initialDown, memories: [property.createMemory(0, inputs)] };
   }
 
   /**
@@ -155,19 +164,29 @@ class Replay {
    * @returns {Violation | null}
    */
   findViolation(reads) {
-    const { subject, allowedCampaign, freeCampaign, needsFullWalk } = this;
-    const { steps, time, file, remainingCycles } = replayReads(subject, freeCampaign.inputs, reads, allowedCampaign);
-    if (this.excludesMistake) {
-      const cycles = countCyclesToMistake(subject, file, this.mistake, remainingCycles);
-      return cycles < 0 ? null : { property: 0, steps, time: time + cycles };
-    }
-    // Add one more cycle, in which the instruction at the label of the property starts.
-    const waits = splitCycles(remainingCycles + 1).map((wait) => ({ wait, kind: /** @type {const} */ ("none"), input: -1 }));
-    const violationTime = needsFullWalk ? this.findViolationTime(subject.file, [...steps.flatMap(splitLongWait), ...waits])
-      : this.findViolationTime(file, waits);
-    if (violationTime < 0) return null;
-    return needsFullWalk ? { property: 0, steps: listStepsBefore(steps, violationTime), time: violationTime }
-      : { property: 0, steps, time: time + violationTime };
+    const { subject, allowedCampaign, freeCampaign, needsFullWalk, maxPressTime } = this;
+    const { steps, releaseSteps, time, file, remainingCycles } =
+      replayReads(subject, freeCampaign.inputs, reads, allowedCampaign, maxPressTime);
+    const endTime = time + remainingCycles;
+    if (needsFullWalk) return this.findViolationOnWalk([...steps, ...listStepsBefore(releaseSteps, remainingCycles)], endTime);
+    const cycles = this.excludesMistake ? countCyclesToMistake(subject, file, this.mistake, remainingCycles)
+      : this.findViolationTime(file, createWaits(remainingCycles + 1));
+    if (cycles < 0) return null;
+    return { property: 0, steps: [...steps, ...listStepsBefore(releaseSteps, cycles)], time: time + cycles };
+  }
+
+  /**
+   * Returns the first violation on a walk from power-on until `endTime`; null if there is none.
+   * @param {WalkStep[]} steps
+   * @param {number} endTime
+   * @returns {Violation | null}
+   */
+  findViolationOnWalk(steps, endTime) {
+    const remainingCycles = steps.reduce((remaining, { wait }) => remaining - wait, endTime);
+    // In one more cycle, the instruction at the label of the property starts.
+    const walkSteps = [...steps.flatMap(splitLongWait), ...createWaits(remainingCycles + 1)];
+    const time = this.findViolationTime(this.subject.file, walkSteps);
+    return time < 0 ? null : { property: 0, steps: listStepsBefore(steps, time), time };
   }
 
   /**

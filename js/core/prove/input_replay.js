@@ -1,6 +1,6 @@
 // Converts the inputs in a counterexample of the prover to steps that press keys, release keys or set TEST. To do so, this module runs the
 // program on the bench. Before each instruction that reads an input, it sets the keys or TEST so that the program reads the next value, or
-// it sets all inputs to the next levels.
+// so that they have the next levels. If there are levels, it then chooses the moments of all changes.
 
 import { readCounter, readRun } from "../bench/answers.js";
 import { indices } from "../bench/numbers.js";
@@ -8,9 +8,11 @@ import { ADDRESS_COUNT } from "../bench/rom_bytes.js";
 import { parsePorts, parseState } from "../bench/state_line.js";
 import { isSameKey, keyLine, matrixKey, pinKey } from "../board/key_place.js";
 import { MAX_ENABLED_BREAKPOINTS } from "../debug/breakpoints.js";
-import { MAX_RUN_CYCLES } from "../engine/key_queue.js";
+import { MAX_RUN_CYCLES, runLines } from "../engine/key_queue.js";
 import { RDR } from "../engine/rom_codes.js";
 import { createInput, createTestInput, listKeyInputs } from "../explore/search_inputs.js";
+import { changeLine } from "../explore/walks.js";
+import { createSteps, findLatestMoments } from "./change_moments.js";
 import { DEFAULT_PAUSE } from "./question.js";
 
 /**
@@ -18,7 +20,11 @@ import { DEFAULT_PAUSE } from "./question.js";
  * @typedef {import("../explore/search_inputs.js").Input} Input
  * @typedef {import("../explore/subject.js").Subject} Subject
  * @typedef {import("../explore/walks.js").WalkStep} WalkStep
+ * @typedef {import("./change_moments.js").Change} Change
  * @typedef {import("./question.js").Reads} Reads
+ *
+ * The minimum number of cycles between two changes, and the maximum length of a press in cycles; Infinity for no maximum.
+ * @typedef {{ minWait: number, maxPressTime: number }} PressLimits
  */
 
 /**
@@ -57,6 +63,8 @@ class InputReplay {
     /** For each input, whether it is down now. */
     this.downInputs = inputs.map(({ isDown }) => isDown);
     this.cyclesSinceChange = 0;
+    /** The number of cycles since power-on. */
+    this.time = 0;
     /** @type {WalkStep[]} */
     this.steps = [];
     this.readAddresses = indices(ADDRESS_COUNT).filter((address) => this.readsInput(subject.codes[address]));
@@ -122,6 +130,7 @@ class InputReplay {
     const [answer] = this.serve(`run ${count}\n`);
     const { cycles, end } = readRun(answer) || { cycles: 0, end: "" };
     this.cyclesSinceChange += cycles;
+    this.time += cycles;
     return { cycles, end };
   }
 
@@ -210,87 +219,150 @@ class ValueReplay extends InputReplay {
 }
 
 /**
- * A replay in which the inputs that are read have given levels at each read. Makes each change as early as possible, but at least
- * `minWait` cycles after the change before it, and the first change after one cycle. Makes a change immediately before its read if the
- * read is earlier than that.
+ * The moment at which a step of a counterexample begins, in cycles since power-on. `code` is the opcode of an instruction that reads an
+ * input then, or -1. `levels` are the levels of all inputs: of each key, row by row, and of TEST.
+ * @typedef {{ time: number, code: number, levels: number[] }} LevelStep
+ */
+
+/**
+ * A replay in which the inputs that are read have given levels at each read. Changes inputs immediately before the read, and records the
+ * moments of all steps.
  */
 class LevelReplay extends InputReplay {
   /**
    * @param {Subject} subject
    * @param {Input[]} inputs
-   * @param {number} minWait
    */
-  constructor(subject, inputs, minWait) {
+  constructor(subject, inputs) {
     super(subject, inputs);
-    this.minWait = minWait;
-    this.hasChanged = false;
-    /**
-     * The session file after the last read, and the number of cycles that it has run since the last change.
-     * @type {{ file: Uint8Array, cyclesSinceChange: number }}
-     */
-    this.afterRead = { file: this.file.slice(), cyclesSinceChange: 0 };
+    /** @type {LevelStep[]} */
+    this.levelSteps = [];
   }
 
   /**
-   * Sets the keys, or TEST, to levels for the next read. Changes them before this read, if necessary. Leaves inputs that this read cannot
-   * detect, because each change delays the next one. Does nothing if the next cycle reads no input.
-   * @param {number[]} levels the level of each key, row by row, and of TEST
+   * Sets the keys, or TEST, to levels for the next read. Leaves inputs that this read cannot detect.
+   * @param {number[]} levels
    */
   setInputs(levels) {
-    const code = this.findNextReadCode();
-    if (code < 0) return;
-    const pin = this.inputs.length - 1;
-    const wantedInputs = this.inputs.map(({ key }, index) => {
-      if ((index === pin) !== readsTest(code)) return this.downInputs[index];
-      return index === pin ? isSameKey(key, pinKey(levels[pin])) : levels[index] === 1;
-    });
-    if (wantedInputs.every((isDown, index) => isDown === this.downInputs[index])) return;
-    this.goBackToEarliestChange();
-    wantedInputs.forEach((isDown, index) => { if (!isDown) this.moveInput(index, false); });
-    wantedInputs.forEach((isDown, index) => { if (isDown) this.moveInput(index, true); });
-    this.hasChanged = true;
-    this.runToRead();
+    const step = { time: this.time, code: this.findNextReadCode(), levels };
+    this.levelSteps.push(step);
+    const readInputs = indices(this.inputs.length).filter((index) => isRead(step, index === this.inputs.length - 1));
+    for (const index of readInputs) this.moveInput(index, isDownAt(step, this.inputs, index));
   }
+}
 
-  /** Goes back to the earliest moment after the last read at which the inputs can change. Stays at the next read if that is earlier. */
-  goBackToEarliestChange() {
-    const { afterRead } = this;
-    // A counterexample can be minimised only if a run of at least one cycle comes before each change.
-    const minCycles = this.hasChanged ? this.minWait : 1;
-    const cyclesToChange = Math.max(0, minCycles - afterRead.cyclesSinceChange);
-    const cyclesToRead = this.cyclesSinceChange - afterRead.cyclesSinceChange;
-    if (cyclesToChange >= cyclesToRead) return;
-    this.file = afterRead.file.slice();
-    this.cyclesSinceChange = afterRead.cyclesSinceChange;
-    for (let remaining = cyclesToChange; remaining > 0;) remaining -= this.run(Math.min(remaining, MAX_RUN_CYCLES)).cycles;
-  }
+/**
+ * Returns whether a step reads TEST, or reads the keys.
+ * @param {LevelStep} step
+ * @param {boolean} isPin true for TEST, false for the keys
+ */
+const isRead = ({ code }, isPin) => code >= 0 && isPin === readsTest(code);
 
-  /**
-   * Runs the program. After a read, stores the session.
-   * @param {number} count
-   */
-  run(count) {
-    const isRead = count === 1 && this.findNextReadCode() >= 0;
-    const result = super.run(count);
-    if (isRead) this.afterRead = { file: this.file.slice(), cyclesSinceChange: this.cyclesSinceChange };
-    return result;
+/**
+ * Returns whether an input is down in a step.
+ * @param {LevelStep} step
+ * @param {Input[]} inputs
+ * @param {number} index the index of the input
+ */
+const isDownAt = ({ levels }, inputs, index) => (
+  inputs[index].isKey ? levels[index] === 1 : isSameKey(inputs[index].key, pinKey(levels[index])));
+
+/**
+ * The functions that decide whether inputs must have the levels of a step. The fewest changes result if only the inputs that are read must
+ * have them. But then a press can be too long, because a release that no read detects is missing. So the next function also demands the
+ * levels of keys that are not read, and the last one those of TEST.
+ * @type {((step: LevelStep, isPin: boolean) => boolean)[]}
+ */
+const LEVEL_DEMANDS = [isRead, (step, isPin) => !isPin || isRead(step, true), () => true];
+
+/**
+ * Returns the changes that give the inputs their levels in all steps in which a function demands them, and the releases of the keys that
+ * are down after that. An input can change from the moment after its last demanded level until the next one.
+ * @param {LevelStep[]} levelSteps
+ * @param {Input[]} inputs
+ * @param {(step: LevelStep, isPin: boolean) => boolean} isDemanded
+ * @returns {{ changes: Change[], releases: Change[] }}
+ */
+function listChanges(levelSteps, inputs, isDemanded) {
+  let downInputs = indices(inputs.length).filter((index) => inputs[index].isDown);
+  // A counterexample can be minimised only if a run of at least one cycle comes before each change.
+  const firstMoments = inputs.map(() => 1);
+  const changes = levelSteps.flatMap((step) => {
+    const { time } = step;
+    const demanded = indices(inputs.length).filter((index) => isDemanded(step, index === inputs.length - 1));
+    const pressed = demanded.filter((index) => isDownAt(step, inputs, index) && !downInputs.includes(index));
+    const released = demanded.filter((index) => !isDownAt(step, inputs, index) && downInputs.includes(index));
+    const first = Math.min(time, Math.max(...[...pressed, ...released].map((index) => firstMoments[index])));
+    for (const index of demanded) firstMoments[index] = time + 1;
+    downInputs = [...downInputs.filter((index) => !released.includes(index)), ...pressed];
+    return pressed.length + released.length === 0 ? [] : [{ released, pressed, first, last: time }];
+  });
+  const pressedKeys = downInputs.filter((index) => inputs[index].canBePressed);
+  const releases = pressedKeys.map((index) => ({ released: [index], pressed: [], first: firstMoments[index], last: Infinity }));
+  return { changes, releases };
+}
+
+/**
+ * Returns the steps that give the inputs their levels at all reads, and the steps after them that end presses in time. Keeps `minWait` and
+ * `maxPressTime` if there are moments for this; otherwise makes each change immediately before its read. A press need not end if there are
+ * no moments for that, because the violation can happen during the press.
+ * @param {LevelStep[]} levelSteps
+ * @param {Input[]} inputs
+ * @param {PressLimits} limits
+ * @returns {{ steps: WalkStep[], releaseSteps: WalkStep[] }}
+ */
+function scheduleChanges(levelSteps, inputs, { minWait, maxPressTime }) {
+  // The levels at power-on are no change, so they matter only if the first cycle reads them.
+  const demandingSteps = levelSteps.filter(({ time, code }) => time > 0 || code >= 0);
+  const changeLists = LEVEL_DEMANDS.map((isDemanded) => listChanges(demandingSteps, inputs, isDemanded));
+  for (const { changes, releases } of changeLists) {
+    for (const allChanges of maxPressTime === Infinity ? [changes] : [[...changes, ...releases], changes]) {
+      const moments = findLatestMoments(allChanges, inputs, minWait, maxPressTime);
+      if (!moments) continue;
+      const steps = createSteps(allChanges, moments);
+      const releaseStart = steps.length - (allChanges.length - changes.length);
+      return { steps: steps.slice(0, releaseStart), releaseSteps: steps.slice(releaseStart) };
+    }
   }
+  const [{ changes }] = changeLists;
+  return { steps: createSteps(changes, changes.map(({ last }) => last)), releaseSteps: [] };
+}
+
+/**
+ * Returns the session file after steps.
+ * @param {Subject} subject
+ * @param {Input[]} inputs
+ * @param {WalkStep[]} steps
+ */
+function runSteps(subject, inputs, steps) {
+  const file = subject.file.slice();
+  for (const step of steps) subject.engine.serve(file, runLines(step.wait) + changeLine({ inputs }, step), file);
+  return file;
 }
 
 /**
  * Returns the steps with which the program reads the inputs of a counterexample. `time` is the number of cycles up to the last step, and
  * `file` is the session file after it. `remainingCycles` is the number of cycles after the last step, in which the violation must happen.
+ * `releaseSteps` are steps after the last one that end presses, which no read detects; they can come after the violation.
  * @param {Subject} subject
  * @param {Input[]} inputs all inputs of the board
  * @param {Reads} reads
  * @param {Campaign} campaign the campaign whose inputs the steps use, if possible
- * @returns {{ steps: WalkStep[], time: number, file: Uint8Array, remainingCycles: number }}
+ * @param {number} maxPressTime the maximum length of a press, if possible, in cycles
+ * @returns {{ steps: WalkStep[], releaseSteps: WalkStep[], time: number, file: Uint8Array, remainingCycles: number }}
  */
-export function replayReads(subject, inputs, reads, campaign) {
-  const replay = reads.levels ? replayEach(new LevelReplay(subject, inputs, campaign.minWait), reads.levels)
-    : replayEach(new ValueReplay(subject, inputs, campaign), reads.values);
-  const time = replay.steps.reduce((sum, { wait }) => sum + wait, 0);
-  return { steps: replay.steps, time, file: replay.takeChangedFile(), remainingCycles: replay.cyclesSinceChange };
+export function replayReads(subject, inputs, reads, campaign, maxPressTime) {
+  /** @type {(steps: WalkStep[]) => number} */
+  const timeOf = (steps) => steps.reduce((sum, { wait }) => sum + wait, 0);
+  if (!reads.levels) {
+    const replay = replayEach(new ValueReplay(subject, inputs, campaign), reads.values);
+    const { steps } = replay;
+    return { steps, releaseSteps: [], time: timeOf(steps), file: replay.takeChangedFile(), remainingCycles: replay.cyclesSinceChange };
+  }
+  const replay = replayEach(new LevelReplay(subject, inputs), reads.levels);
+  const { steps, releaseSteps } = scheduleChanges(replay.levelSteps, inputs, { minWait: campaign.minWait, maxPressTime });
+  const file = runSteps(subject, inputs, steps);
+  return { steps, releaseSteps, time: timeOf(steps), file, remainingCycles: replay.time - timeOf(steps) };
 }
 
 /**

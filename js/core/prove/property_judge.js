@@ -1,11 +1,11 @@
 // Decides properties one after the other: asks the prover, and derives a verdict from its answers. The properties of the text come first.
 // After them come the common mistakes, for which every program is checked. The first question about a property is for all inputs. If its
-// answer does not decide the property, the next questions are only for inputs that the text allows, the last one with its shortest wait.
+// answer does not decide the property, the next questions are only for inputs that the text allows, the last ones with its shortest wait.
 // Callbacks ask the prover and confirm counterexamples.
 
-import { formatSteps } from "../explore/report.js";
+import { formatNumber, formatSteps } from "../explore/report.js";
 import { replayCounterexample } from "./counterexample.js";
-import { listInputLimits } from "./input_limits.js";
+import { explainMissingPressLimit, listInputLimits, listPropertyLimits } from "./input_limits.js";
 import { JointQuestion } from "./joint_question.js";
 import { listMistakes } from "./mistakes.js";
 import { createQuestion, nameOmittedGuards, mistakeQuestion, needsCounting, needsSeparateQuestion } from "./question.js";
@@ -59,10 +59,18 @@ const createProvedVerdict = (property, states, bySets, limits) => (
 /**
  * Returns the reason why a property is not decided when the bench does not confirm its counterexample.
  * @param {Property} property
+ * @param {Question} question
+ * @param {Campaign} campaign
+ * @param {Subject} subject
  */
-function explainUnconfirmed(property) {
-  if (property.guards.length > 0) return say.failsWithoutGuards(nameOmittedGuards(property), property.isGoal);
-  return property.form === "only after" ? say.TRUE_BEFORE_KEYS_ARE_READ : say.NOT_CONFIRMED;
+function explainUnconfirmed(property, { inputLimits }, campaign, { names: { board } }) {
+  const { form, guards, isGoal, limit } = property;
+  if (guards.length > 0) return say.failsWithoutGuards(nameOmittedGuards(property), isGoal);
+  if (form === "only after") return say.TRUE_BEFORE_KEYS_ARE_READ;
+  if (form !== "no press") return say.NOT_CONFIRMED;
+  const maxPressTime = inputLimits && inputLimits.maxPressTime;
+  if (maxPressTime !== null && maxPressTime >= limit) return say.allowsLongerPresses(formatNumber(maxPressTime));
+  return explainMissingPressLimit(property, campaign, board) || say.UNSEEN_RELEASES;
 }
 
 /**
@@ -195,7 +203,7 @@ export class PropertyJudge {
    */
   async judge(property, question, search) {
     let verdict = await this.retryOpenVerdict(property, await search(question), question);
-    for (const inputLimits of this.inputLimits) {
+    for (const inputLimits of listPropertyLimits(property, this.campaign, this.inputLimits, this.subject.names.board)) {
       if (isFinalVerdict(verdict)) break;
       const limitedVerdict = await search({ ...question, inputLimits });
       // If this search decides nothing, a goal that an earlier search reached counts, although the text does not allow its inputs.
@@ -213,13 +221,14 @@ export class PropertyJudge {
    * @param {string} mistake the word for the common mistake that the property excludes; "" for other properties
    * @returns {Promise<Verdict>}
    */
-  async createVerdict(property, { inputLimits }, answer, campaign, mistake) {
+  async createVerdict(property, question, answer, campaign, mistake) {
+    const { inputLimits } = question;
     if (answer.kind === "holds") return createProvedVerdict(property, answer.states, false, inputLimits ? inputLimits.words : []);
     if (answer.kind !== "fails") return { kind: "open", reason: this.calls.explainNoAnswer(answer) };
     const { subject, calls } = this;
     const index = campaign.properties.indexOf(property);
     const counterexample = await replayCounterexample(subject, campaign, index, answer.reads, calls.yieldToMessages, mistake);
-    if (!counterexample) return { kind: "open", reason: explainUnconfirmed(property) };
+    if (!counterexample) return { kind: "open", reason: explainUnconfirmed(property, question, campaign, subject) };
     if (!await calls.confirm(counterexample, property.isGoal)) return { kind: "open", reason: say.NOT_CONFIRMED };
     if (counterexample.isAllowed || property.isGoal) return { kind: "found", counterexample };
     return { kind: "open", reason: say.onlyExcludedInputs(formatSteps(counterexample.steps)) };

@@ -113,12 +113,13 @@ export const needsCounting = ({ stopwatch, presses }) => stopwatch !== null || p
 
 /**
  * Returns whether the question about a property must be asked separately. All other questions are combined into one question. A property
- * with guards is asked separately, because it often fails without its guards. In a combined question, one failure leaves all properties
- * undecided.
+ * with guards is asked separately, because it often fails without its guards. So is a `no press` property, which often fails if presses
+ * are not limited. In a combined question, one failure leaves all properties undecided.
  * @param {Property} property
  * @param {Question} question
  */
-export const needsSeparateQuestion = ({ isGoal, guards }, question) => isGoal || guards.length > 0 || needsCounting(question);
+export const needsSeparateQuestion = ({ form, isGoal, guards }, question) => (
+  isGoal || form === "no press" || guards.length > 0 || needsCounting(question));
 
 /**
  * Combines several questions for all inputs into one. The questions must have no stopwatch and no presses.
@@ -188,8 +189,8 @@ function createNeverMetQuestion({ condition, address }, board) {
 }
 
 /**
- * The functions that create the question about a property, by property form. The functions omit guards that depend on earlier events. This
- * is sound, because the property without its guards is stricter.
+ * The functions that create the question about a property, by property form. The functions omit guards that depend on earlier events, and
+ * the time of a `no press` property. This is sound, because the property without them is stricter.
  * @type {Record<string, (property: Property & { condition: Condition }, board: Board, subject: Subject) => Question>}
  */
 const QUESTIONS_BY_FORM = {
@@ -206,6 +207,7 @@ const QUESTIONS_BY_FORM = {
   every: ({ address, limit }) => (
     createTimeQuestion([addressComparisons(POWER_ON_ADDRESS), addressComparisons(address)], [addressComparisons(address)], limit)),
   within: ({ start, address, limit }) => createTimeQuestion([addressComparisons(start)], [addressComparisons(address)], limit),
+  "no press": ({ address }) => neverQuestion([addressComparisons(address)]),
 };
 
 /**

@@ -19,7 +19,7 @@ import { colouredWords } from "./token_codes.js";
 /** The protocol's symbol kind for a property. */
 const PROPERTY_SYMBOL = 7;
 /** Matches a line that is shown as a symbol: a property, a goal (`reach`), or a model. */
-const PROPERTY_LINE = /^(never|always|at|after|every|reach|model|while|once|@\S+|.*\bonly after)\b/;
+const PROPERTY_LINE = /^(never|always|at|after|every|no|reach|model|while|once|@\S+|.*\bonly after)\b/;
 /**
  * Matches a line `from STATE of FILE`, with which the search starts at a state that a test saves. Captures the text before the file name,
  * and the file name.

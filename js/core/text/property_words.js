@@ -31,6 +31,9 @@ const WORDS_AFTER_CONDITION = ["for", "only after"];
  */
 const WORDS_AFTER_LABEL = ["to", say.ONCE_FOR_EACH_PRESS, "only after"];
 const WORDS_AFTER_TARGET = ["within"];
+/** The words of a line `no press below TIME reaches @LABEL` before and after the time. */
+const WORDS_BEFORE_TIME = ["press", "below"];
+const WORD_AFTER_TIME = "reaches";
 
 /**
  * Returns the forms of the lines and conditions of properties texts, as the manual lists them.
@@ -72,6 +75,18 @@ function listWordsAfterLabel([, secondWord, ...laterWords]) {
 }
 
 /**
+ * Returns the possible next words in a line that starts with `no`.
+ * @param {string[]} words the words of the line after `no`, so far
+ * @param {CompletionItem[]} labels
+ */
+function listWordsAfterNo(words, labels) {
+  if (words.length < WORDS_BEFORE_TIME.length) return toCompletions([WORDS_BEFORE_TIME.slice(words.length).join(" ")]);
+  const lastWords = words.slice(WORDS_BEFORE_TIME.length);
+  if (lastWords.length === 0) return [];
+  return lastWords.includes(WORD_AFTER_TIME) ? labels : toCompletions([WORD_AFTER_TIME]);
+}
+
+/**
  * Returns the possible next words in a line.
  * @param {string[]} previousWords the words before the unfinished word
  * @param {string} unfinishedWord the unfinished word
@@ -84,6 +99,7 @@ function listNextWords(previousWords, unfinishedWord, names, { lines, conditions
   if (unfinishedWord.startsWith("@")) return labels;
   if (previousWords.length === 0) return [...listFirstWords(lines.filter(({ word }) => /^[a-z]+$/.test(word))), ...labels];
   const last = previousWords[previousWords.length - 1];
+  if (previousWords[0] === "no") return listWordsAfterNo(previousWords.slice(1), labels);
   if (previousWords[0] === "press" || last === "press") return toCompletions(names.keys);
   if (previousWords[0].startsWith("@")) return toCompletions(listWordsAfterLabel(previousWords));
   const condition = findCondition(previousWords);

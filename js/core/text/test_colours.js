@@ -22,9 +22,9 @@ const TEST_LANGUAGE = {
   startsWithCondition: false,
 };
 const PROPERTY_LANGUAGE = {
-  first: new RegExp("^(press|test|reset|together|wait|held|apart|from|begin|note|pace|never|always|at|after|every|reach|model|while|once|"
-    + "not|lamps?|display)$"),
-  otherKeywords: new Set([...KEYWORDS, "for", "only", "after", "press", "within", "to", "once", "each", "line"]),
+  first: new RegExp("^(press|test|reset|together|wait|held|apart|from|begin|note|pace|never|always|at|after|every|no|reach|model|while|"
+    + "once|not|lamps?|display)$"),
+  otherKeywords: new Set([...KEYWORDS, "for", "only", "after", "press", "within", "to", "once", "each", "line", "below", "reaches"]),
   nameKeyword: "",
   uncommentedStart: /^/,
   startsWithCondition: true,
