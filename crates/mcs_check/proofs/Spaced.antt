@@ -1,7 +1,7 @@
 -- Suppose that the keys that a search with spaced inputs found are a closure. The property then
 -- holds for all inputs whose changes are far enough apart, and whose keys stay down for a limited
 -- time.
-use Rattle.std.proofs.Common.{◌≡◌, ◌≢◌, ◌⊎◌, ◌<◌, ◌≤◌, ◌+◌, ◌-◌, ◌*◌, ℕ, zero, suc, min, List, [], ◌∷◌, Bool, true, false, Option, Some, unwrap_or, inl, inr, length, nat_le, nat_lt, slice_index, refl, sym, ap, ◌∙◌, subst, arith, eqb, ◌==◌, ◌&&◌, ◌||◌}
+use Rattle.std.proofs.Common.{◌≡◌, ◌≢◌, ◌⊎◌, ◌<◌, ◌≤◌, ◌+◌, ◌-◌, ◌*◌, ℕ, zero, suc, min, List, [], ◌∷◌, Bool, true, false, Option, Some, None, unwrap_or, inl, inr, length, nat_le, nat_lt, slice_index, refl, sym, ap, ◌∙◌, subst, arith, eqb, ◌==◌, ◌&&◌, ◌||◌}
 use Rattle.std.specs.List.{All, Contains, slice_get, sum}
 use Rattle.std.specs.Str.{bytes_eq}
 use Rattle.std.proofs.lemmas.Bool.{and_from, and_parts, cases_Bool, cases_eq, cases_lt, eqb-false, le-leb, leb-false, leb-true, ne_eqb, or_left, or_right}
@@ -19,7 +19,7 @@ use Rattle.mcs_check.specs.declared.spacing.Spacing.{Spacing}
 use Rattle.mcs_check.specs.declared.spacing.TheConstants.{NO_LEVELS}
 use Rattle.mcs_check.specs.Conditions.{observer_of_property}
 use Rattle.mcs_check.specs.Keys.{IsKeyOf, property_of}
-use Rattle.mcs_check.specs.SpacedInputs.{RunsToSpacedKey, SpacedSetting, age_at_begin, can_begin_at, down_after, down_at_begin, has_key_down, held_allows, machine_key, spaced_rules, spacing_after, spacing_of_key, wait_allows}
+use Rattle.mcs_check.specs.SpacedInputs.{RunsToSpacedKey, SpacedSetting, age_at_begin, can_begin_at, down_after, down_at_begin, has_key_down, have_same_keys, held_allows, machine_key, spaced_rules, spacing_after, spacing_of_key, wait_allows}
 
 -- ---- changes
 
@@ -57,13 +57,21 @@ change-between f a (suc b) less differ =
       ]
     ]
 
--- Holds if the levels at moment `n` are those of the `cycles` moments before it. These moments are
--- not before moment 0.
+-- Holds if the keys are at the same levels at moment `n` as at the `cycles` moments before it. These
+-- moments are not before moment 0.
 abbrev IsSteady : (ℕ → Levels) → ℕ → ℕ → Type 0
-IsSteady f n cycles = (cycles ≤ n) × ((m : ℕ) → m ≤ n → n ≤ m + cycles → f m ≡ f n)
+IsSteady f n cycles = (cycles ≤ n) × ((m : ℕ) → m ≤ n → n ≤ m + cycles → (f m).keys ≡ (f n).keys)
 
 steady-now : (f : ℕ → Levels) (n : ℕ) → IsSteady f n 0
-steady-now f n = (omega arith, λ m by near. (let at : m ≡ n = omega arith in ap f at))
+steady-now f n = (omega arith, λ m by near. (let at : m ≡ n = omega arith in ap (λ (k : ℕ). (f k).keys) at))
+
+-- the keys either are at the same levels in both, or are not
+keys-tell : (l m : Levels) → (l.keys ≡ m.keys) ⊎ (l.keys ≢ m.keys)
+keys-tell l m =
+    elim (cases_Bool (bytes_eq l.keys m.keys)) [
+      | inl same ↦ inl ((bytes_eq-Decides l.keys m.keys).0 same)
+      | inr differ ↦ inr (not_from_Decides (bytes_eq l.keys m.keys) (bytes_eq-Decides l.keys m.keys) differ)
+    ]
 
 -- the index of a key that is down at these levels
 key-down : (keys : List ℕ) → 1 ≤ sum keys → (key : ℕ) × (1 ≤ slice_index keys key)
@@ -83,7 +91,7 @@ record IsSinceStep (wait : ℕ) (levels : List Levels) (f : ℕ → Levels) (n :
   before : moment < n
   same : slice_get levels s.last ≡ Some (f moment)
   late : (m : ℕ) → moment < m → f m ≢ f moment → (n + wait ≤ m + s.age) ⊎ (2 * wait ≤ s.age)
-  steady : f n ≡ f moment → IsSteady f n s.down
+  steady : (f n).keys ≡ (f moment).keys → IsSteady f n s.down
   pressed : 1 ≤ s.down → 1 ≤ sum (f moment).keys
 
 -- the same, or no step was made yet
@@ -94,9 +102,14 @@ IsRemembered wait levels f n s = (s.last ≡ NO_LEVELS) ⊎ IsSinceStep wait lev
 record IsFollowedBy (wait held : ℕ) (levels : List Levels) (f : ℕ → Levels) (n : ℕ) (s : Spacing) (d : ℕ) : Type 0 where
   within : d < length levels
   is : slice_get levels d ≡ Some (f n)
-  can : can_begin_at wait held s d ≡ true
+  can : can_begin_at wait held levels s d ≡ true
   late : (m : ℕ) → n < m → f m ≢ f n → n + wait ≤ m + age_at_begin wait s d
-  steady : IsSteady f n (down_at_begin s d)
+  steady : IsSteady f n (down_at_begin levels s d)
+
+-- the levels with two indices have the same keys iff the keys are equal
+keys-compared-when : (o p : Option Levels) (l m : Levels) → o ≡ Some l → p ≡ Some m →
+    elim o as (λ _. Bool) [ Some x ↦ elim p as (λ _. Bool) [ Some y ↦ bytes_eq x.keys y.keys | None ↦ false ] | None ↦ false ] ≡ bytes_eq l.keys m.keys
+keys-compared-when o p l m first second = rw (first, second) refl
 
 module _ (wait held : ℕ) (levels : List Levels) (f : ℕ → Levels) (spaced : (i j : ℕ) → i < j → Changes f i → Changes f j → i + wait ≤ j) (released : AreReleasedWithin held f) where
   -- ---- after a step
@@ -105,34 +118,34 @@ module _ (wait held : ℕ) (levels : List Levels) (f : ℕ → Levels) (spaced :
   later-age n m age cycles near =
       elim (cases_lt (age + cycles) (2 * wait)) [ inl below ↦ inl (omega arith) | inr past ↦ inr (omega arith) ]
 
-  -- if the levels at two moments at most `wait` cycles apart are the same, they do not change
+  -- if the keys are at the same levels at two moments at most `wait` cycles apart, they do not change
   -- between these moments
-  same-between : (n k m : ℕ) → k ≤ n + wait → f k ≡ f n → n < m → m ≤ k → f m ≡ f n
+  same-between : (n k m : ℕ) → k ≤ n + wait → (f k).keys ≡ (f n).keys → n < m → m ≤ k → (f m).keys ≡ (f n).keys
   same-between n k m short back after by =
-      elim (levels-tell (f m) (f n)) [
+      elim (keys-tell (f m) (f n)) [
         | inl same ↦ same
         | inr away ↦ elim (cases_lt m k) [
           | inl before ↦
-              let first = change-between f n m after away in
-              let second = change-between f m k before (λ e. away (sym e ∙ back)) in
+              let first = change-between f n m after (λ e. away (ap (λ (l : Levels). l.keys) e)) in
+              let second = change-between f m k before (λ e. away (sym (ap (λ (l : Levels). l.keys) e) ∙ back)) in
               let begun = first.1.after in
               let gone = first.1.by in
               let later = second.1.after in
               let over = second.1.by in
               let apart : first.0 + wait ≤ second.0 = spaced first.0 second.0 (omega arith) first.1.changes second.1.changes in
               absurd (omega arith)
-          | inr past ↦ (let at : m ≡ k = omega arith in absurd (away (ap f at ∙ back)))
+          | inr past ↦ (let at : m ≡ k = omega arith in absurd (away (ap (λ (i : ℕ). (f i).keys) at ∙ back)))
         ]
       ]
 
-  steady-after_step : (n cycles : ℕ) (s : Spacing) (d : ℕ) → IsSteady f n (down_at_begin s d) → f (n + cycles) ≡ f n → IsSteady f (n + cycles) (down_after wait held s d (f n) cycles)
+  steady-after_step : (n cycles : ℕ) (s : Spacing) (d : ℕ) → IsSteady f n (down_at_begin levels s d) → (f (n + cycles)).keys ≡ (f n).keys → IsSteady f (n + cycles) (down_after wait held levels s d (f n) cycles)
   steady-after_step n cycles s d steady back =
       let known = has_key_down (f n) && nat_le cycles wait in
       elim (cases_Bool known) [
         | inl counted ↦
             let short : cycles ≤ wait = leb-true cycles wait (and_parts (has_key_down (f n)) (nat_le cycles wait) counted).1 in
-            let begun : down_at_begin s d ≤ n = steady.0 in
-            let after : down_after wait held s d (f n) cycles ≡ min (down_at_begin s d + cycles) held = rw counted refl in
+            let begun : down_at_begin levels s d ≤ n = steady.0 in
+            let after : down_after wait held levels s d (f n) cycles ≡ min (down_at_begin levels s d + cycles) held = rw counted refl in
             subst (IsSteady f (n + cycles)) (sym after) (
               omega arith,
               λ m by near. elim (cases_lt n m) [
@@ -141,20 +154,20 @@ module _ (wait held : ℕ) (levels : List Levels) (f : ℕ → Levels) (spaced :
               ],
             )
         | inr unknown ↦
-            let after : down_after wait held s d (f n) cycles ≡ 0 = rw unknown refl in
+            let after : down_after wait held levels s d (f n) cycles ≡ 0 = rw unknown refl in
             subst (IsSteady f (n + cycles)) (sym after) (steady-now f (n + cycles))
       ]
 
-  pressed-after_step : (n cycles : ℕ) (s : Spacing) (d : ℕ) → 1 ≤ down_after wait held s d (f n) cycles → 1 ≤ sum (f n).keys
+  pressed-after_step : (n cycles : ℕ) (s : Spacing) (d : ℕ) → 1 ≤ down_after wait held levels s d (f n) cycles → 1 ≤ sum (f n).keys
   pressed-after_step n cycles s d some =
       elim (cases_Bool (has_key_down (f n))) [
         | inl down ↦ leb-true 1 (sum (f n).keys) down
         | inr up ↦
-            let none : down_after wait held s d (f n) cycles ≡ 0 = rw up refl in
+            let none : down_after wait held levels s d (f n) cycles ≡ 0 = rw up refl in
             absurd (omega arith)
       ]
 
-  remembered-after_step : (n cycles : ℕ) (s : Spacing) (d : ℕ) → 0 < cycles → IsFollowedBy wait held levels f n s d → IsRemembered wait levels f (n + cycles) (spacing_after wait held s d (f n) cycles)
+  remembered-after_step : (n cycles : ℕ) (s : Spacing) (d : ℕ) → 0 < cycles → IsFollowedBy wait held levels f n s d → IsRemembered wait levels f (n + cycles) (spacing_after wait held levels s d (f n) cycles)
   remembered-after_step n cycles s d some step = inr (record {
     moment = n;
     before = omega arith;
@@ -167,23 +180,23 @@ module _ (wait held : ℕ) (levels : List Levels) (f : ℕ → Levels) (spaced :
   -- ---- the limit `held`
 
   -- a key that has been down for `held` cycles is not down in the next cycle
-  held-allows : (n : ℕ) (s : Spacing) (d : ℕ) → IsSteady f n (down_at_begin s d) → (1 ≤ down_at_begin s d → 1 ≤ sum (f n).keys) → held_allows held s d ≡ true
+  held-allows : (n : ℕ) (s : Spacing) (d : ℕ) → IsSteady f n (down_at_begin levels s d) → (1 ≤ down_at_begin levels s d → 1 ≤ sum (f n).keys) → held_allows held levels s d ≡ true
   held-allows n s d steady pressed =
       let none = held == 0 in
-      let short = nat_lt (down_at_begin s d) held in
+      let short = nat_lt (down_at_begin levels s d) held in
       elim (cases_Bool none) [
         | inl unlimited ↦ or_left none short unlimited
         | inr limited ↦ elim (cases_Bool short) [
           | inl below ↦ or_right none short below
           | inr past ↦
-              let long : held < suc (down_at_begin s d) = leb-false (suc (down_at_begin s d)) held past in
+              let long : held < suc (down_at_begin levels s d) = leb-false (suc (down_at_begin levels s d)) held past in
               let some : held ≢ 0 = eqb-false held 0 limited in
-              let begun : down_at_begin s d ≤ n = steady.0 in
+              let begun : down_at_begin levels s d ≤ n = steady.0 in
               let key = key-down (f n).keys (pressed (omega arith)) in
               let release = released (omega arith) key.0 (n - held) in
               let soon : release.0 ≤ held = release.1 in
-              let same : f (n - held + release.0) ≡ f n = steady.1 (n - held + release.0) (omega arith) (omega arith) in
-              let is_up : slice_index (f n).keys key.0 ≡ 0 = sym (ap (λ (l : Levels). slice_index l.keys key.0) same) ∙ release.2 in
+              let same : (f (n - held + release.0)).keys ≡ (f n).keys = steady.1 (n - held + release.0) (omega arith) (omega arith) in
+              let is_up : slice_index (f n).keys key.0 ≡ 0 = sym (ap (λ (keys : List ℕ). slice_index keys key.0) same) ∙ release.2 in
               let is_down = key.1 in
               absurd (omega arith)
         ]
@@ -200,25 +213,46 @@ module _ (wait held : ℕ) (levels : List Levels) (f : ℕ → Levels) (spaced :
   other-age : (s : Spacing) (d : ℕ) → eqb s.last NO_LEVELS ≡ false → eqb d s.last ≡ false → age_at_begin wait s d ≡ min (s.age - wait) (wait - 1)
   other-age s d stepped other = rw (stepped, other) refl
 
-  first-down : (s : Spacing) (d : ℕ) → eqb s.last NO_LEVELS ≡ true → down_at_begin s d ≡ 0
+  first-down : (s : Spacing) (d : ℕ) → eqb s.last NO_LEVELS ≡ true → down_at_begin levels s d ≡ 0
   first-down s d first = rw first refl
 
-  same-down : (s : Spacing) → eqb s.last NO_LEVELS ≡ false → down_at_begin s s.last ≡ s.down
-  same-down s stepped = rw (stepped, (Decides-eqb s.last s.last).1 refl) refl
+  same-down : (s : Spacing) (d : ℕ) → eqb s.last NO_LEVELS ≡ false → have_same_keys levels s.last d ≡ true → down_at_begin levels s d ≡ s.down
+  same-down s d stepped same = rw (stepped, same) refl
 
-  other-down : (s : Spacing) (d : ℕ) → eqb s.last NO_LEVELS ≡ false → eqb d s.last ≡ false → down_at_begin s d ≡ 0
+  other-down : (s : Spacing) (d : ℕ) → eqb s.last NO_LEVELS ≡ false → have_same_keys levels s.last d ≡ false → down_at_begin levels s d ≡ 0
   other-down s d stepped other = rw (stepped, other) refl
+
+  keys-compared : (i j : ℕ) (l m : Levels) → slice_get levels i ≡ Some l → slice_get levels j ≡ Some m → have_same_keys levels i j ≡ bytes_eq l.keys m.keys
+  keys-compared i j l m at_i at_j = keys-compared-when (slice_get levels i) (slice_get levels j) l m at_i at_j
+
+  -- two indices with the same keys have levels with the same keys
+  keys-equal : (i j : ℕ) (l m : Levels) → slice_get levels i ≡ Some l → slice_get levels j ≡ Some m → have_same_keys levels i j ≡ true → l.keys ≡ m.keys
+  keys-equal i j l m at_i at_j same = (bytes_eq-Decides l.keys m.keys).0 (sym (keys-compared i j l m at_i at_j) ∙ same)
+
+  -- the keys have been steady for as long as the search counts, and if it counts, a key is down
+  steady-at_begin : (n : ℕ) (s : Spacing) (d : ℕ) → eqb s.last NO_LEVELS ≡ false → slice_get levels d ≡ Some (f n) → IsSinceStep wait levels f n s → IsSteady f n (down_at_begin levels s d) × (1 ≤ down_at_begin levels s d → 1 ≤ sum (f n).keys)
+  steady-at_begin n s d stepped is since =
+      elim (cases_Bool (have_same_keys levels s.last d)) [
+        | inl same ↦
+            let count = same-down s d stepped same in
+            let keys : (f since.moment).keys ≡ (f n).keys = keys-equal s.last d (f since.moment) (f n) since.same is same in (
+              subst (IsSteady f n) (sym count) (since.steady (sym keys)),
+              λ some. subst (λ (k : List ℕ). 1 ≤ sum k) keys (since.pressed (omega arith)),
+            )
+        | inr other ↦
+            let none = other-down s d stepped other in (subst (IsSteady f n) (sym none) (steady-now f n), λ some. absurd (omega arith))
+      ]
 
   -- the index of levels in a list that contains them
   index-of : (l : Levels) → Contains levels l → (d : ℕ) × (d < length levels) × (slice_get levels d ≡ Some l)
   index-of l there = (there.0, there.1, slice_get_read levels (length levels) there.0 l refl there.1 (sym there.2))
 
   -- neither limit prevents a step at these levels
-  can-begin : (n : ℕ) (s : Spacing) (d : ℕ) → wait_allows wait s d ≡ true → IsSteady f n (down_at_begin s d) → (1 ≤ down_at_begin s d → 1 ≤ sum (f n).keys) → can_begin_at wait held s d ≡ true
-  can-begin n s d changed steady pressed = and_from (wait_allows wait s d) (held_allows held s d) changed (held-allows n s d steady pressed)
+  can-begin : (n : ℕ) (s : Spacing) (d : ℕ) → wait_allows wait s d ≡ true → IsSteady f n (down_at_begin levels s d) → (1 ≤ down_at_begin levels s d → 1 ≤ sum (f n).keys) → can_begin_at wait held levels s d ≡ true
+  can-begin n s d changed steady pressed = and_from (wait_allows wait s d) (held_allows held levels s d) changed (held-allows n s d steady pressed)
 
   -- the same if no key is known to have been down
-  can-begin-up : (n : ℕ) (s : Spacing) (d : ℕ) → wait_allows wait s d ≡ true → down_at_begin s d ≡ 0 → can_begin_at wait held s d ≡ true
+  can-begin-up : (n : ℕ) (s : Spacing) (d : ℕ) → wait_allows wait s d ≡ true → down_at_begin levels s d ≡ 0 → can_begin_at wait held levels s d ≡ true
   can-begin-up n s d changed none = can-begin n s d changed (subst (IsSteady f n) (sym none) (steady-now f n)) (λ some. absurd (omega arith))
 
   followed-first : (n : ℕ) (s : Spacing) → eqb s.last NO_LEVELS ≡ true → Contains levels (f n) → (d : ℕ) × IsFollowedBy wait held levels f n s d
@@ -239,19 +273,18 @@ module _ (wait held : ℕ) (levels : List Levels) (f : ℕ → Levels) (spaced :
 
   followed-same : (n : ℕ) (s : Spacing) → eqb s.last NO_LEVELS ≡ false → s.last < length levels → (since : IsSinceStep wait levels f n s) → f n ≡ f since.moment → IsFollowedBy wait held levels f n s s.last
   followed-same n s stepped within since same =
-      let down = same-down s stepped in
-      let steady = subst (IsSteady f n) (sym down) (since.steady same) in
-      let pressed : 1 ≤ down_at_begin s s.last → 1 ≤ sum (f n).keys = λ some. subst (λ (l : Levels). 1 ≤ sum l.keys) (sym same) (since.pressed (omega arith)) in
+      let is = since.same ∙ ap (λ (l : Levels). Some l) (sym same) in
+      let begun = steady-at_begin n s s.last stepped is since in
       let changed = or_left (eqb s.last NO_LEVELS || eqb s.last s.last) (nat_le wait s.age) (or_right (eqb s.last NO_LEVELS) (eqb s.last s.last) ((Decides-eqb s.last s.last).1 refl)) in
       record {
         within = within;
-        is = since.same ∙ ap (λ (l : Levels). Some l) (sym same);
-        can = can-begin n s s.last changed steady pressed;
+        is = is;
+        can = can-begin n s s.last changed begun.0 begun.1;
         late = λ m after differ.
             let before = since.before in
             subst (λ (age : ℕ). n + wait ≤ m + age) (sym (same-age s stepped))
             (elim (since.late m (omega arith) (λ e. differ (e ∙ sym same))) [ inl near ↦ omega arith | inr capped ↦ omega arith ]);
-        steady = steady;
+        steady = begun.0;
       }
 
   followed-other : (n : ℕ) (s : Spacing) (d : ℕ) → eqb s.last NO_LEVELS ≡ false → eqb d s.last ≡ false → d < length levels → slice_get levels d ≡ Some (f n) →
@@ -263,11 +296,11 @@ module _ (wait held : ℕ) (levels : List Levels) (f : ℕ → Levels) (spaced :
       let by_now = changed.by in
       let came : (n + wait ≤ first.0 + s.age) ⊎ (2 * wait ≤ s.age) = since.late first.0 after_step changed.differs in
       let ready : wait ≤ s.age = elim (since.late n since.before differ) [ inl near ↦ omega arith | inr capped ↦ omega arith ] in
-      let none = other-down s d stepped other in
+      let begun = steady-at_begin n s d stepped is since in
       record {
         within = within;
         is = is;
-        can = can-begin-up n s d (or_right (eqb s.last NO_LEVELS || eqb d s.last) (nat_le wait s.age) (le-leb wait s.age ready)) none;
+        can = can-begin n s d (or_right (eqb s.last NO_LEVELS || eqb d s.last) (nat_le wait s.age) (le-leb wait s.age ready)) begun.0 begun.1;
         late = λ m after away.
             let second = change-between f n m after away in
             let later = second.1.after in
@@ -275,7 +308,7 @@ module _ (wait held : ℕ) (levels : List Levels) (f : ℕ → Levels) (spaced :
             let apart : first.0 + wait ≤ second.0 = spaced first.0 second.0 (omega arith) changed.changes second.1.changes in
             subst (λ (age : ℕ). n + wait ≤ m + age) (sym (other-age s d stepped other))
             (elim came [ inl near ↦ omega arith | inr capped ↦ omega arith ]);
-        steady = subst (IsSteady f n) (sym none) (steady-now f n);
+        steady = begun.0;
       }
 
   -- the search can begin a step at each moment of the inputs

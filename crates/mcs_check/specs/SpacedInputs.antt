@@ -3,8 +3,9 @@
 -- one read of an input to the next, so only the levels at its beginning matter. If two steps begin
 -- at different levels, the search makes the change between them as early as possible. (Defined by
 -- Fethsaim, not by Intel.)
-use Rattle.std.specs.Prelude.{◌≡◌, ◌<◌, ◌+◌, ◌-◌, ◌*◌, ◌==◌, ◌||◌, ◌&&◌, ℕ, suc, min, List, Bool, true, Some, drop, length, nat_le, nat_lt, slice_get, slice_index, take, if◌then◌else◌}
+use Rattle.std.specs.Prelude.{◌≡◌, ◌<◌, ◌+◌, ◌-◌, ◌*◌, ◌==◌, ◌||◌, ◌&&◌, ℕ, suc, min, List, Bool, true, false, Some, None, drop, length, nat_le, nat_lt, slice_get, slice_index, take, if◌then◌else◌}
 use Rattle.std.specs.List.{Contains, sum}
+use Rattle.std.specs.Str.{bytes_eq}
 use Rattle.mcs_drive.specs.DrivenRuns.{FitsBoard, Levels}
 use Rattle.mcs_drive.specs.TrackedMachine.{TrackedMachine}
 use Rattle.mcs_drive.specs.RunsBetweenReads.{LeadsTo}
@@ -27,23 +28,31 @@ has_key_down l = nat_le 1 (sum l.keys)
 abbrev pub wait_allows : ℕ → Spacing → ℕ → Bool
 wait_allows wait s d = s.last == NO_LEVELS || d == s.last || nat_le wait s.age
 
+-- true if the keys are at the same levels in the levels with index `i` as in those with index `j`
+abbrev pub have_same_keys : List Levels → ℕ → ℕ → Bool
+have_same_keys levels i j =
+    elim (slice_get levels i) [
+      | Some l ↦ elim (slice_get levels j) [ Some m ↦ bytes_eq l.keys m.keys | None ↦ false ]
+      | None ↦ false
+    ]
+
 -- The number of cycles for which a key is known to have been down, if the next step begins at the
--- levels with index `d`. It is 0 if the last step began at other levels.
-abbrev pub down_at_begin : Spacing → ℕ → ℕ
-down_at_begin s d =
+-- levels with index `d`. It is 0 if the last step began at other levels of the keys.
+abbrev pub down_at_begin : List Levels → Spacing → ℕ → ℕ
+down_at_begin levels s d =
     if s.last == NO_LEVELS then 0
-    else if d == s.last then s.down
+    else if have_same_keys levels s.last d then s.down
     else 0
 
 -- True if the limit `held` allows the next step to begin at the levels with index `d`. This is so
 -- unless a key is known to have been down for `held` cycles, because it would also be down in the
 -- step's first cycle. A limit of 0 allows all levels.
-abbrev pub held_allows : ℕ → Spacing → ℕ → Bool
-held_allows held s d = held == 0 || nat_lt (down_at_begin s d) held
+abbrev pub held_allows : ℕ → List Levels → Spacing → ℕ → Bool
+held_allows held levels s d = held == 0 || nat_lt (down_at_begin levels s d) held
 
 -- true if the next step can begin at the levels with index `d`
-abbrev pub can_begin_at : ℕ → ℕ → Spacing → ℕ → Bool
-can_begin_at wait held s d = wait_allows wait s d && held_allows held s d
+abbrev pub can_begin_at : ℕ → ℕ → List Levels → Spacing → ℕ → Bool
+can_begin_at wait held levels s d = wait_allows wait s d && held_allows held levels s d
 
 -- The age at the beginning of a step at the levels with index `d`. If the last step began at other
 -- levels, the change between them was made as early as possible. The next change comes after the
@@ -55,20 +64,20 @@ age_at_begin wait s d =
     else min (s.age - wait) (wait - 1)
 
 -- The number of cycles, at most `held`, for which a key is known to have been down after a step.
--- The step began at the levels `l` with index `d` and took `cycles` cycles, and the levels are `l`
--- again at its end. If it took at most `wait` cycles, there was no time for a change to other
--- levels and a change back.
-abbrev pub down_after : ℕ → ℕ → Spacing → ℕ → Levels → ℕ → ℕ
-down_after wait held s d l cycles =
-    if has_key_down l && nat_le cycles wait then min (down_at_begin s d + cycles) held else 0
+-- The step began at the levels `l` with index `d` and took `cycles` cycles, and the keys are at the
+-- same levels again at its end. If it took at most `wait` cycles, there was no time for a change to
+-- other levels of the keys and a change back.
+abbrev pub down_after : ℕ → ℕ → List Levels → Spacing → ℕ → Levels → ℕ → ℕ
+down_after wait held levels s d l cycles =
+    if has_key_down l && nat_le cycles wait then min (down_at_begin levels s d + cycles) held else 0
 
 -- what the search remembers after a step of `cycles` cycles that began at the levels `l` with index
 -- `d`; no age is above twice `wait`
-abbrev pub spacing_after : ℕ → ℕ → Spacing → ℕ → Levels → ℕ → Spacing
-spacing_after wait held s d l cycles = record {
+abbrev pub spacing_after : ℕ → ℕ → List Levels → Spacing → ℕ → Levels → ℕ → Spacing
+spacing_after wait held levels s d l cycles = record {
   last = d;
   age = min (age_at_begin wait s d + cycles) (2 * wait);
-  down = down_after wait held s d l cycles;
+  down = down_after wait held levels s d l cycles;
 }
 
 -- the number in the four bytes from index `i` on, least significant byte first
@@ -107,7 +116,7 @@ spacing_of_key h key = spacing_of_bytes (drop (length h.machines.layout) key)
 -- holds if the choices for a key contain the index of all levels at which the next step can begin
 abbrev pub SpacedCovers : SpacedSetting → List ℕ → List ℕ → Type 0
 SpacedCovers h key choices =
-    (d : ℕ) → d < length h.levels → can_begin_at h.wait h.machines.limits.held (spacing_of_key h key) d ≡ true → Contains choices d
+    (d : ℕ) → d < length h.levels → can_begin_at h.wait h.machines.limits.held h.levels (spacing_of_key h key) d ≡ true → Contains choices d
 
 -- Holds if machine `a`, at the levels with index `d`, runs to a machine that the key `next`
 -- identifies. The run takes `cycles` cycles, and the property holds at every step.
@@ -115,7 +124,7 @@ pub record RunsToSpacedKey (h : SpacedSetting) (key : List ℕ) (d : ℕ) (next 
   pub to : TrackedMachine
   pub is : IsKeyOf h.machines (machine_key h next) to
   pub cycles : ℕ
-  pub spacing : (l : Levels) → slice_get h.levels d ≡ Some l → spacing_of_key h next ≡ spacing_after h.wait h.machines.limits.held (spacing_of_key h key) d l cycles
+  pub spacing : (l : Levels) → slice_get h.levels d ≡ Some l → spacing_of_key h next ≡ spacing_after h.wait h.machines.limits.held h.levels (spacing_of_key h key) d l cycles
   pub run : (l : Levels) → FitsBoard a.1.board l → slice_get h.levels d ≡ Some l →
       (leads : LeadsTo (observer_of_property h.machines.property) (property_of h.machines) a to l) × (cycles ≡ suc leads.more)
 

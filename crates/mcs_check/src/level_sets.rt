@@ -7,7 +7,8 @@ ghost use Rattle.mcs_model.specs.Levels.{port_of};
 ghost use Rattle.mcs_drive.specs.InputReads.{value_read_by};
 ghost use Rattle.mcs_drive.specs.TrackedMachine.{answer, with_levels};
 ghost use Rattle.mcs_check.specs.LevelSets.{AreAllAllowedLevels, levels_of_first_keys, with_each_next_key, with_next_key};
-ghost use Rattle.mcs_check.specs.SpacedInputs.{has_key_down};
+ghost use Rattle.mcs_check.specs.SpacedInputs.{has_key_down, have_same_keys};
+ghost use Rattle.std.specs.Str.{bytes_eq};
 
 use crate::highest_levels::set_keys;
 use crate::limits::InputLimits;
@@ -62,6 +63,13 @@ impl Levels {
         self.test
     }
 
+    /// Returns whether the keys are at the same levels in these levels as in others.
+    fn has_keys_of(&self, other: &Levels) -> bool
+        ensures { result ≡ bytes_eq self.now.keys other.now.keys }
+    {
+        self.keys() == other.keys()
+    }
+
     /// Returns whether a key is down at these levels.
     pub(crate) fn has_key_down(&self) -> bool
         ensures { result ≡ has_key_down self.now }
@@ -92,6 +100,20 @@ impl Levels {
             keys,
             test: self.test,
         })
+    }
+}
+
+/// Returns whether the keys are at the same levels in the levels with index `i` as in those with index `j`. Returns
+/// false if there are no levels with one of these indices.
+pub(crate) fn have_same_keys(all: &[Levels], i: u8, j: u8) -> bool
+    ensures { result ≡ have_same_keys all.now i j }
+{
+    match all.get(usize::from(i)) {
+        Some(levels) => match all.get(usize::from(j)) {
+            Some(other) => levels.has_keys_of(other),
+            None => false,
+        },
+        None => false,
     }
 }
 

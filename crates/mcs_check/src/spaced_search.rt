@@ -60,19 +60,19 @@ pub(crate) fn first_spaced_key(alloc: Global, key: &[u8]) -> Result<Vec<u8>, All
     Ok(spaced)
 }
 
-/// Appends the index of all levels at which the next step can begin. Fails if memory runs out.
+/// Appends the index of each of the levels `all` at which the next step can begin. Fails if memory runs out.
 fn push_indices(
-    count: usize,
+    all: &[Levels],
     spacing: Spacing,
     wait: u32,
     held: u32,
     into: &mut Vec<u8>,
 ) -> Result<(), AllocError>
-    requires { count ≤ NO_LEVELS }
-    ensures { OnOk result ((d : ℕ) → d < count → can_begin_at wait held spacing d ≡ true → Contains into.new.items d) }
+    requires { length all.now ≤ NO_LEVELS }
+    ensures { OnOk result ((d : ℕ) → d < length all.now → can_begin_at wait held all.now spacing d ≡ true → Contains into.new.items d) }
 {
-    for index in 0..count {
-        if spacing.can_begin_at(wait, held, index as u8) {
+    for index in 0..all.len() {
+        if spacing.can_begin_at(wait, held, all, index as u8) {
             into.push(index as u8)?;
         }
     }
@@ -92,7 +92,7 @@ impl System for SpacedSearch {
         let spacing = Spacing::of_key(key, self.machines.key_len());
         into.clear();
         let held = self.machines.held();
-        push_indices(self.levels.len(), spacing, self.wait, held, into)
+        push_indices(&self.levels, spacing, self.wait, held, into)
     }
 
     fn apply_choice(&mut self, key: &[u8], choice: u8, into: &mut [u8]) -> Option<bool> {
@@ -111,7 +111,7 @@ impl System for SpacedSearch {
         };
         let before = Spacing::of_key(key, len);
         before
-            .after(self.wait, held, choice, levels, cycles)
+            .after(self.wait, held, &self.levels, choice, levels, cycles)
             .write(spacing);
         Some(true)
     }

@@ -3,7 +3,7 @@
 ghost use Rattle.std.specs.Prelude.{◌≡◌, ◌≤◌, drop, length, slice_index};
 ghost use Rattle.mcs_check.specs.SpacedInputs.{age_at_begin, can_begin_at, down_after, down_at_begin, held_allows, number_at, spacing_after, spacing_of_bytes, wait_allows};
 
-use crate::level_sets::Levels;
+use crate::level_sets::{Levels, have_same_keys};
 
 /// The index that stands for no levels, before the first step of a search.
 pub(crate) const NO_LEVELS: u8 = 255;
@@ -95,29 +95,29 @@ impl Spacing {
     }
 
     /// Returns the number of cycles for which a key is known to have been down, if the next step begins at the levels
-    /// with this index.
-    fn down_at_begin(self, index: u8) -> u32
-        ensures { result ≡ down_at_begin self index }
+    /// with this index in `all`.
+    fn down_at_begin(self, all: &[Levels], index: u8) -> u32
+        ensures { result ≡ down_at_begin all.now self index }
     {
-        if self.last != NO_LEVELS && index == self.last {
+        if self.last != NO_LEVELS && have_same_keys(all, self.last, index) {
             self.down
         } else {
             0
         }
     }
 
-    /// Returns whether the limit `held` allows the next step to begin at the levels with this index.
-    fn held_allows(self, held: u32, index: u8) -> bool
-        ensures { result ≡ held_allows held self index }
+    /// Returns whether the limit `held` allows the next step to begin at the levels with this index in `all`.
+    fn held_allows(self, held: u32, all: &[Levels], index: u8) -> bool
+        ensures { result ≡ held_allows held all.now self index }
     {
-        held == 0 || self.down_at_begin(index) < held
+        held == 0 || self.down_at_begin(all, index) < held
     }
 
-    /// Returns whether the next step can begin at the levels with this index.
-    pub(crate) fn can_begin_at(self, wait: u32, held: u32, index: u8) -> bool
-        ensures { result ≡ can_begin_at wait held self index }
+    /// Returns whether the next step can begin at the levels with this index in `all`.
+    pub(crate) fn can_begin_at(self, wait: u32, held: u32, all: &[Levels], index: u8) -> bool
+        ensures { result ≡ can_begin_at wait held all.now self index }
     {
-        self.wait_allows(wait, index) && self.held_allows(held, index)
+        self.wait_allows(wait, index) && self.held_allows(held, all, index)
     }
 
     /// Returns the age at the beginning of a step at the levels with this index.
@@ -135,12 +135,20 @@ impl Spacing {
     }
 
     /// Returns the number of cycles for which a key is known to have been down after a step of `cycles` cycles. The
-    /// step began at these levels, which have this index.
-    fn down_after(self, wait: u32, held: u32, index: u8, levels: &Levels, cycles: u64) -> u32
-        ensures { result ≡ down_after wait held self index levels.now cycles }
+    /// step began at these levels, which have this index in `all`.
+    fn down_after(
+        self,
+        wait: u32,
+        held: u32,
+        all: &[Levels],
+        index: u8,
+        levels: &Levels,
+        cycles: u64,
+    ) -> u32
+        ensures { result ≡ down_after wait held all.now self index levels.now cycles }
     {
         if levels.has_key_down() && cycles <= u64::from(wait) {
-            let down = u64::from(self.down_at_begin(index)).saturating_add(cycles);
+            let down = u64::from(self.down_at_begin(all, index)).saturating_add(cycles);
             down.min(u64::from(held)) as u32
         } else {
             0
@@ -148,23 +156,24 @@ impl Spacing {
     }
 
     /// Returns what a search remembers after a step of `cycles` cycles. The step began at these levels, which have this
-    /// index.
+    /// index in `all`.
     pub(crate) fn after(
         self,
         wait: u32,
         held: u32,
+        all: &[Levels],
         index: u8,
         levels: &Levels,
         cycles: u64,
     ) -> Spacing
         requires { wait ≤ MAX_WAIT }
-        ensures { result ≡ spacing_after wait held self index levels.now cycles }
+        ensures { result ≡ spacing_after wait held all.now self index levels.now cycles }
     {
         let age = u64::from(self.age_at_begin(wait, index)).saturating_add(cycles);
         Spacing {
             last: index,
             age: age.min(2 * u64::from(wait)) as u32,
-            down: self.down_after(wait, held, index, levels, cycles),
+            down: self.down_after(wait, held, all, index, levels, cycles),
         }
     }
 }

@@ -1,4 +1,4 @@
-use Rattle.std.proofs.Common.{◌≡◌, ◌∙◌, not, sym, ap}
+use Rattle.std.proofs.Common.{◌∙◌, not, sym, ap}
 use Rattle.std.proofs.lemmas.Bool.{not-true}
 use Rattle.mcs_check.proofs.Ignoring.{conditions-ignore}
 use Rattle.mcs_check.proofs.replica.SearchMachine.stays_at_zero.Goals as goal
