@@ -73,7 +73,7 @@ function countLinesUpTo(inputs, commandCount) {
 }
 
 /**
- * Executes lines in a new session, in pieces. Returns the final state and the answers.
+ * Executes lines in a new session, in pieces. Resolves to the final state and the answers.
  * @param {EngineHost} engine
  * @param {string} lines
  * @param {() => Promise<any>} yieldToMessages called after each piece
@@ -92,7 +92,7 @@ async function serveScript(engine, lines, yieldToMessages) {
 }
 
 /**
- * Compares a session with a new session that has accepted the same number of commands from the script.
+ * Compares a session with a new session that has accepted the same number of commands from the script. Resolves to the result.
  * @param {EngineHost} engine
  * @param {State} state the state of the session
  * @param {string} script
