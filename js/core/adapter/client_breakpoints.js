@@ -97,7 +97,7 @@ export class ClientBreakpoints {
      * SRC byte.
      */
     this.nonClientWatches = readBenchWatches(session);
-    /** @type {string[]} the RAM characters that the bench watches for the client, in the form of `otherWatches` */
+    /** @type {string[]} the RAM characters that the bench watches for the client, in the form of `nonClientWatches` */
     this.clientWatches = [];
     /** @type {RequestedDataBreakpoint[]} the data breakpoints that the client requested */
     this.dataBreakpoints = [];
@@ -298,13 +298,13 @@ export class ClientBreakpoints {
    * MAX_WATCHES in total. The debugger watches all other places. Resolves to the error messages, by the id of the data breakpoint.
    */
   async applyDataBreakpoints() {
-    const { session, nonClientWatches: otherWatches } = this;
+    const { session, nonClientWatches } = this;
     const validRequests = this.dataBreakpoints.filter(({ error }) => error === "");
-    const freeCount = MAX_WATCHES - otherWatches.length;
+    const freeCount = MAX_WATCHES - nonClientWatches.length;
     const unconditionalRequests = validRequests.filter(({ name, condition, from }) => (
       watchOperands(name) !== "" && condition.trim() === "" && from === 1));
     const ramPlaces = [...new Set(unconditionalRequests.map(({ name }) => watchOperands(name)))];
-    const watches = ramPlaces.filter((place) => !otherWatches.includes(place)).slice(0, freeCount);
+    const watches = ramPlaces.filter((place) => !nonClientWatches.includes(place)).slice(0, freeCount);
     const removedWatches = this.clientWatches.filter((place) => !watches.includes(place));
     const addedWatches = watches.filter((place) => !this.clientWatches.includes(place));
     const lines = [...removedWatches.map((place) => `unwatch ${place}\n`), ...addedWatches.map((place) => `watch ${place}\n`)].join("");

@@ -217,7 +217,6 @@ export function createWatcher(engine, file, goal, readCodes = () => romCodes(eng
   const [regs] = engine.ask(file, "regs\n").answers;
   const { counter, isSecondCyclePending } = parseCounter(regs);
   if (goal.kind === "count") return countWatcher(goal.count, isSecondCyclePending);
-  const codes = readCodes();
-  if (goal.kind === "out") return isInSubroutine(regs, codes) ? returnWatcher(codes, -1) : null;
-  return isSecondCyclePending || !isCall(codes[counter]) ? countWatcher(1, isSecondCyclePending) : returnWatcher(codes, 0);
+  if (goal.kind === "out") return isInSubroutine(regs, readCodes()) ? returnWatcher(readCodes(), -1) : null;
+  return isSecondCyclePending || !isCall(readCodes()[counter]) ? countWatcher(1, isSecondCyclePending) : returnWatcher(readCodes(), 0);
 }
