@@ -92,7 +92,7 @@ async function serveScript(engine, lines, yieldToMessages) {
 }
 
 /**
- * Compares a session with a new session that has accepted the same number of commands from the script. Resolves to the result.
+ * Compares a session with a new session that has accepted the same number of commands from the script.
  * @param {EngineHost} engine
  * @param {State} state the state of the session
  * @param {string} script

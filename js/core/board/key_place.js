@@ -1,5 +1,4 @@
-// Defines the keys of a board. A key is at a row and a column of the key matrix, or at the TEST pin. Only this module converts keys to text
-// and back.
+// Defines the keys of a board, and converts keys to text and back. A key is at a row and a column of the key matrix, or at the TEST pin.
 
 /**
  * A matrix key: its row and column, from 0.
