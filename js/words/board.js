@@ -12,7 +12,7 @@ export const NAMES_KEYS = " Lines such as # row 0: 7 8 9 in the board's text giv
 /** @type {(naming: string) => string} */
 export const keysHint = (naming) => `Shift-click holds a key. Paused: a click toggles it.${naming}`;
 
-// --- board/face.js ---
+// --- `board/face.js` ---
 export const A_SEGMENT = "a segment";
 export const A_COLUMN = "a column";
 export const A_DIGIT = "a digit";

@@ -60,11 +60,11 @@ function parseHitCondition(text) {
 
 /**
  * Reads the fields that a line, label or address breakpoint can have in a request.
- * @param {any} item
+ * @param {any} requested
  */
-function readCommonFields(item) {
-  const { from, error } = parseHitCondition(optionalText(item, "hitCondition"));
-  return { condition: optionalText(item, "condition"), note: optionalText(item, "logMessage"), from, error };
+function readCommonFields(requested) {
+  const { from, error } = parseHitCondition(optionalText(requested, "hitCondition"));
+  return { condition: optionalText(requested, "condition"), note: optionalText(requested, "logMessage"), from, error };
 }
 
 /**
@@ -137,9 +137,9 @@ export class ClientBreakpoints {
    */
   setLineBreakpoints(args, lineOf) {
     const { map } = this.session;
-    return this.setRequestedBreakpoints("lines", optionalList(args, "breakpoints").map((item) => {
-      const { line, address, message: error } = instructionForLine(lineOf(requireNumber(item, "line")), map);
-      return this.createBreakpoint({ ...readCommonFields(item), line, address, ...(address < 0 ? { error } : {}) });
+    return this.setRequestedBreakpoints("lines", optionalList(args, "breakpoints").map((requested) => {
+      const { line, address, message: error } = instructionForLine(lineOf(requireNumber(requested, "line")), map);
+      return this.createBreakpoint({ ...readCommonFields(requested), line, address, ...(address < 0 ? { error } : {}) });
     }));
   }
 
@@ -149,13 +149,13 @@ export class ClientBreakpoints {
    */
   setLabelBreakpoints(args) {
     const { map } = this.session;
-    return this.setRequestedBreakpoints("labels", optionalList(args, "breakpoints").map((item) => {
-      const name = requireText(item, "name").trim();
+    return this.setRequestedBreakpoints("labels", optionalList(args, "breakpoints").map((requested) => {
+      const name = requireText(requested, "name").trim();
       const programName = map.names.get(name);
       const message = programName && programName.isLabel ? "" : noLabelMessage(name);
       const address = programName && programName.isLabel ? programName.value : -1;
       const line = address < 0 ? 0 : map.lineOf(address);
-      return this.createBreakpoint({ ...readCommonFields(item), line, address, ...(message ? { error: message } : {}) });
+      return this.createBreakpoint({ ...readCommonFields(requested), line, address, ...(message ? { error: message } : {}) });
     }));
   }
 
@@ -166,11 +166,11 @@ export class ClientBreakpoints {
    */
   setAddressBreakpoints(args, addressOf) {
     const { map } = this.session;
-    return this.setRequestedBreakpoints("addresses", optionalList(args, "breakpoints").map((item) => {
-      const [reference, offset] = [requireText(item, "instructionReference"), requireNumber(item, "offset", 0)];
+    return this.setRequestedBreakpoints("addresses", optionalList(args, "breakpoints").map((requested) => {
+      const [reference, offset] = [requireText(requested, "instructionReference"), requireNumber(requested, "offset", 0)];
       const { requestedAddress, error } = resolveAddress(reference, offset, addressOf);
       const { line, address } = error === "" ? instructionAtAddress(requestedAddress, map) : { line: 0, address: -1 };
-      return this.createBreakpoint({ ...readCommonFields(item), line, address, ...(error === "" ? {} : { error }) });
+      return this.createBreakpoint({ ...readCommonFields(requested), line, address, ...(error === "" ? {} : { error }) });
     }));
   }
 
@@ -277,14 +277,14 @@ export class ClientBreakpoints {
    */
   async setDataBreakpoints(args) {
     const { board } = this.session.debugger.session.statusQueries;
-    this.dataBreakpoints = optionalList(args, "breakpoints").map((item) => {
-      const name = requireText(item, "dataId");
-      const { from, error: hitConditionError } = parseHitCondition(optionalText(item, "hitCondition"));
+    this.dataBreakpoints = optionalList(args, "breakpoints").map((requested) => {
+      const name = requireText(requested, "dataId");
+      const { from, error: hitConditionError } = parseHitCondition(optionalText(requested, "hitCondition"));
       const place = watchablePlace(name, board);
-      const access = optionalText(item, "accessType") || "write";
+      const access = optionalText(requested, "accessType") || "write";
       this.lastId += 1;
       const error = !place ? say.notWatchedMessage(name) : access !== "write" ? say.ONLY_CHANGES : hitConditionError;
-      return { id: this.lastId, name: place ? place.name : name, condition: optionalText(item, "condition"), from, error };
+      return { id: this.lastId, name: place ? place.name : name, condition: optionalText(requested, "condition"), from, error };
     });
     const errors = await this.applyDataBreakpoints();
     return this.dataBreakpoints.map(({ id, error }) => {
@@ -324,8 +324,8 @@ export class ClientBreakpoints {
    */
   setExceptionFilters(args) {
     const unconditionalFilters = optionalList(args, "filters").map((kind) => ({ kind: String(kind), condition: "" }));
-    const options = optionalList(args, "filterOptions").map((item) => (
-      { kind: requireText(item, "filterId"), condition: optionalText(item, "condition") }));
+    const options = optionalList(args, "filterOptions").map((option) => (
+      { kind: requireText(option, "filterId"), condition: optionalText(option, "condition") }));
     this.exceptionFilters = [...unconditionalFilters, ...options];
     return this.applyExceptionFilters();
   }

@@ -300,7 +300,7 @@ export class DebugAdapter {
     const message = launchResult.isDebugged ? say.notInProgramMessage(queryHandlers.programName)
       : say.NO_DEBUG;
     const breakpoints = optionalList(args, "breakpoints");
-    return { breakpoints: breakpoints.map((item) => ({ verified: false, line: requireNumber(item, "line"), message })) };
+    return { breakpoints: breakpoints.map((requested) => ({ verified: false, line: requireNumber(requested, "line"), message })) };
   }
 
   /** @param {(breakpoints: ClientBreakpoints) => Promise<import("./client_breakpoints.js").SentBreakpoint[]>} action */

@@ -48,7 +48,7 @@ class LastArrivalFinder {
     const { engine, arrivals } = this;
     const [breaks, watches] = engine.ask(file, "breaks\nwatches\n").answers.map(readItems);
     const removalLines = [
-      ...breaks.map((address) => `unbreak 0x${address}\n`), ...watches.map((item) => `unwatch ${item.replace(".", " 0x")}\n`)];
+      ...breaks.map((address) => `unbreak 0x${address}\n`), ...watches.map((watch) => `unwatch ${watch.replace(".", " 0x")}\n`)];
     this.fileCopy = file.slice();
     engine.serve(this.fileCopy, removalLines.join("") + arrivals.setupLines, this.fileCopy);
     this.totalCycles = count.total;

@@ -57,8 +57,8 @@ export class SrcSelection {
    * @param {string} state the answer to `state`
    */
   readLatchedBytes(state) {
-    for (const item of parseItems(stateValue(state, "banks"))) {
-      const [bank, byte] = item.split(".");
+    for (const latchedByte of parseItems(stateValue(state, "banks"))) {
+      const [bank, byte] = latchedByte.split(".");
       this.latchedBytes.set(Number(bank), parseInt(byte, 16));
     }
   }
