@@ -176,7 +176,7 @@ export class SnapshotView {
    * @param {import("../core/engine/brightness_meter.js").LitShares | null} [litShares] the measured duty cycle of each lamp
    */
   show(snapshot, isIntermediate = false, litShares = null) {
-    const changedValues = this.reader.take(snapshot);
+    const changedValues = this.reader.readSnapshot(snapshot);
     this.showLamps(changedValues.lamps, isIntermediate && this.calls.isRunning() ? litShares : null);
     this.showFront(changedValues);
     if (isIntermediate && this.calls.isFast() && performance.now() - this.lastDrawTime < DRAW_INTERVAL) return;

@@ -83,7 +83,7 @@ test("the machine pauses before a selected mistake, and then continues", () => {
   const benchDebugger = openDebugger("LDM 1\nFIM P0, 0x10\nSRC P0\nWRR\nLDM 2\nend: JUN end\n");
   benchDebugger.commonMistakes.stoppingKinds.add("lines");
   const frame = benchDebugger.advance(1543);
-  assert.deepEqual([frame.cycles, frame.stop.reason, frame.tally.mistakes.length, benchDebugger.counter], [4, "usual", 1, 4]);
+  assert.deepEqual([frame.cycles, frame.stop.reason, frame.tally.mistakes.length, benchDebugger.counter], [4, "mistake", 1, 4]);
   benchDebugger.beginMove();
   const nextFrame = benchDebugger.advance(1543);
   assert.deepEqual([nextFrame.cycles, nextFrame.stop, nextFrame.tally.mistakes], [1543, null, []]);
@@ -145,5 +145,5 @@ test("during a key press, mistakes are checked at once if the frame has a stop, 
   const debuggerWithStoppingMistakes = openDebugger(program);
   debuggerWithStoppingMistakes.commonMistakes.stoppingKinds.add("lines");
   const stopFrame = debuggerWithStoppingMistakes.advance(1543, true);
-  assert.deepEqual([stopFrame.stop.reason, stopFrame.cycles, stopFrame.tally.mistakes.length], ["usual", 3, 1]);
+  assert.deepEqual([stopFrame.stop.reason, stopFrame.cycles, stopFrame.tally.mistakes.length], ["mistake", 3, 1]);
 });

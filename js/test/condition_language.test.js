@@ -10,7 +10,7 @@ import {
   compileCondition, compileExpression, compileTestCondition, compileTracedCondition,
 } from "../core/conditions/condition_language.js";
 import { MAX_DEPTH, MAX_LENGTH } from "../core/conditions/parser.js";
-import { readSetting } from "../core/conditions/set_command.js";
+import { compileSetting } from "../core/conditions/set_command.js";
 import { DebugSession } from "../core/debug/debug_session.js";
 import { parseGoal } from "../core/debug/condition_search.js";
 import { compileNote, compileBreakpoint } from "../core/debug/soft_breakpoints.js";
@@ -175,7 +175,7 @@ const USES = {
   Watch: (text) => {
     const { watch: parsedWatch, error } = parseWatch(text, names);
     const snapshot = ["state\n", "ram 0\n"].map((line) => session.debugger.session.ask(line).join("\n"));
-    return error || joinPieces(parsedWatch.pieces(new MachineState(snapshot), names)) === "true";
+    return error || joinPieces(parsedWatch.readPieces(new MachineState(snapshot), names)) === "true";
   },
   "mcs4 debug": async (text) => {
     createConditionContext();
@@ -337,7 +337,7 @@ test("random texts are parsed in limited time, and errors have a column in the t
     const count = randomBelow(random, round % 100 === 0 ? 1500 : 14);
     const separator = randomBelow(random, 4) === 0 ? "" : " ";
     const text = Array.from({ length: count }, () => pieces[randomBelow(random, pieces.length)]).join(separator);
-    const parseSetting = (assignment) => readSetting(assignment, names.map, names.board);
+    const parseSetting = (assignment) => compileSetting(assignment, names.map, names.board);
     const parsers = [compileCondition, compileExpression, compileTestCondition, compileTracedCondition, parseSetting];
     for (const parse of parsers) {
       const { error, column } = parse(text, names);

@@ -56,7 +56,7 @@ test("places are parsed, and read from trace values", () => {
   /** Returns a place's name, the places that `trace` must report for it on this board, and its value, computed from the reported values. */
   const readPlace = (name, ...values) => {
     const place = parsePlace(name);
-    return [place.name, place.probesOn(board).join(" "), place.value(values)];
+    return [place.name, place.probesOn(board).join(" "), place.textOf(values)];
   };
   assert.deepEqual([
     readPlace("acc", "6"), readPlace("R15", "9"), readPlace("ram.0.63", "C"), readPlace("st.0.1.2", "2"), readPlace("ram0.0.3", "1"),

@@ -4,7 +4,7 @@ import assert from "node:assert/strict";
 import { test } from "node:test";
 import { readBoard } from "../core/bench/answers.js";
 import { Face, findFaceErrors } from "../core/board/face.js";
-import { printerLines, missingParts } from "../core/board/face_board.js";
+import { printerLines, missingPartErrors } from "../core/board/face_board.js";
 import { SHELF_PARTS, applyAction, matchesBench } from "../core/drawing/drawing_actions.js";
 import { boardLines } from "../core/bench/board_form.js";
 import { canConnect, possibleSources, possibleTargets, inputLines, boardWithBuzzer } from "../core/drawing/board_lines.js";
@@ -95,7 +95,7 @@ function checkAction(name, text, action, expectedBoard) {
   assert.equal(applyEdits(text, result.edits), result.text);
   assert.equal(applyEdits(result.text, inverseEdits(text, result.edits)), text);
   assert.ok(findFaceErrors(result.text).length <= findFaceErrors(text).length, label);
-  const countMissingParts = (boardText, board) => missingParts(new Face(boardText), board).length;
+  const countMissingParts = (boardText, board) => missingPartErrors(new Face(boardText), board).length;
   assert.ok(countMissingParts(result.text, readBoard(replyAfter.board)) <= countMissingParts(text, readBoard(replyBefore.board)),
     `${label}\n${result.text}`);
   assert.match(result.message, /^[A-Z].*\.$/);

@@ -206,15 +206,15 @@ test("the positions of dragged chains follow their numbers, and are restored wit
   const initialPositions = [["chain 0", { x: 1, y: 2 }], ["chain 1", { x: 3, y: 4 }], ["rom 0", { x: 5, y: 6 }]];
   movedParts.load(initialPositions);
   await drawing.performInOrder({ kind: "add", part: "lamp" });
-  assert.equal(movedParts.takeChanges(), false);
+  assert.equal(movedParts.hasNewChanges(), false);
   await drawing.performInOrder({ kind: "delete", part: "chain 0" });
   const expectedPositions = { "chain 0": { x: 3, y: 4 }, "rom 0": { x: 5, y: 6 } };
-  assert.deepEqual([Object.fromEntries(movedParts.positions), movedParts.takeChanges()], [expectedPositions, true]);
+  assert.deepEqual([Object.fromEntries(movedParts.positions), movedParts.hasNewChanges()], [expectedPositions, true]);
   await drawing.undoOrRedo("undo");
-  const takeChangesTwice = () => [movedParts.takeChanges(), movedParts.takeChanges()];
+  const takeChangesTwice = () => [movedParts.hasNewChanges(), movedParts.hasNewChanges()];
   assert.deepEqual([Object.fromEntries(movedParts.positions), ...takeChangesTwice()], [Object.fromEntries(initialPositions), true, false]);
   await drawing.undoOrRedo("undo");
-  assert.deepEqual([Object.fromEntries(movedParts.positions), movedParts.takeChanges()], [Object.fromEntries(initialPositions), false]);
+  assert.deepEqual([Object.fromEntries(movedParts.positions), movedParts.hasNewChanges()], [Object.fromEntries(initialPositions), false]);
 });
 
 test("if several chains are deleted, the others keep their positions", () => {

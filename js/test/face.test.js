@@ -4,7 +4,7 @@ import { test } from "node:test";
 import { readBoard } from "../core/bench/answers.js";
 import { DisplayText } from "../core/board/display_text.js";
 import { Face, findFaceErrors, moreErrorsMessage } from "../core/board/face.js";
-import { missingParts } from "../core/board/face_board.js";
+import { missingPartErrors } from "../core/board/face_board.js";
 
 /** Returns the contents of a sample file: the comments of a board (`NAME.face`), or the expected description of the front panel
  * (`NAME.expected`). */
@@ -43,7 +43,7 @@ for (const name of ["all", "faults", "many", "none", "printer", "scanned", "show
     const expected = readSample(`${name}.expected`).split("\n").filter(Boolean);
     const patterns = expected.filter((line) => line.startsWith("shows ")).map((line) => line.split(" ")[1]);
     const face = new Face(text);
-    assert.deepEqual(describeFace(face, [...findFaceErrors(text), ...missingParts(face, board)], patterns), expected);
+    assert.deepEqual(describeFace(face, [...findFaceErrors(text), ...missingPartErrors(face, board)], patterns), expected);
   });
 }
 

@@ -17,31 +17,32 @@ test("the queries for a board, and the changes in each snapshot", () => {
   const inputs = readInputs(joinLines(queries));
   const snapshot = buildSnapshot(inputs, [STATE, ...RAM]);
   const reader = new SnapshotReader();
-  assert.deepEqual(reader.take(snapshot), { lamps: "**.", keys: ["0.1", "1.2"], test: "1" });
+  assert.deepEqual(reader.readSnapshot(snapshot), { lamps: "**.", keys: ["0.1", "1.2"], test: "1" });
   const changes = reader.readOtherChanges();
   assert.equal(changes.registers.counter, "00A");
   assert.deepEqual(changes.ports.keys, ["0.1", "1.2"]);
   assert.deepEqual([changes.breakpoints, changes.watches], [["003", "00F"], ["0.3F"]]);
   assert.equal(changes.ram[0].ports.get("0.0"), "1");
   for (const sameSnapshot of [snapshot, buildSnapshot(inputs, [STATE.replace("seq 8", "seq 9"), ...RAM])]) {
-    assert.deepEqual([reader.take(sameSnapshot), reader.readOtherChanges()], [{}, {}]);
+    assert.deepEqual([reader.readSnapshot(sameSnapshot), reader.readOtherChanges()], [{}, {}]);
   }
   const nextSnapshot = buildSnapshot(inputs, [STATE.replace("lamps **.", "lamps .**"), ...RAM]);
-  assert.deepEqual([reader.take(nextSnapshot), reader.readOtherChanges()], [{ lamps: ".**" }, {}]);
+  assert.deepEqual([reader.readSnapshot(nextSnapshot), reader.readOtherChanges()], [{ lamps: ".**" }, {}]);
   assert.equal(reader.registers.accumulator, "6");
   reader.forget();
-  assert.equal(Object.keys(reader.take(nextSnapshot)).length, 3);
+  assert.equal(Object.keys(reader.readSnapshot(nextSnapshot)).length, 3);
   assert.equal(Object.keys(reader.readOtherChanges()).length, 5);
 });
 
 test("changes accumulate until they are read", () => {
   const reader = new SnapshotReader();
   const createSnapshot = (state, ...ram) => [state, ram.join("\n")];
-  reader.take(createSnapshot(STATE, ...RAM));
+  reader.readSnapshot(createSnapshot(STATE, ...RAM));
   reader.readOtherChanges();
-  assert.deepEqual(reader.take(createSnapshot(STATE.replace("keys 0.1,1.2", "keys -").replace("acc 6", "acc 7"), ...RAM)), { keys: [] });
-  assert.deepEqual(reader.take(createSnapshot(STATE.replace("test 1", "test 0").replace("acc 6", "acc 8"), RAM[0], RAM[1], "0.0 out 2")),
-    { keys: ["0.1", "1.2"], test: "0" });
+  const secondState = STATE.replace("keys 0.1,1.2", "keys -").replace("acc 6", "acc 7");
+  assert.deepEqual(reader.readSnapshot(createSnapshot(secondState, ...RAM)), { keys: [] });
+  const thirdState = STATE.replace("test 1", "test 0").replace("acc 6", "acc 8");
+  assert.deepEqual(reader.readSnapshot(createSnapshot(thirdState, RAM[0], RAM[1], "0.0 out 2")), { keys: ["0.1", "1.2"], test: "0" });
   const { registers, ram, ...others } = reader.readOtherChanges();
   assert.deepEqual([registers.accumulator, registers.test, ram[0].ports.get("0.0"), others], ["8", "0", "2", {}]);
   assert.deepEqual(reader.readOtherChanges(), {});
@@ -75,9 +76,9 @@ test("the registers and the ports of a state are parsed", () => {
 
 test("an empty bench has an empty snapshot, and an invalid state is an error", () => {
   const reader = new SnapshotReader();
-  assert.deepEqual(reader.take([EMPTY]), { lamps: "", keys: [], test: "1" });
+  assert.deepEqual(reader.readSnapshot([EMPTY]), { lamps: "", keys: [], test: "1" });
   const changes = reader.readOtherChanges();
   assert.deepEqual([changes.breakpoints, changes.watches], [[], []]);
   assert.deepEqual(changes.ports, { srcBytes: ["00"], roms: [], chains: [], keys: [] });
-  assert.throws(() => reader.take(["no 90"]), /the bench answers state by no 90/);
+  assert.throws(() => reader.readSnapshot(["no 90"]), /the bench answers state by no 90/);
 });

@@ -180,10 +180,10 @@ test("watched expressions can have names, and invalid expressions are reported",
     ["count > 5 and digit = 7", "count > 5 and digit = 7", "true"], ["count + digit", "count + digit", "13 (0xD)"],
     ["total + 1", "total + 1", "14 (0xE)"], ["0b101", "0b101", "5"], ["acc - P2", "acc - P2", "-91"], ["test = 1", "test = 1", "true"]]) {
     const { watch: watched, error } = parseWatch(text, names);
-    assert.deepEqual([error, watched?.name, joinPieces(watched?.pieces(machineState, names) || [])], ["", name, expected], text);
+    assert.deepEqual([error, watched?.name, joinPieces(watched?.readPieces(machineState, names) || [])], ["", name, expected], text);
     assert.equal(parseWatch(watched.text, names).watch.name, name);
   }
-  assert.deepEqual(parseWatch("a = P2").watch.pieces(machineState, names).map(({ place }) => place), ["r4", "r5"]);
+  assert.deepEqual(parseWatch("a = P2").watch.readPieces(machineState, names).map(({ place }) => place), ["r4", "r5"]);
   for (const [text, error] of [
     ["", "An expression is missing, as in: "], ["a =", "An expression is missing, as in: "],
     ["loop", "in loop: in loop: in loop: loop uses names that use other names"],
@@ -198,11 +198,11 @@ test("watched expressions can have names, and invalid expressions are reported",
   }
   // An expression with names is checked only when the names are known.
   assert.equal(parseWatch("r16").error, "");
-  assert.equal(joinPieces(parseWatch("r16").watch.pieces(machineState, names)), "r16: no such place; the registers are r0 to r15");
+  assert.equal(joinPieces(parseWatch("r16").watch.readPieces(machineState, names)), "r16: no such place; the registers are r0 to r15");
   assert.match(parseWatch("1a = R5").error, /^A name has letters/);
   assert.match(parseWatch(`a = ${"x".repeat(200)}`).error, /^It has more than 200/);
-  const { all, error } = parseWatches(["a = R1", "r5 +", 5, null, "R2"]);
-  assert.deepEqual(all.map(({ text }) => text), ["a = R1", "R2"]);
+  const { watches, error } = parseWatches(["a = R1", "r5 +", 5, null, "R2"]);
+  assert.deepEqual(watches.map(({ text }) => text), ["a = R1", "R2"]);
   assert.match(error, /^a value is missing after \+ \(column 4\)/);
-  assert.deepEqual(parseWatches({ a: 1 }), { all: [], error: "" });
+  assert.deepEqual(parseWatches({ a: 1 }), { watches: [], error: "" });
 });

@@ -19,6 +19,8 @@ export const NO_FRAME = "there is no such frame; frameId is one of stackTrace";
 export const NO_LINE = "text has no such line";
 /** @type {(maximum: number) => string} */
 export const instructionCountRangeMessage = (maximum) => `instructionCount is 0 to ${maximum}`;
+
+// --- adapter/memory.js ---
 /** @type {(part: string) => string} */
 export const boardHasNo = (part) => `the board has no ${part}`;
 export const COUNT_RANGE = "count is 0 or more";
@@ -91,6 +93,7 @@ export const fileNotWritten = (answer) => `the session's file was not written: t
 export const STATES_DIFFER = "the session's file reached another state than the session in memory";
 
 // --- adapter/session_launch.js ---
+export const TEST_NEEDS_TESTS = "a test needs `tests`, the name of its text";
 export const LAUNCH_SYNTAX =
   "launch needs \"project\", a folder with mcs4.toml, or \"program\", a program's text, or \"session\", a session file";
 /** @type {(error: string) => string} */
@@ -123,7 +126,6 @@ export const MACHINE_RUNS_ALREADY = "the machine is running already: pause it fi
 export const earlierNotesOmitted = (count) => `(${count} notes before these)`;
 
 // --- adapter/test_launch.js ---
-export const TEST_NEEDS_TESTS = "a test needs `tests`, the name of its text";
 /** @type {(name: string, file: string) => string} */
 export const noSuchTestMessage = (name, file) => `${file} has no test ${name}`;
 /** @type {(name: string) => string} */

@@ -1,10 +1,10 @@
 // Messages about conditions: errors, the names of places, and comparisons of actual with expected values.
 
-// --- conditions/places.js ---
+// --- prompt/debugger_prompt.js ---
 export const NAMED_PLACES = "acc, cy, dcl, r0 to r15, ram.B.S, st.B.H.K, rom1.2, ram0.0.3, chain0.5, a whole port such as rom1 or ram0.0, "
   + "lamp 3 or lamps";
 
-// --- conditions/keyword_conditions.js ---
+// --- conditions/keyword_conditions.js, conditions/parser.js, conditions/values.js ---
 /** @type {(name: string, lampNames: string) => string} */
 export const noLampMessage = (name, lampNames) => (
   `the board has no lamp ${name}; ${lampNames ? `it has: ${lampNames}` : "its text names no lamps (`# lamp 0: NAME ..`)"}`);
@@ -38,7 +38,7 @@ export const placeHasOneValueMessage = (place) => `${place} holds one value; onl
 /** @type {(place: string, maximum: number, word: string) => string} */
 export const valueRangeMessage = (place, maximum, word) => `${place} holds 0 to ${maximum}, not ${word}`;
 
-// --- conditions/condition_language.js ---
+// --- conditions/condition_language.js, conditions/compiler.js, conditions/keyword_conditions.js, conditions/parser.js ---
 export const NO_CONDITION = "a condition is missing";
 /** @type {(subject: string, actual: string, expected: string, isPlural: boolean, isNot: boolean) => string} */
 export const mustBeMessage = (subject, actual, expected, isPlural, isNot) => (

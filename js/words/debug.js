@@ -85,7 +85,7 @@ export const returnWithoutCall = (address) => `a BBL without a call: it goes to 
 /** @type {(address: string) => string} */
 export const returnAddressLost = (address) => `4th nested JMS: return address ${address} was overwritten`;
 
-// --- debug/word_values.js ---
+// --- debug/word_values.js, debug/watch_expressions.js, debug/condition_search.js ---
 /** @type {(bank: number, character: string) => string} */
 export const inBank = (bank, character) => `bank ${bank}, ${character}`;
 /** @type {(selection: string) => string} */

@@ -1,7 +1,7 @@
 // Notes about the examples: a first thing to try in each, and the welcome cards for a first visit.
 
 /** A first thing to try in each example, by the example's name. */
-export const TO_DO = {
+export const FIRST_TRIES = {
   "three lamps": "Pause it, then step with F11 and watch a lamp change.",
   "counter": "Press COUNT: the display counts.",
   "a fault to find": "Step over with F10 and find the line that is wrong.",
@@ -21,7 +21,7 @@ export const TO_DO = {
   "empty bench": "Draw a board in Wiring, or write one in Board.",
 };
 /** The order of the examples. An example that is not in this list comes first. */
-export const ORDER = Object.keys(TO_DO);
+export const EXAMPLE_ORDER = Object.keys(FIRST_TRIES);
 /** @type {(title: string, toDo: string) => string} */
 export const exampleWords = (title, toDo) => `${title} ${toDo}`;
 
@@ -30,7 +30,7 @@ export const WELCOME = "What would you like to do first?";
 export const WELCOME_HINT = "First steps, in the list of commands (Ctrl+Shift+P), shows these cards again.";
 export const CLOSE = "Close";
 /** The welcome cards: their titles, their texts, and the examples that they open. */
-export const CARDS = {
+export const WELCOME_CARDS = {
   lamp: { title: "Light a lamp (3 clicks)", words: "Your first program, step by step. No knowledge is needed.", example: "" },
   step: { title: "Step through a program", words: "Three lamps. Pause, step, and see what changes.", example: "three lamps" },
   traffic: { title: "See a machine at work", words: "A traffic light. Press WALK and wait for green.", example: "traffic light" },

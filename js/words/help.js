@@ -9,7 +9,7 @@ export const PROGRAM_IN_SOURCE = "The program of this step is in Source.";
 /** @type {(count: number) => string} */
 export const rowsFound = (count) => `${count} ${count === 1 ? "row has" : "rows have"} it.`;
 
-// --- help/manual.js ---
+// --- help/manual.js, commands/key_list.js ---
 export const INSTRUCTIONS = "The 45 instructions";
 export const KEYBOARD = "The keyboard";
 export const CELLS = "What the cells show";

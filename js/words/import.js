@@ -1,9 +1,5 @@
 // Error messages for programs in the syntax of other assemblers.
 
-// --- import/source_lines.js ---
-/** @type {(maximum: number) => string} */
-export const lineTooLongMessage = (maximum) => `the line has more than ${maximum} bytes before its comment`;
-
 // --- import/expressions.js ---
 /** @type {(text: string) => string} */
 export const notUnderstoodMessage = (text) => `\`${text}\` is not understood`;
@@ -20,6 +16,8 @@ export const NO_BRACKET = "a bracket is missing";
 export const noNameMessage = (name) => `no line defines the name ${name}`;
 
 // --- import/program_import.js ---
+/** @type {(maximum: number) => string} */
+export const lineTooLongMessage = (maximum) => `the line has more than ${maximum} bytes before its comment`;
 /** @type {(name: string, line: number) => string} */
 export const definedTwice = (name, line) => `the name ${name} is also defined in line ${line}`;
 /** @type {(text: string) => string} */

@@ -138,7 +138,7 @@ export const NO_CALL_WAITS = "No call is waiting for a BBL with this address.";
 /** @type {(line: number) => string} */
 export const callInLine = (line) => `call in line ${line}`;
 
-// --- machine/run_to.js ---
+// --- page/compose_debug.js ---
 export const NO_ADDRESS = "Nothing was done: the source is not the same as ROM, or this line of it puts nothing there.";
 
 // --- machine/source_map.js ---

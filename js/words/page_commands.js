@@ -172,7 +172,7 @@ export const TOOLTIPS = {
 /**
  * @type {Record<string, { words: string, button: string }>} the text and the button label of an empty panel, by the id of the panel's list
  */
-export const EMPTY = {
+export const EMPTY_PANELS = {
   "watched-list": { words: "Named values.", button: "Add a watch" },
   "breakpoint-list": { words: "", button: "Set at cursor" },
   "waves": { words: "Lamps, lines and registers over time, as a logic analyser shows them.", button: "Record" },
@@ -203,8 +203,8 @@ export const A_PROJECT = "project";
 
 // --- commands/key_list.js ---
 export const KEY_TABLE = "Keys of commands";
-export const KEY = "Key";
-export const DOES = "Does";
+export const KEY_HEAD = "Key";
+export const EFFECT_HEAD = "Does";
 /** The part of the page in which a key works, by the key's scope. */
 export const KEY_SCOPES = {
   everywhere: "", texts: "in the texts", source: "in Source", board: "in Board", tests: "in Tests", properties: "in Properties",

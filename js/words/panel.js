@@ -30,10 +30,10 @@ export const keyLine = (test, hasMoreRam) => (
 export const TEST_PIN = "test";
 /** @type {(name: string) => string} */
 export const testKey = (name) => `${name}:^T`;
-/** @type {(line: number, error: string) => string} */
-export const noteOfBoard = (line, error) => `line ${line}: ${error}`;
 
 // --- node/commands/panel.mjs, node/panel_terminal.mjs ---
+/** @type {(line: number, error: string) => string} */
+export const noteOfBoard = (line, error) => `line ${line}: ${error}`;
 export const NO_TERMINAL = "standard input and output must be a terminal";
 /** @type {(kind: string) => string} */
 export const unsuitableTerminalMessage = (kind) => (

@@ -105,11 +105,11 @@ export const infoShows = (kinds) => `info shows ${kinds}`;
 export const infoTakesNoArgument = (kind) => `info ${kind} takes no argument`;
 export const SYMBOL_SYNTAX = "write info symbol PLACE, as in info symbol 0x00F";
 export const NO_LOCALS = "a 4004 has no local variables; info registers shows the registers, info names the names of the program";
+
+// --- prompt/state_text.js ---
 /** @type {(line: number, first: string, name: string, last: string) => string} */
 export const lineLocation = (line, first, name, last) => (
   `${line > 0 ? `Line ${line}` : "No line of the source"} is at 0x${first}${name && ` (${name})`}${last && ` and 0x${last}`}.`);
-
-// --- prompt/state_text.js ---
 export const NO_RAM = "the board has no RAM";
 export const CALL_SUFFIX = ", the call";
 export const NO_NAMES = "the source has no names";

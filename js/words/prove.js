@@ -96,7 +96,7 @@ export const reachedBy = (steps) => `reached, ${steps}`;
 /** @type {(steps: string, cycles: string, isGoal: boolean) => string} */
 export const foundBy = (steps, cycles, isGoal) => `${isGoal ? "reached" : "broken"} by ${steps}, ${cycles} cycles`;
 
-// --- node/proof_search.mjs ---
+// --- node/proof_search.mjs, node/commands/prove.mjs ---
 /** @type {(maximum: string) => string} */
 export const moreStates = (maximum) => `more than ${maximum} states; --most allows more`;
 export const NO_MEMORY = "memory is full";

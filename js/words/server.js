@@ -20,7 +20,7 @@ export const lineOfRam = (line, chip, bank) => `line ${line} of the port of RAM 
 /** @type {(isChain: boolean, line: number) => string} */
 export const definedIn = (isChain, line) => `; its ${isChain ? "chain" : "chip"} is in line ${line}`;
 
-// --- server/connection.js ---
+// --- server/connection.js, server/message_stream.js ---
 /** @type {(bytes: number) => string} */
 export const messageTooLong = (bytes) => `a message of ${bytes} bytes was not read`;
 export const NOT_JSON = "a message is not JSON";
@@ -117,7 +117,7 @@ export const testFailed = (name, line, message) => `The test ${name} failed in l
 /** @type {(file: string, line: number, message: string) => string} */
 export const notRunMessage = (file, line, message) => `Nothing was run: ${file}${line > 0 ? `:${line}` : ""}: ${message}.`;
 
-// --- project/project_folder.js ---
+// --- project/project_folder.js, adapter/session_launch.js ---
 export const PROJECT_FILE_IS_EMPTY = "it is empty; it should name the project's files, as in board = \"board.toml\"";
 /** @type {(size: number, maximum: number) => string} */
 export const tooLongMessage = (size, maximum) => `it has ${size} bytes, more than a project file can have (${maximum})`;

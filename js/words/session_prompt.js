@@ -1,6 +1,6 @@
 // Messages of the `mcs4 new` and `mcs4 open` prompt. They complement the bench's answers.
 
-// --- prompt/bench_prompt.js ---
+// --- prompt/bench_prompt.js, prompt/source_command.js, node/session_terminal.mjs ---
 export const GREETING = "help shows the lines, quit leaves.";
 export const PROMPT_LINES_TITLE = "At this prompt:";
 /** @type {[string, string][]} the lines that only the prompt accepts, with their effects */

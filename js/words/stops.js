@@ -11,12 +11,12 @@ import { formatCycles } from "../core/time/cycles.js";
  * @typedef {import("../core/machine/source_map.js").SourceMap} SourceMap
  */
 
-/** @type {Record<string, string>} the reasons why a run stopped, by the word in the bench's answer */
+/** @type {Record<string, string>} the reasons why a run stopped, by the stop reason (debug/debugger.js) */
 export const REASONS = {
   code: "before a code that is not an instruction",
   break: "at a breakpoint",
   watch: "after a watched nibble changed",
-  usual: "before a mistake that is reported",
+  mistake: "before a mistake that is reported",
   recorded: "because the waves after the trigger have been recorded",
 };
 

@@ -116,7 +116,7 @@ export const notInsertedMessage = (size, maximum) =>
 /** @type {(size: string, maximum: string, unit: string) => string} */
 export const textSize = (size, maximum, unit) => `${size} of ${maximum} ${unit}`;
 
-// --- text/editors.js ---
+// --- text/editors.js, text/problems_view.js ---
 export const MAY_BE_MORE = "There may be more.";
 /** @type {(bytes: string) => string} */
 export const assembledAll = (bytes) => `Assembled ${bytes}; running from 000.`;
@@ -136,7 +136,7 @@ export const CLOSE = "Close";
 // --- text/fold_view.js ---
 export const UNFOLD_HINT = "click to unfold them";
 
-// --- text/line_values.js ---
+// --- text/line_layers.js ---
 export const CHANGES_BY_LINE = "what this line has changed";
 
 // --- text/meaning_view.js ---

@@ -16,7 +16,7 @@ export const answerIsRefusalMessage = (line, answer) => `line ${line} is a refus
 /** @type {(lines: number) => string} */
 export const tooFewAnswersMessage = (lines) => `there are only ${lines} lines of answers`;
 export const NO_RUN = "none of these lines shows a run, as `ok 5 ran 100 end` does";
-/** @type {Record<string, string>} why a run stopped, at the end of its line in `mcs4 cycles`, by the word in the bench's answer */
+/** @type {Record<string, string>} the reason why a run stopped, at the end of its line in `mcs4 cycles`, by the bench's word */
 export const WHY_STOPPED = {
   end: "", break: ", to a breakpoint", watch: ", to a change of a watched nibble", code: ", to a code that is not an instruction",
 };

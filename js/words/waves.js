@@ -48,7 +48,7 @@ export const lineIsDecodedMessage = (name) => `${name} is decoded from other lin
 /** @type {(name: string) => string} */
 export const numberConditionSyntax = (name) => `${name} is a number: write ${name} changes, or as ${name} = 5`;
 
-// --- waves/wave_view.js ---
+// --- waves/row_menu.js, waves/wave_view.js ---
 export const ROW = "Row";
 export const RENAME = "Rename";
 export const NAME = "Name";
@@ -90,7 +90,7 @@ export const TITLES = {
   registers: "Registers and pairs", pc: "Counter", label: "Label",
 };
 
-// --- waves/wave_choice.js ---
+// --- waves/wave_choice.js, waves/wave_catalog.js ---
 /** @type {(names: string, isOne: boolean) => string} */
 export const recordedNext = (names, isOne) => `${names} ${isOne ? "is" : "are"} recorded from the next recording on.`;
 

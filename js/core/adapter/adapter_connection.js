@@ -9,8 +9,8 @@ import * as say from "../../words/adapter.js";
 import { INITIALIZE_FIRST, INITIALIZE_ONCE, NOT_JSON } from "../../words/server.js";
 
 /**
- * A request that has no response yet. `seq` is its number. `hasBegun` is true after its handler has started. A long-running handler checks
- * `isCancelled`, and throws CancelledError if `isCancelled` is true.
+ * A request that has no response yet. `seq` is its number. `hasBegun` is false while the request is queued. A long-running handler checks
+ * `isCancelled`, and throws CancelledError if it is true.
  * @typedef {{ seq: number, command: string, hasBegun: boolean, isCancelled: boolean }} PendingRequest
  *
  * A request handler. It returns the response body, or a promise of the body.
@@ -34,7 +34,7 @@ export class AdapterConnection extends MessageStream {
   constructor(write) {
     super(write);
     /** @type {Record<string, RequestHandler>} */
-    this.requests = {};
+    this.handlers = {};
     this.lastSeq = 0;
     this.isOpen = false;
     /** Resolves when all queued requests have responses. A new request waits for this promise. */
@@ -97,7 +97,7 @@ export class AdapterConnection extends MessageStream {
     try {
       const errorText = this.lifecycleError(command);
       if (errorText) throw new AdapterError(errorText);
-      const handler = Object.prototype.hasOwnProperty.call(this.requests, command) && this.requests[command];
+      const handler = Object.prototype.hasOwnProperty.call(this.handlers, command) && this.handlers[command];
       if (!handler) throw new AdapterError(say.unsupportedRequestMessage(command));
       const result = await handler(args, pendingRequest);
       if (command === "initialize") this.isOpen = true;
@@ -126,14 +126,14 @@ export class AdapterConnection extends MessageStream {
   }
 
   /**
-   * Handles the `cancel` request. If the request to cancel is queued, rejects that request at once. If its handler is running, sets
-   * `isCancelled`. If the request already has its response, does nothing. For a progress id, stops the task.
+   * Handles the `cancel` request, which names another request or a task. Rejects the named request at once if it is queued. If its handler
+   * is running, sets `isCancelled`. If the request already has its response, does nothing. Stops the task with the named progress id.
    * @param {any} args
    */
   cancel(args) {
-    const [number, progressId] = [requireNumber(args, "requestId", 0), optionalText(args, "progressId")];
+    const [requestId, progressId] = [requireNumber(args, "requestId", 0), optionalText(args, "progressId")];
     if (progressId !== "") this.stopTask(progressId);
-    for (const pending of [...this.pendingRequests].filter(({ seq, command }) => seq === number && command !== "cancel")) {
+    for (const pending of [...this.pendingRequests].filter(({ seq, command }) => seq === requestId && command !== "cancel")) {
       pending.isCancelled = true;
       if (pending.hasBegun) continue;
       this.pendingRequests.delete(pending);

@@ -60,11 +60,11 @@ function parseHitCondition(text) {
 
 /**
  * Reads the fields that a line, label or address breakpoint can have in a request.
- * @param {any} item
+ * @param {any} requested
  */
-function readCommonFields(item) {
-  const { from, error } = parseHitCondition(optionalText(item, "hitCondition"));
-  return { condition: optionalText(item, "condition"), note: optionalText(item, "logMessage"), from, error };
+function readCommonFields(requested) {
+  const { from, error } = parseHitCondition(optionalText(requested, "hitCondition"));
+  return { condition: optionalText(requested, "condition"), note: optionalText(requested, "logMessage"), from, error };
 }
 
 /**
@@ -91,13 +91,13 @@ export class ClientBreakpoints {
     /** @type {Record<BreakpointKind, RequestedBreakpoint[]>} the breakpoints that the client requested, by kind */
     this.requestedByKind = { lines: [], labels: [], addresses: [] };
     /** The addresses of the bench's breakpoints that the client did not set. */
-    this.otherAddresses = session.debugger.session.breakpointAddresses;
+    this.nonClientAddresses = session.debugger.session.breakpointAddresses;
     /**
-     * The RAM characters that the bench watches, without those that it watches for the client. Each has the form `B 0xSS`: its bank and its
+     * The RAM characters that the bench watches, except those that it watches for the client. Each has the form `B 0xSS`: its bank and its
      * SRC byte.
      */
-    this.otherWatches = readBenchWatches(session);
-    /** @type {string[]} the RAM characters that the bench watches for the client, in the form of `otherWatches` */
+    this.nonClientWatches = readBenchWatches(session);
+    /** @type {string[]} the RAM characters that the bench watches for the client, in the form of `nonClientWatches` */
     this.clientWatches = [];
     /** @type {RequestedDataBreakpoint[]} the data breakpoints that the client requested */
     this.dataBreakpoints = [];
@@ -123,7 +123,7 @@ export class ClientBreakpoints {
    * Returns a requested breakpoint with a new id.
    * @param {Partial<RequestedBreakpoint>} fields
    */
-  newBreakpoint(fields) {
+  createBreakpoint(fields) {
     this.lastId += 1;
     return { ...DEFAULT_BREAKPOINT, ...fields, id: this.lastId };
   }
@@ -133,13 +133,13 @@ export class ClientBreakpoints {
   /**
    * Handles the `setBreakpoints` request.
    * @param {any} args
-   * @param {(line: number) => number} lineOf converts a client's line number to a line number that counts from 1
+   * @param {(line: number) => number} lineOf converts the client's line number to a line number that counts from 1
    */
   setLineBreakpoints(args, lineOf) {
     const { map } = this.session;
-    return this.setRequestedBreakpoints("lines", optionalList(args, "breakpoints").map((item) => {
-      const { line, address, message: error } = instructionForLine(lineOf(requireNumber(item, "line")), map);
-      return this.newBreakpoint({ ...readCommonFields(item), line, address, ...(address < 0 ? { error } : {}) });
+    return this.setRequestedBreakpoints("lines", optionalList(args, "breakpoints").map((requested) => {
+      const { line, address, message: error } = instructionForLine(lineOf(requireNumber(requested, "line")), map);
+      return this.createBreakpoint({ ...readCommonFields(requested), line, address, ...(address < 0 ? { error } : {}) });
     }));
   }
 
@@ -149,13 +149,13 @@ export class ClientBreakpoints {
    */
   setLabelBreakpoints(args) {
     const { map } = this.session;
-    return this.setRequestedBreakpoints("labels", optionalList(args, "breakpoints").map((item) => {
-      const name = requireText(item, "name").trim();
+    return this.setRequestedBreakpoints("labels", optionalList(args, "breakpoints").map((requested) => {
+      const name = requireText(requested, "name").trim();
       const programName = map.names.get(name);
       const message = programName && programName.isLabel ? "" : noLabelMessage(name);
       const address = programName && programName.isLabel ? programName.value : -1;
       const line = address < 0 ? 0 : map.lineOf(address);
-      return this.newBreakpoint({ ...readCommonFields(item), line, address, ...(message ? { error: message } : {}) });
+      return this.createBreakpoint({ ...readCommonFields(requested), line, address, ...(message ? { error: message } : {}) });
     }));
   }
 
@@ -166,11 +166,11 @@ export class ClientBreakpoints {
    */
   setAddressBreakpoints(args, addressOf) {
     const { map } = this.session;
-    return this.setRequestedBreakpoints("addresses", optionalList(args, "breakpoints").map((item) => {
-      const [reference, offset] = [requireText(item, "instructionReference"), requireNumber(item, "offset", 0)];
+    return this.setRequestedBreakpoints("addresses", optionalList(args, "breakpoints").map((requested) => {
+      const [reference, offset] = [requireText(requested, "instructionReference"), requireNumber(requested, "offset", 0)];
       const { requestedAddress, error } = resolveAddress(reference, offset, addressOf);
       const { line, address } = error === "" ? instructionAtAddress(requestedAddress, map) : { line: 0, address: -1 };
-      return this.newBreakpoint({ ...readCommonFields(item), line, address, ...(error === "" ? {} : { error }) });
+      return this.createBreakpoint({ ...readCommonFields(requested), line, address, ...(error === "" ? {} : { error }) });
     }));
   }
 
@@ -207,7 +207,7 @@ export class ClientBreakpoints {
       const { address, error } = breakpoint;
       if (error === "" && address >= 0 && !byAddress.has(address)) byAddress.set(address, breakpoint);
     }
-    for (const address of this.otherAddresses) {
+    for (const address of this.nonClientAddresses) {
       if (!byAddress.has(address)) byAddress.set(address, { ...DEFAULT_BREAKPOINT, id: 0, address });
     }
     return byAddress;
@@ -277,14 +277,14 @@ export class ClientBreakpoints {
    */
   async setDataBreakpoints(args) {
     const { board } = this.session.debugger.session.statusQueries;
-    this.dataBreakpoints = optionalList(args, "breakpoints").map((item) => {
-      const name = requireText(item, "dataId");
-      const { from, error: hitConditionError } = parseHitCondition(optionalText(item, "hitCondition"));
+    this.dataBreakpoints = optionalList(args, "breakpoints").map((requested) => {
+      const name = requireText(requested, "dataId");
+      const { from, error: hitConditionError } = parseHitCondition(optionalText(requested, "hitCondition"));
       const place = watchablePlace(name, board);
-      const access = optionalText(item, "accessType") || "write";
+      const access = optionalText(requested, "accessType") || "write";
       this.lastId += 1;
       const error = !place ? say.notWatchedMessage(name) : access !== "write" ? say.ONLY_CHANGES : hitConditionError;
-      return { id: this.lastId, name: place ? place.name : name, condition: optionalText(item, "condition"), from, error };
+      return { id: this.lastId, name: place ? place.name : name, condition: optionalText(requested, "condition"), from, error };
     });
     const errors = await this.applyDataBreakpoints();
     return this.dataBreakpoints.map(({ id, error }) => {
@@ -294,17 +294,17 @@ export class ClientBreakpoints {
   }
 
   /**
-   * Sets the watches of the session. The bench watches up to MAX_WATCHES RAM characters without a condition or hit count. The debugger
-   * watches all other places. Resolves to the error messages, by the id of the data breakpoint.
+   * Sets the watches of the session. The bench watches RAM characters whose data breakpoints have no condition and no hit count, up to
+   * MAX_WATCHES in total. The debugger watches all other places. Resolves to the error messages, by the id of the data breakpoint.
    */
   async applyDataBreakpoints() {
-    const { session, otherWatches } = this;
+    const { session, nonClientWatches } = this;
     const validRequests = this.dataBreakpoints.filter(({ error }) => error === "");
-    const freeCount = MAX_WATCHES - otherWatches.length;
+    const freeCount = MAX_WATCHES - nonClientWatches.length;
     const unconditionalRequests = validRequests.filter(({ name, condition, from }) => (
-      watchOperand(name) !== "" && condition.trim() === "" && from === 1));
-    const ramPlaces = [...new Set(unconditionalRequests.map(({ name }) => watchOperand(name)))];
-    const watches = ramPlaces.filter((place) => !otherWatches.includes(place)).slice(0, freeCount);
+      watchOperands(name) !== "" && condition.trim() === "" && from === 1));
+    const ramPlaces = [...new Set(unconditionalRequests.map(({ name }) => watchOperands(name)))];
+    const watches = ramPlaces.filter((place) => !nonClientWatches.includes(place)).slice(0, freeCount);
     const removedWatches = this.clientWatches.filter((place) => !watches.includes(place));
     const addedWatches = watches.filter((place) => !this.clientWatches.includes(place));
     const lines = [...removedWatches.map((place) => `unwatch ${place}\n`), ...addedWatches.map((place) => `watch ${place}\n`)].join("");
@@ -312,7 +312,7 @@ export class ClientBreakpoints {
     this.clientWatches = watches;
     const benchWatches = readBenchWatches(session);
     const isWatchedByBench = (/** @type {RequestedDataBreakpoint} */ request) => (
-      unconditionalRequests.includes(request) && benchWatches.includes(watchOperand(request.name)));
+      unconditionalRequests.includes(request) && benchWatches.includes(watchOperands(request.name)));
     return session.debugger.setWatches(validRequests.filter((request) => !isWatchedByBench(request)), session.names);
   }
 
@@ -324,8 +324,8 @@ export class ClientBreakpoints {
    */
   setExceptionFilters(args) {
     const unconditionalFilters = optionalList(args, "filters").map((kind) => ({ kind: String(kind), condition: "" }));
-    const options = optionalList(args, "filterOptions").map((item) => (
-      { kind: requireText(item, "filterId"), condition: optionalText(item, "condition") }));
+    const options = optionalList(args, "filterOptions").map((option) => (
+      { kind: requireText(option, "filterId"), condition: optionalText(option, "condition") }));
     this.exceptionFilters = [...unconditionalFilters, ...options];
     return this.applyExceptionFilters();
   }
@@ -341,12 +341,12 @@ export class ClientBreakpoints {
     commonMistakes.conditions = new Map();
     const responses = exceptionFilters.map(({ kind, condition: text }) => {
       if (!Object.prototype.hasOwnProperty.call(KINDS, kind)) return { verified: false, message: say.noFilterMessage(kind) };
-      const mistake = /** @type {MistakeKind} */ (kind);
+      const mistakeKind = /** @type {MistakeKind} */ (kind);
       const isUnconditional = text.trim() === "";
       const { condition, error, column } = isUnconditional ? { condition: null, error: "", column: -1 }
         : compileCondition(text, session.names);
-      commonMistakes.stoppingKinds.add(mistake);
-      if (condition) commonMistakes.conditions.set(mistake, condition);
+      commonMistakes.stoppingKinds.add(mistakeKind);
+      if (condition) commonMistakes.conditions.set(mistakeKind, condition);
       return error ? { verified: false, message: stopsEachTime(errorInColumn(error, column)) } : { verified: true };
     });
     // The debugger checks every instruction for mistakes only if a piece has at most MAX_CYCLES_PER_CALL cycles.
@@ -360,11 +360,11 @@ export class ClientBreakpoints {
    * Updates the lists of breakpoints and watches that the client did not set. Called after console lines have changed breakpoints or
    * watches.
    */
-  updateOtherBreakpoints() {
+  updateNonClientBreakpoints() {
     const { lines, labels, addresses } = this.requestedByKind;
     const clientAddresses = new Set([...lines, ...labels, ...addresses].map(({ address }) => address));
-    this.otherAddresses = this.session.debugger.session.breakpointAddresses.filter((address) => !clientAddresses.has(address));
-    this.otherWatches = readBenchWatches(this.session).filter((place) => !this.clientWatches.includes(place));
+    this.nonClientAddresses = this.session.debugger.session.breakpointAddresses.filter((address) => !clientAddresses.has(address));
+    this.nonClientWatches = readBenchWatches(this.session).filter((place) => !this.clientWatches.includes(place));
   }
 
   /** Removes the client's breakpoints and watches. Resolves to an error message, "" if there is no error. */
@@ -385,14 +385,14 @@ export class ClientBreakpoints {
  * @param {DebugSession} session
  */
 function readBenchWatches(session) {
-  return watchedPlaces(session.debugger.session.ask("watches\n")[0]).map(watchOperand);
+  return watchedPlaces(session.debugger.session.ask("watches\n")[0]).map(watchOperands);
 }
 
 /**
  * Returns the operands of a `watch` line for a RAM character: `B 0xSS`, its bank and its SRC byte. Returns "" for any other place.
  * @param {string} name
  */
-export function watchOperand(name) {
+export function watchOperands(name) {
   const place = parsePlace(name);
   const match = place && /^ram\.([0-7])\.0x([0-9A-F]{2})$/.exec(place.name);
   return match ? `${match[1]} 0x${match[2]}` : "";

@@ -126,7 +126,7 @@ export class Console {
   }
 
   /**
-   * Presses and releases keys, one after another. Throws AdapterError for an unknown name.
+   * Adds a press and a release of each named key to the key queue. Throws AdapterError for an unknown name.
    * @param {string[]} words the key names; a word that is not a key name is split into letters
    */
   typeKeys(words) {
@@ -159,7 +159,7 @@ export class Console {
   createMove(word, operands) {
     if (this.machine.isMoving) fail(say.MACHINE_IS_RUNNING);
     const target = operands.join(" ");
-    /** @type {(act: () => void) => LineResult} */
+    /** @type {(action: () => void) => LineResult} */
     const moveResult = (action) => ({ text: "", changes: false, move: action });
     if (word === "forward") return moveResult(() => this.machine.goForward());
     if (word === "back" && target === "") return moveResult(() => this.machine.goBack({ kind: "instruction" }));

@@ -1,7 +1,7 @@
 // The debug adapter: an editor launches a program on a board, or opens a session file. The editor then sets breakpoints, runs forward and
 // back, and shows the machine state. The page uses the same debugger (debug/debug_session.js).
 //
-//     const adapter = new DebugAdapter(new AdapterConnection(write), engine, data, host);     // session_launch.js describes the host
+//     const adapter = new DebugAdapter(new AdapterConnection(write), engine, texts, host);    // session_launch.js describes the host
 //     connection.receive(bytes);                                         // whenever bytes from the client arrive
 //     await adapter.leave();                                             // after the connection has ended
 
@@ -78,7 +78,7 @@ export class DebugAdapter {
   /**
    * @param {AdapterConnection} connection
    * @param {import("../engine/engine_host.js").EngineHost} engine
-   * @param {{ refusals: Record<string, string>, manual: import("../help/manual.js").ManualSection[] }} data the refusal messages and the
+   * @param {{ refusals: Record<string, string>, manual: import("../help/manual.js").ManualSection[] }} texts the refusal messages and the
    *   manual
    * @param {Host & { end: (status: number) => void }} host
    */
@@ -107,7 +107,7 @@ export class DebugAdapter {
     this.lastStop = null;
     /** @type {RemoteFrontPanel | null} the reports to a client that draws the front panel; null until the client asks for them */
     this.remoteFrontPanel = null;
-    connection.requests = {
+    connection.handlers = {
       ...this.lifecycleHandlers(), ...this.breakpointHandlers(), ...this.moveHandlers.handlers(), ...this.queryRequestHandlers(),
     };
     connection.stopTask = (id) => this.progress.stop(id);
@@ -191,7 +191,7 @@ export class DebugAdapter {
     const frontPanelText = () => machine.frontPanelText.currentText();
     const expressionContext = { session, face, instructions: this.instructions, frontPanelText };
     const debugConsole = new Console(machine, expressionContext, this.errorMessages, {
-      handleBreakpointChange: () => breakpoints.updateOtherBreakpoints(), handleRomChange: () => this.reportRom(launchResult),
+      handleBreakpointChange: () => breakpoints.updateNonClientBreakpoints(), handleRomChange: () => this.reportRomDifference(launchResult),
     });
     const queryHandlers = new QueryHandlers(launchResult, new Scopes(session, face), expressionContext, this);
     this.openSession = { launchResult, machine, breakpoints, console: debugConsole, queryHandlers };
@@ -204,7 +204,7 @@ export class DebugAdapter {
    * Warns the user if the bytes in ROM differ from the assembled source.
    * @param {LaunchResult} launchResult
    */
-  reportRom({ session }) {
+  reportRomDifference({ session }) {
     const message = describeDifference(session);
     if (message) this.sendOutput(`${say.sourceDiffers(message)}\n`, "console");
   }
@@ -300,7 +300,7 @@ export class DebugAdapter {
     const message = launchResult.isDebugged ? say.notInProgramMessage(queryHandlers.programName)
       : say.NO_DEBUG;
     const breakpoints = optionalList(args, "breakpoints");
-    return { breakpoints: breakpoints.map((item) => ({ verified: false, line: requireNumber(item, "line"), message })) };
+    return { breakpoints: breakpoints.map((requested) => ({ verified: false, line: requireNumber(requested, "line"), message })) };
   }
 
   /** @param {(breakpoints: ClientBreakpoints) => Promise<import("./client_breakpoints.js").SentBreakpoint[]>} action */
@@ -382,7 +382,7 @@ export class DebugAdapter {
       releaseKey: (args) => this.pressOrReleaseKey("release", args),
       watchBoard: () => {
         this.remoteFrontPanel = new RemoteFrontPanel(this.currentSession.machine);
-        return this.remoteFrontPanel.take();
+        return this.remoteFrontPanel.takeChanges();
       },
       changeKey: (args) => this.changeKey(args),
       clearPrintout: () => (this.remoteFrontPanel ? this.remoteFrontPanel.clear() : undefined),
@@ -485,7 +485,7 @@ export class DebugAdapter {
   /** Sends the changes of the front panel, if the client draws the front panel. */
   sendFrontPanel() {
     const { remoteFrontPanel } = this;
-    const changes = remoteFrontPanel ? remoteFrontPanel.take() : {};
+    const changes = remoteFrontPanel ? remoteFrontPanel.takeChanges() : {};
     if (Object.keys(changes).length > 0) this.connection.sendEvent("boardShown", changes);
   }
 

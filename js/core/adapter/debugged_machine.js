@@ -1,5 +1,5 @@
 // Runs the debugged session. The machine makes one move at a time, such as a step or a run. A move consists of pieces. A task that arrives
-// during a move waits for the end of a piece. At each stop, the machine saves the session and reports the stop.
+// during a move waits for the end of a piece, or for the end of the move. At each stop, the machine saves the session and reports the stop.
 
 import { CancelledError } from "../bench/bench_errors.js";
 import { formatCycles } from "../time/cycles.js";
@@ -23,12 +23,12 @@ import { stoppedAt } from "../../words/stops.js";
  */
 
 /**
- * The callbacks of a machine.
+ * The functions with which a machine reports to the debug adapter.
  * @typedef {object} MachineCallbacks
  * @property {(moveEnd: MoveEnd) => void} handleStop Reports the end of a move, once for each move.
  * @property {(text: string, category: "console" | "stdout" | "stderr") => void} output Prints text that ends with a line feed, in an output
  *   category of the protocol.
- * @property {() => Promise<void>} pause Yields to other tasks, between two pieces of a move.
+ * @property {() => Promise<void>} pause Yields to the event loop, between two pieces of a move.
  * @property {() => void} handleStateChange Reports that the machine state has changed, so that views can update.
  * @property {(title: string) => LongTask} [startTask] Creates the progress report of a move.
  */
@@ -50,7 +50,7 @@ export class Machine {
    * @param {DebugSession} session
    * @param {SessionWriter | null} writer the writer of the session's file; null if the session is not saved
    * @param {MachineCallbacks} callbacks
-   * @param {boolean} [isRealTime] true if the machine runs no faster than on a real 4004
+   * @param {boolean} [isRealTime] true if the machine runs no faster than a real 4004
    */
   constructor(session, writer, callbacks, isRealTime = false) {
     this.isRealTime = isRealTime;
@@ -65,7 +65,7 @@ export class Machine {
     this.mustPause = false;
     /** Returns whether tasks can use the session between two pieces of the current move. */
     this.allowsTasks = () => false;
-    /** @type {(() => Promise<void>)[]} the tasks that wait for the end of a piece */
+    /** @type {(() => Promise<void>)[]} the tasks that wait for the end of a piece or of the move */
     this.waitingTasks = [];
     /** The number of log messages of the current move that have already been reported. */
     this.reportedNoteCount = 0;
@@ -197,7 +197,8 @@ export class Machine {
   }
 
   /**
-   * Finishes a piece of a move: reports its events, yields, and runs the waiting tasks. Resolves to true if the move continues.
+   * Finishes a piece of a move: reports its events, yields to the event loop, and runs the waiting tasks if the move allows tasks. Resolves
+   * to true if the move continues.
    * @param {Tally} [tally] the tally of the last piece
    * @param {number} [done] the number of cycles of the move so far
    */
@@ -212,7 +213,7 @@ export class Machine {
   }
 
   /**
-   * Waits until a real 4004 would have run the given number of cycles.
+   * Reports the changed machine state. Then waits until a real 4004 would have run the given number of cycles.
    * @param {number} cycles the number of cycles since the start of the move
    */
   async waitForRealTime(cycles) {
@@ -255,7 +256,7 @@ export class Machine {
   /** Prints the lamps and displays if they have changed. */
   reportFrontPanelText() {
     this.lastReportTime = performance.now();
-    const text = this.frontPanelText.take();
+    const text = this.frontPanelText.takeChange();
     if (text) this.callbacks.output(`${text}\n`, "stdout");
     this.callbacks.handleStateChange();
   }

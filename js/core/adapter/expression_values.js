@@ -85,7 +85,7 @@ function nameValue(text, { map }) {
  * @param {ExpressionContext} context
  * @param {Base} [base] the number base of the output
  */
-export function evaluateExpression(text, context, base = "usual") {
+export function evaluateExpression(text, context, base = "default") {
   const { session } = context;
   const trimmed = text.trim();
   if (trimmed === "") throw new AdapterError(say.NOTHING_TO_EVALUATE);
@@ -96,7 +96,7 @@ export function evaluateExpression(text, context, base = "usual") {
   const { expression, error, column } = compileExpression(trimmed, session.names);
   if (!expression) throw new AdapterError(errorInColumn(error, column));
   const answers = session.debugger.readPlaces(expression.places);
-  return expression.number && base !== "usual" ? formatInBase(expression.number(answers), base) : expression.textOf(answers);
+  return expression.numberOf && base !== "default" ? formatInBase(expression.numberOf(answers), base) : expression.textOf(answers);
 }
 
 /**

@@ -50,7 +50,7 @@ export class FrontPanelText {
    * Returns the current text if it has changed since the previous call; otherwise "". The first call compares it with the text at
    * construction.
    */
-  take() {
+  takeChange() {
     const currentText = this.currentText();
     if (currentText === this.lastText) return "";
     this.lastText = currentText;

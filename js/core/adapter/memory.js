@@ -15,9 +15,8 @@ import * as say from "../../words/adapter.js";
  * @typedef {import("../debug/debug_session.js").DebugSession} DebugSession
  *
  * A memory range: ROM, the RAM characters of a bank, or the status characters of a bank. `start` is the memory reference of its first byte.
- * `bytes` contains a byte of ROM or one character per element. `place` returns the place that a `poke` line names to write the byte at an
- * index.
- * @typedef {{ start: number, bytes: Uint8Array, place: (index: number) => string }} MemoryRange
+ * Each element of `bytes` is a ROM byte or a character. `placeAt` returns the place in the `poke` line that writes the byte at an index.
+ * @typedef {{ start: number, bytes: Uint8Array, placeAt: (index: number) => string }} MemoryRange
  *
  * The location that a request names: a memory range, and an index in this range (`from`). The index can be out of bounds.
  * @typedef {{ range: MemoryRange, from: number }} RequestedLocation
@@ -71,7 +70,7 @@ function parseReference(reference, addressOf) {
  * @returns {MemoryRange | null}
  */
 function findRange(session, number) {
-  if (number <= LAST_ADDRESS) return { start: 0, bytes: readRomBytes(session), place: (index) => `rom.${index}` };
+  if (number <= LAST_ADDRESS) return { start: 0, bytes: readRomBytes(session), placeAt: (index) => `rom.${index}` };
   const isStatus = number >= STATUS_BASE;
   const bank = Math.floor((number - (isStatus ? STATUS_BASE : CHARACTERS_BASE)) / BANK_SIZE);
   if (bank < 0 || bank >= BANK_COUNT) return null;
@@ -80,11 +79,11 @@ function findRange(session, number) {
   const digits = [...registers.values()].map(({ characters, status }) => (isStatus ? status : characters)).join("");
   const bytes = Uint8Array.from(digits, (digit) => parseInt(digit, 16));
   const start = (isStatus ? STATUS_BASE : CHARACTERS_BASE) + BANK_SIZE * bank;
-  const place = (/** @type {number} */ index) => (
+  const placeAt = (/** @type {number} */ index) => (
     isStatus
       ? `st.${bank}.${Math.floor(index / STATUS_CHARACTERS_PER_REGISTER)}.${index % STATUS_CHARACTERS_PER_REGISTER}`
       : `ram.${bank}.${index}`);
-  return { start, bytes, place };
+  return { start, bytes, placeAt };
 }
 
 /**
@@ -113,34 +112,34 @@ export function readMemory(args, session, addressOf) {
   if (count < 0) fail(say.COUNT_RANGE);
   const address = formatReference(start + from);
   if (from < 0 || from >= bytes.length) return { address, unreadableBytes: count };
-  const readBytes = bytes.subarray(from, Math.min(bytes.length, from + count));
-  const unreadCount = count - readBytes.length;
-  return { address, data: btoa(String.fromCharCode(...readBytes)), ...(unreadCount > 0 ? { unreadableBytes: unreadCount } : {}) };
+  const requestedBytes = bytes.subarray(from, Math.min(bytes.length, from + count));
+  const missingCount = count - requestedBytes.length;
+  return { address, data: btoa(String.fromCharCode(...requestedBytes)), ...(missingCount > 0 ? { unreadableBytes: missingCount } : {}) };
 }
 
 /**
- * Handles the `writeMemory` request. Writes no byte if the bench rejects one of them. With `allowPartial`, skips the bytes outside the
- * memory range; otherwise such bytes are an error.
+ * Handles the `writeMemory` request. If the bench rejects a byte, writes no byte and throws AdapterError. With `allowPartial`, skips the
+ * bytes outside the memory range; otherwise such bytes are an error.
  * @param {any} args
  * @param {DebugSession} session
  * @param {(reference: string) => number} addressOf
  * @returns {Promise<{ offset: number, bytesWritten: number }>}
  */
 export async function writeMemory(args, session, addressOf) {
-  const { range: { bytes, place }, from } = readRequestedLocation(args, session, addressOf);
+  const { range: { bytes, placeAt }, from } = readRequestedLocation(args, session, addressOf);
   const newBytes = decodeBase64(requireText(args, "data"));
   const [first, end] = [Math.max(0, from), Math.min(bytes.length, from + newBytes.length)];
   const isInRange = first === from && end === from + newBytes.length;
   if (!isInRange && !optionalFlag(args, "allowPartial", false)) fail(say.OUTSIDE_OF_MEMORY);
-  const dataInRange = end > first ? newBytes.subarray(first - from, end - from) : new Uint8Array(0);
-  const lines = [...dataInRange].map((byte, index) => `poke ${place(first + index)} ${byte}\n`).join("");
+  const bytesInRange = end > first ? newBytes.subarray(first - from, end - from) : new Uint8Array(0);
+  const lines = [...bytesInRange].map((byte, index) => `poke ${placeAt(first + index)} ${byte}\n`).join("");
   const workerSession = session.debugger.session;
   // `ask` executes the lines on a copy of the session. If the bench rejects a line there, nothing is written.
   const answers = lines === "" ? [] : workerSession.ask(lines);
   const rejectedIndex = answers.findIndex((answer) => parseRefusal(answer));
   if (rejectedIndex >= 0) fail(say.benchAnswered(lines.split("\n")[rejectedIndex], answers[rejectedIndex]));
   if (lines !== "") await workerSession.serve(lines, async () => true);
-  return { offset: first - from, bytesWritten: dataInRange.length };
+  return { offset: first - from, bytesWritten: bytesInRange.length };
 }
 
 /** @param {string} text */

@@ -1,11 +1,11 @@
-// Formats the numbers in responses. By default, machine values are hexadecimal and sums are decimal. With `format.hex`, a client selects
-// one base for all numbers.
+// Formats the numbers in responses. By default, machine values are hexadecimal and computed values, such as sums, are decimal. With
+// `format.hex`, a client selects one base for all numbers.
 
 import { getField } from "../server/framing.js";
 import { fail, optionalFlag } from "./dap_protocol.js";
 import * as say from "../../words/adapter.js";
 
-/** @typedef {"usual" | "hex" | "decimal"} Base a number base; "usual" is the default base of each value */
+/** @typedef {"default" | "hex" | "decimal"} Base a number base; "default" is the default base of each value */
 
 /**
  * Returns a boolean field of the `format` argument of a request. Throws AdapterError if the argument or the field has a wrong type.
@@ -21,13 +21,13 @@ export function readFormatFlag(args, name) {
 }
 
 /**
- * Returns the number base that a request specifies; "usual" if it specifies none.
+ * Returns the number base that a request specifies; "default" if it specifies none.
  * @param {any} args
  * @returns {Base}
  */
 export function requestedBase(args) {
   const isHex = readFormatFlag(args, "hex");
-  if (isHex === null) return "usual";
+  if (isHex === null) return "default";
   return isHex ? "hex" : "decimal";
 }
 
@@ -37,13 +37,13 @@ export function requestedBase(args) {
  * @param {Base} base
  */
 export function convertToBase(text, base) {
-  if (base === "usual") return text;
+  if (base === "default") return text;
   const singleNumber = text.replace(/^(0x[0-9A-F]+), \d+$/, "$1");
   return base === "hex" ? singleNumber : singleNumber.replace(/\b0x[0-9A-F]+\b/g, (digits) => String(Number(digits)));
 }
 
 /**
- * Formats a number in a base; "usual" means decimal.
+ * Formats a number in a base; "default" means decimal.
  * @param {number} number
  * @param {Base} base
  */

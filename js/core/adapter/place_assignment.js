@@ -25,8 +25,8 @@ export function evaluateNumber(text, session, startColumn = 0) {
   if (valueText === "") throw new AdapterError(say.notANumberMessage(say.NOTHING));
   const { expression, error, column } = compileExpression(valueText, session.names);
   if (!expression) throw new AdapterError(errorInColumn(error, startColumn + column));
-  if (!expression.number) throw new AdapterError(say.notANumberMessage(valueText));
-  return expression.number(session.debugger.readPlaces(expression.places));
+  if (!expression.numberOf) throw new AdapterError(say.notANumberMessage(valueText));
+  return expression.numberOf(session.debugger.readPlaces(expression.places));
 }
 
 /**

@@ -25,14 +25,14 @@ class LongTask {
 
   /**
    * Reports the progress if the next report is due.
-   * @param {() => string} message returns the progress as text
+   * @param {() => string} describeProgress returns the progress as text
    */
-  reportIfDue(message) {
+  reportIfDue(describeProgress) {
     const now = performance.now();
     if (!this.progress.isEnabled || now < this.dueTime) return;
     this.dueTime = now + REPORT_INTERVAL_MS;
-    if (this.id === "") this.id = this.progress.start(this, message());
-    else this.progress.sendEvent("progressUpdate", { progressId: this.id, message: message() });
+    if (this.id === "") this.id = this.progress.start(this, describeProgress());
+    else this.progress.sendEvent("progressUpdate", { progressId: this.id, message: describeProgress() });
   }
 
   /** Reports the end of the task, if its progress was reported. */

@@ -1,6 +1,6 @@
-// Reports the front panel of a board to an editor that draws this front panel (editor_view.js). Reports the board and its text when the
-// board changes, and lamps, keys, TEST and printer output when they change. Also presses and releases the keys that the user clicks in the
-// drawing.
+// Reports the front panel of a board to an editor that draws this front panel (editors/vscode/board_view.js). Reports the board and its
+// text when the board changes, and lamps, keys, TEST and printer output when they change. Also presses and releases the keys that the user
+// clicks in the drawing.
 
 import { readBoard } from "../bench/answers.js";
 import { SnapshotReader } from "../bench/snapshot.js";
@@ -22,7 +22,7 @@ import * as say from "../../words/adapter.js";
  * - `lamps`: a mark for each lamp, `*` if it is on;
  * - `keys`: the pressed keys as `row.column`; `test`: the TEST level;
  * - `isRunning`: true if the machine runs;
- * - `litShares`: while the machine runs, how long each lamp is on during the next 30 ms;
+ * - `litShares`: while the machine runs, the lamp measurements of the next 30 ms;
  * - `printed`: the complete printout, if the printer has printed since the last report.
  * @typedef {{ board?: string[], boardText?: string, lamps?: string, keys?: string[], test?: string, isRunning?: boolean,
  *   litShares?: import("../engine/brightness_meter.js").LitShares,
@@ -47,7 +47,7 @@ export class RemoteFrontPanel {
    * Returns the changes since the last report. The first report contains all values.
    * @returns {FrontPanelUpdate}
    */
-  take() {
+  takeChanges() {
     const { session, isMoving } = this.machine;
     const { session: bench } = session.debugger;
     /** @type {FrontPanelUpdate} */
@@ -66,7 +66,7 @@ export class RemoteFrontPanel {
       }
       Object.assign(update, { board: bench.statusQueries.board, boardText: session.boardText });
     }
-    Object.assign(update, this.reader.take(bench.ask("state\n")));
+    Object.assign(update, this.reader.readSnapshot(bench.ask("state\n")));
     const newOutput = bench.printerCodes && bench.printerCodes.takeChanges(bench.count.total);
     if (newOutput) update.printed = newOutput;
     if (isMoving !== this.isRunning) update.isRunning = isMoving;

@@ -35,8 +35,8 @@ const [REGISTERS, PAIRS, RAM, PORTS, LAMPS, KEYS, NAMES] = [1, 2, 3, 4, 5, 6, 7]
 /** Bank B has the variables reference BANK_BASE + B; RAM register R of bank B has the reference REGISTER_BASE + 16 * B + R. */
 const [BANK_BASE, REGISTER_BASE] = [100, 200];
 
-/** @type {(digit: string) => string} adds the prefix 0x to hexadecimal digits */
-const toHex = (digit) => `0x${digit}`;
+/** @type {(digits: string) => string} adds the prefix 0x to hexadecimal digits */
+const withHexPrefix = (digits) => `0x${digits}`;
 
 /**
  * Creates a variable without child variables.
@@ -71,16 +71,16 @@ const createReadOnlyVariable = (name, value, place) => ({ ...createVariable(name
 function registerVariables({ machineState: { registers: cpu } }) {
   const { accumulator, carry, counter, bank, test, owed } = cpu;
   return [
-    createVariable("acc", toHex(accumulator), "acc"), createDecimalVariable("cy", carry, "cy"),
-    { ...createVariable("pc", toHex(counter), "pc"), memory: toHex(counter) },
-    createVariable("dcl", toHex(bank), "dcl"), createDecimalVariable("test", test, "test"), createDecimalVariable("owed", owed),
-    ...cpu.registers.map((value, register) => createVariable(`R${register}`, toHex(value), `r${register}`)),
+    createVariable("acc", withHexPrefix(accumulator), "acc"), createDecimalVariable("cy", carry, "cy"),
+    { ...createVariable("pc", withHexPrefix(counter), "pc"), memory: withHexPrefix(counter) },
+    createVariable("dcl", withHexPrefix(bank), "dcl"), createDecimalVariable("test", test, "test"), createDecimalVariable("owed", owed),
+    ...cpu.registers.map((value, register) => createVariable(`R${register}`, withHexPrefix(value), `r${register}`)),
   ];
 }
 
 /** @param {ShownState} state */
 function pairVariables({ machineState }) {
-  return indices(8).map((pair) => createVariable(`P${pair}`, toHex(machineState.pair(pair)), `p${pair}`));
+  return indices(8).map((pair) => createVariable(`P${pair}`, withHexPrefix(machineState.pair(pair)), `p${pair}`));
 }
 
 /** @param {ShownState} state */
@@ -126,11 +126,11 @@ function characterVariables({ machineState, session }, bank, register) {
       const constantNames = constants.filter((constant) => constant.value === byte && byte > 15).map(({ name }) => name);
       const place = `ram.${bank}.0x${hex(byte, 2)}`;
       const name = `0x${hex(byte, 2)}${constantNames.length > 0 ? ` ${constantNames.join(" ")}` : ""}`;
-      return { ...createVariable(name, toHex(value), place), memory: placeReference(place) };
+      return { ...createVariable(name, withHexPrefix(value), place), memory: placeReference(place) };
     }),
     ...[...ramRegister.status].map((value, index) => {
       const place = `st.${bank}.${register}.${index}`;
-      return { ...createVariable(`status ${index}`, toHex(value), place), memory: placeReference(place) };
+      return { ...createVariable(`status ${index}`, withHexPrefix(value), place), memory: placeReference(place) };
     }),
   ];
 }
@@ -143,18 +143,18 @@ function portVariables({ machineState, face }) {
   const rams = [...machineState.ram].flatMap(([bank, ram]) => [...ram.ports].map(([name, out]) => ({ bank, name, out })));
   return [
     ...roms.map(({ chip, out, in: read }) => (
-      createReadOnlyVariable(portName(`rom${chip}`), `out ${toHex(out)}, in ${toHex(read)}`, `rom${chip}`))),
-    ...rams.map(({ name, out }) => createReadOnlyVariable(portName(`ram${name}`), `out ${toHex(out)}`, `ram${name}`)),
+      createReadOnlyVariable(portName(`rom${chip}`), `out ${withHexPrefix(out)}, in ${withHexPrefix(read)}`, `rom${chip}`))),
+    ...rams.map(({ name, out }) => createReadOnlyVariable(portName(`ram${name}`), `out ${withHexPrefix(out)}`, `ram${name}`)),
     ...chains.map((bits, chain) => createReadOnlyVariable(portName(`chain${chain}`), bits, `chain${chain}`)),
-    ...srcBytes.map((item) => srcVariable(item)),
+    ...srcBytes.map((latchedByte) => srcVariable(latchedByte)),
   ];
 }
 
-/** @param {string} item the SRC byte latched in the ROMs (`21`), or in a RAM bank (`0.21` for bank 0) */
-function srcVariable(item) {
-  const [bank, byte] = item.split(".");
-  if (byte === undefined) return createVariable("SRC", say.selectsRom(toHex(bank), parseInt(bank[0], 16)));
-  return createVariable(srcOfBank(bank), `${toHex(byte)}: ${describeCharacter(parseInt(byte, 16))}`);
+/** @param {string} latchedByte the SRC byte latched in the ROMs (`21`), or in a RAM bank (`0.21` for bank 0) */
+function srcVariable(latchedByte) {
+  const [bank, byte] = latchedByte.split(".");
+  if (byte === undefined) return createVariable("SRC", say.selectsRom(withHexPrefix(latchedByte), parseInt(latchedByte[0], 16)));
+  return createVariable(srcOfBank(bank), `${withHexPrefix(byte)}: ${describeCharacter(parseInt(byte, 16))}`);
 }
 
 /** @param {ShownState} state */
@@ -224,7 +224,7 @@ export class Scopes {
    * @param {Base} [base] the number base of the values
    * @returns {Variable[] | null}
    */
-  variables(reference, base = "usual") {
+  variables(reference, base = "default") {
     const variables = this.rawVariables(reference);
     return variables && variables.map((variable) => (
       { ...variable, value: variable.isDecimal ? formatInBase(Number(variable.value), base) : convertToBase(variable.value, base) }));

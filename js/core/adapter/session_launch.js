@@ -40,11 +40,11 @@ import { leadsOut } from "../../words/server.js";
  */
 
 /**
- * The functions of the host.
+ * The functions that the program around the adapter supplies: access to files, and a pause.
  * @typedef {object} Host
  * @property {(name: string, folder: string) => string} nameOf Returns the absolute name of a file from its name relative to `folder`.
- * @property {(name: string, other: string) => string} resolveFrom Returns the absolute name of a file from its name relative to the
- *   folder that contains the file `other`.
+ * @property {(name: string, baseFile: string) => string} resolveFrom Returns the absolute name of a file from its name relative to the
+ *   folder that contains `baseFile`.
  * @property {(name: string) => string | null} read Returns the text of a file; null if the file cannot be read.
  * @property {(name: string) => string} readErrorMessage Returns the reason why a file cannot be read, as a message.
  * @property {(name: string) => boolean} fileExists Returns whether a file exists.
@@ -53,15 +53,15 @@ import { leadsOut } from "../../words/server.js";
  * @property {(name: string) => Promise<OpenFile>} create Starts a program that creates a session file. Resolves to the open file.
  * @property {(name: string) => Promise<Uint8Array>} readSession Resolves to the bytes of a session file. Rejects if another program has the
  * file open.
- * @property {() => Promise<void>} pause Yields to other tasks.
+ * @property {() => Promise<void>} pause Yields to the event loop.
  */
 
 /** @param {string} name */
 const baseName = (name) => name.replace(/^.*[\\/]/, "");
 
 /**
- * Returns the files that the arguments of a request name. Names that are missing come from the named project, or from the project or folder
- * of the program. Throws AdapterError if the arguments are invalid.
+ * Returns the files that the arguments of a request name. A missing name comes from the named project, or from the project or folder of the
+ * program. Throws AdapterError if the arguments are invalid.
  * @param {any} args
  * @param {Host} host
  * @returns {RequestedFiles}
@@ -72,8 +72,8 @@ export function readRequestedFiles(args, host) {
   if (test !== "") {
     const file = optionalText(args, "tests");
     if (file === "") throw new AdapterError(say.TEST_NEEDS_TESTS, true);
-    const texts = findTestFiles(test, host.nameOf(file, folder), host.read);
-    return { board: texts.board, program: texts.program, session: "", load: false, test: texts };
+    const testFiles = findTestFiles(test, host.nameOf(file, folder), host.read);
+    return { board: testFiles.board, program: testFiles.program, session: "", load: false, test: testFiles };
   }
   const names = ["project", "board", "program", "session"].map((field) => optionalText(args, field));
   const [project, namedBoard, namedProgram, session] = names.map((name) => (name === "" ? "" : host.nameOf(name, folder)));
@@ -158,7 +158,7 @@ function refusalError(name, { number, line }, messages) {
  * @param {Host} host
  * @param {ErrorMessages} messages
  */
-function sessionFromTexts(engine, requestedFiles, host, messages) {
+function createSessionFromTexts(engine, requestedFiles, host, messages) {
   if (requestedFiles.board === "") {
     throw new AdapterError(say.noBoardBesideMessage(requestedFiles.program), true);
   }
@@ -176,7 +176,7 @@ function sessionFromTexts(engine, requestedFiles, host, messages) {
  * @param {TestFiles} test
  * @param {Host} host
  */
-async function sessionFromTest(engine, test, host) {
+async function createSessionFromTest(engine, test, host) {
   const sources = test.tests.map((name) => ({ name, text: host.read(name) || "" }));
   const texts = { boardText: readBenchText(test.board, "#", host), programText: readBenchText(test.program, ";", host), sources };
   const { session, result } = await createTestSession(engine, texts, test, host.pause);
@@ -191,7 +191,7 @@ async function sessionFromTest(engine, test, host) {
  * @param {Host} host
  * @param {ErrorMessages} messages
  */
-async function sessionFromFile(engine, requestedFiles, host, messages) {
+async function openSessionFile(engine, requestedFiles, host, messages) {
   const board = requestedFiles.board === "" ? "" : readBenchText(requestedFiles.board, "#", host);
   const program = requestedFiles.program === "" ? "" : readBenchText(requestedFiles.program, ";", host);
   const isNew = !host.fileExists(requestedFiles.session);
@@ -199,7 +199,7 @@ async function sessionFromFile(engine, requestedFiles, host, messages) {
     throw new AdapterError(say.sessionMissing(requestedFiles.session), true);
   }
   // A session in memory reports errors in the board and program texts before the file is created.
-  if (isNew) sessionFromTexts(engine, requestedFiles, host, messages);
+  if (isNew) createSessionFromTexts(engine, requestedFiles, host, messages);
   const file = await (isNew ? host.create(requestedFiles.session) : host.open(requestedFiles.session));
   try {
     const session = new DebugSession(engine, { file: file.bytes, board, program: program || disassembleRom(engine, file.bytes) });
@@ -223,7 +223,7 @@ async function sessionFromFile(engine, requestedFiles, host, messages) {
  * @param {Host} host
  * @param {ErrorMessages} messages
  */
-async function sessionFromCopy(engine, requestedFiles, host, messages) {
+async function loadSessionCopy(engine, requestedFiles, host, messages) {
   const board = requestedFiles.board === "" ? "" : readBenchText(requestedFiles.board, "#", host);
   const program = requestedFiles.program === "" ? "" : readBenchText(requestedFiles.program, ";", host);
   const file = await host.readSession(requestedFiles.session);
@@ -289,9 +289,9 @@ function checkRom(session, engine, { program, session: file }, messages) {
  */
 export async function launch(engine, args, host, messages) {
   const requestedFiles = readRequestedFiles(args, host);
-  const openedSession = requestedFiles.test ? await sessionFromTest(engine, requestedFiles.test, host)
-    : requestedFiles.session === "" ? { session: sessionFromTexts(engine, requestedFiles, host, messages), writer: null, note: "" }
-      : await sessionFromFile(engine, requestedFiles, host, messages);
+  const openedSession = requestedFiles.test ? await createSessionFromTest(engine, requestedFiles.test, host)
+    : requestedFiles.session === "" ? { session: createSessionFromTexts(engine, requestedFiles, host, messages), writer: null, note: "" }
+      : await openSessionFile(engine, requestedFiles, host, messages);
   return createLaunchResult(openedSession, requestedFiles, args, host);
 }
 
@@ -309,7 +309,7 @@ export async function attach(engine, args, host, messages) {
   const savesToFile = optionalFlag(args, "write", false);
   const requestedFiles = readRequestedFiles(args, host);
   if (!host.fileExists(requestedFiles.session)) throw new AdapterError(say.noSessionMessage(requestedFiles.session), true);
-  const loadSession = savesToFile ? sessionFromFile : sessionFromCopy;
+  const loadSession = savesToFile ? openSessionFile : loadSessionCopy;
   const openedSession = await loadSession(engine, requestedFiles, host, messages);
   return { ...createLaunchResult(openedSession, requestedFiles, args, host), isAttached: true };
 }

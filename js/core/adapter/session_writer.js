@@ -1,5 +1,5 @@
-// Saves a session in memory to its file. Another process has the file open (`mcs4 open FILE`). The writer sends the new lines of the
-// session to this process. After a move back in time, the new lines do not continue the history in the file, so the writer replaces the
+// Saves a session in memory to its file. Another process, `mcs4 open FILE`, has the file open. The writer sends the new lines of the
+// session to that process. After a move back in time, the new lines do not continue the history in the file, so the writer replaces the
 // file.
 
 import { parseRefusal } from "../bench/answers.js";
@@ -44,8 +44,8 @@ export class SessionWriter {
   }
 
   /**
-   * Writes the missing commands to the file, or replaces the file. Throws AdapterError if the process rejects a line, or if the state in
-   * the file then differs from the state of the session.
+   * Writes the missing commands to the file, or replaces the file. Throws AdapterError if the other process rejects a line, or if the state
+   * in the file then differs from the state of the session.
    * @param {WorkerSession} session
    */
   async write(session) {

@@ -1,5 +1,5 @@
-// Starts a debug session for a test. The test runs first. Then a new session repeats the commands of the test. Thus the user can go back in
-// time from the failure, or from the end, to the start of the test.
+// Starts a debug session for a test. The test runs first. Then a new session repeats the commands of the test. From the failure, or from
+// the end, the user can then go back in time to the start of the test.
 
 import { DebugSession } from "../debug/debug_session.js";
 import { MAX_RUN_CYCLES } from "../engine/key_queue.js";
@@ -54,7 +54,7 @@ function replayLines({ actions }) {
  * @param {Engine} engine
  * @param {TestedTexts} texts
  * @param {TestFiles} test
- * @param {() => Promise<void>} pause yields to other tasks
+ * @param {() => Promise<void>} pause yields to the event loop
  */
 export async function createTestSession(engine, texts, { name, file }, pause) {
   /** @type {TestSession[]} */

@@ -1,4 +1,4 @@
-// Parsers for the answers of the bench.
+// Parses the answers of the bench.
 
 import { isListingLine } from "./answer_table.js";
 

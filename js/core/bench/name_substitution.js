@@ -1,7 +1,7 @@
 // Replaces names in bench lines: `@NAME` becomes the value of a name in the program, and `set PLACE = VALUE` becomes the lines that set the
 // place. Text after a line, such as a program after `asm`, does not change.
 
-import { readSetting } from "../conditions/set_command.js";
+import { compileSetting } from "../conditions/set_command.js";
 import { opensText, stripCarriageReturn } from "./inputs.js";
 import { hex } from "./numbers.js";
 import * as say from "../../words/bench.js";
@@ -35,7 +35,7 @@ export function replaceNames(lines, map) {
   const replaceInLine = (text, lineNumber) => {
     const setMatch = SET_LINE.exec(text);
     if (!setMatch) return replaceNamesIn(text, lineNumber);
-    const { lines: settingLines, error, column } = readSetting(setMatch[1], map);
+    const { lines: settingLines, error, column } = compileSetting(setMatch[1], map);
     reportError(error && `${errorInColumn(error, column + text.length - setMatch[1].length)}.`, lineNumber);
     return settingLines.trimEnd();
   };

@@ -1,4 +1,4 @@
-// The messages between page and worker. A request has a number, and its reply has the same number. Other messages have no number.
+// The messages between page and worker. A request has a number. Every message about this request, such as its reply, has the same number.
 
 /**
  * @typedef {import("../engine/worker_session.js").LinesResult} LinesResult
@@ -17,9 +17,9 @@
  *   waitingChanges: import("../engine/key_queue.js").Change[] }} PageState
  *
  * The result of a period in which the machine ran. `runEntries`: the executed lines with their answers. `changesKeys`: true if a key
- * changed. `end`: the answer that ended the run early, or "". `stop`: the reason why the machine stopped, or null. `tally`: breakpoint hits
- * and log messages. `litShares`, `buzzerLevels`, `chipHeat`: lamp brightness, sound, and the changes in one RAM chip; each is null if it
- * was not measured.
+ * changed. `end`: the answer that ended the run early, or "". `stop`: the reason why the machine stopped, or null. `tally`: breakpoint
+ * hits, log messages and common mistakes. `litShares`, `buzzerLevels`, `chipHeat`: lamp brightness, sound, and the changes in one RAM chip;
+ * each is null if it was not measured.
  * @typedef {{ runEntries: RunEntry[], cycles: number, end: string, changesKeys: boolean, stop: Stop | null, tally: Tally,
  *   litShares: import("../engine/brightness_meter.js").LitShares | null,
  *   buzzerLevels: import("../engine/buzzer_meter.js").BuzzerLevels | null,
@@ -34,7 +34,7 @@
  *   whether the session has moved, and by how many cycles
  * @typedef {LinesReply & { searchResult: import("../debug/debugger.js").RunResult["searchResult"], tally: Tally }} GoalReply
  *   the result of lines that run to a goal
- * @typedef {LinesReply & { errors: [number, string][] }} BreakpointReply the result of lines with breakpoints; `errors` are the ids of
+ * @typedef {LinesReply & { errors: [number, string][] }} BreakpointReply the result of lines that set breakpoints; `errors` are the ids of
  *   breakpoints that cannot be compiled, each with an error message
  *
  * The messages to the worker.

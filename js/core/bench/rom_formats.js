@@ -11,7 +11,7 @@ import * as say from "../../words/bench.js";
 
 /** The number of address bytes, by data record type. */
 const ADDRESS_SIZES = new Map([["1", 2], ["2", 3], ["3", 4]]);
-/** The types of the record that ends the file. */
+/** The types of records that can end a file. */
 const END_TYPES = ["7", "8", "9"];
 
 /**

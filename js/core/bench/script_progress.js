@@ -29,9 +29,9 @@ const COMPARED_QUERIES = `seq\nboard\nstate\n${indices(BANK_COUNT).map((bank) =>
  */
 function splitStateAnswers(answers) {
   return answers.flatMap((answer) => {
-    const [word, ...items] = answer.split(" ");
+    const [word, ...keysAndValues] = answer.split(" ");
     if (word !== "state") return [answer];
-    return indices(Math.floor(items.length / 2)).map((index) => `${items[2 * index]} ${items[2 * index + 1]}`);
+    return indices(Math.floor(keysAndValues.length / 2)).map((index) => `${keysAndValues[2 * index]} ${keysAndValues[2 * index + 1]}`);
   });
 }
 
@@ -73,7 +73,7 @@ function countLinesUpTo(inputs, commandCount) {
 }
 
 /**
- * Executes lines in a new session, in pieces. Returns the final state and the answers.
+ * Executes lines in a new session, in pieces. Resolves to the final state and the answers.
  * @param {EngineHost} engine
  * @param {string} lines
  * @param {() => Promise<any>} yieldToMessages called after each piece

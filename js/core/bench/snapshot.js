@@ -36,8 +36,8 @@ export function buildSnapshot(inputs, answers) {
 const INITIAL_PARTS = { registers: "", test: "", ports: "", keys: "", lamps: "", breaks: "", watches: "" };
 
 /**
- * Finds the changes between snapshots. `take` reads a snapshot and returns the changes of the front panel. `readOtherChanges` returns all
- * other changes since its previous call, and can be called less often.
+ * Finds the changes between snapshots. `readSnapshot` stores a snapshot and returns the changes of the front panel. `readOtherChanges`
+ * returns all other changes since its previous call, and can be called less often.
  */
 export class SnapshotReader {
   constructor() {
@@ -62,7 +62,7 @@ export class SnapshotReader {
    * @param {string[]} snapshot
    * @returns {FrontPanelChanges}
    */
-  take(snapshot) {
+  readSnapshot(snapshot) {
     const { parts: previousParts } = this;
     const parts = parseState(snapshot[0]);
     this.snapshot = snapshot;

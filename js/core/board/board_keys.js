@@ -59,7 +59,7 @@ export function boardKeys(board, face) {
 /**
  * Returns the button or switch at the TEST pin.
  * @param {import("./face.js").TestPin} test
- * @param {(legend: string, name: string) => string} takeLetter returns the keyboard character for a key
+ * @param {(legend: string, name: string) => string} takeLetter reserves and returns the keyboard character for a key
  */
 function testKey({ kind, name, level }, takeLetter) {
   const legend = name.replace(/_/g, " ");

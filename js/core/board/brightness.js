@@ -16,10 +16,14 @@ import { EYE_PERSISTENCE_MS } from "../time/mcs4_time.js";
 export const MIN_ON_DUTY = 0.5;
 /** The minimum time without a change before a lamp or display can count as steady, in milliseconds. */
 const MIN_REST_MS = 2;
-/** The exponent that converts a duty cycle to a perceived brightness. The eye distinguishes dark lamps better than bright ones. */
+/**
+ * The gamma of the eye: the perceived brightness is the duty cycle to the power of 1 / GAMMA. The eye distinguishes dark lamps better than
+ * bright ones.
+ */
 const GAMMA = 2.2;
 /** The minimum duty cycles of the brightness levels: dim, half, full. */
 const LEVEL_THRESHOLDS = [0.01, 0.15, 0.6];
+/** The highest brightness level. */
 export const FULL_LEVEL = LEVEL_THRESHOLDS.length;
 /** The smallest duty cycle or pattern share that is stored. Smaller values become 0. */
 const MIN_DUTY = 0.0001;

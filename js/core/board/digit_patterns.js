@@ -76,7 +76,7 @@ function valueAt(marks, firstLamp) {
  * @returns {number[]}
  */
 export function digitPatterns(display, marks) {
-  return display.firstRowLamp < 0 ? findDirectPatterns(display, marks) : multiplexedPatterns(display, marks);
+  return display.firstRowLamp < 0 ? directPatterns(display, marks) : multiplexedPatterns(display, marks);
 }
 
 /**
@@ -96,7 +96,7 @@ function multiplexedPatterns({ first, rows, columns, firstRowLamp }, marks) {
  * @param {Group} display
  * @param {string} marks one mark per lamp, `*` if the lamp is on
  */
-function findDirectPatterns({ first, rows, columns }, marks) {
+function directPatterns({ first, rows, columns }, marks) {
   const patterns = [];
   let isLeading = true;
   for (let digit = 0; digit < rows; digit++) {

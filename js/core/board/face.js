@@ -119,7 +119,7 @@ export class Face {
     if (this.wordCount > MAX_WORDS) this.reportError(line, formatMessage("too many words"));
     else if (!fitsHead(kind, first, last)) this.reportError(line, kind.headError);
     else if (kind.size === "-" && !fitsWords(kind, splitWords(words))) this.reportError(line, kind.wordsError);
-    else if (name === "colour" && last !== undefined) this.readRange(Number(first), Number(last), words, line, kind);
+    else if (name === "colour" && last !== undefined) this.readColourRange(Number(first), Number(last), words, line, kind);
     else LINE_READERS[name](this, { name, kind, first: (first || "").toLowerCase(), words, line });
   }
 
@@ -188,7 +188,7 @@ export class Face {
    * @param {number} line
    * @param {Kind} kind
    */
-  readRange(first, last, text, line, kind) {
+  readColourRange(first, last, text, line, kind) {
     const words = splitWords(text.toLowerCase());
     if (words.length !== 1 || last < first) this.reportError(line, kind.headError);
     else this.setColours(first, COLOURS.has(words[0]) ? repeatWord(words[0], last - first + 1) : words, line);

@@ -119,7 +119,7 @@ export function printerLines({ strobe, port }) {
  * @param {Board} board
  * @returns {FaceError[]}
  */
-export function missingParts(face, board) {
+export function missingPartErrors(face, board) {
   /** @type {FaceError[]} */
   const errors = [];
   const lampCount = board.lamps.length;

@@ -1,5 +1,4 @@
-// Defines the keys of a board. A key is at a row and a column of the key matrix, or at the TEST pin. Only this module converts keys to text
-// and back.
+// Defines the keys of a board, and converts keys to text and back. A key is at a row and a column of the key matrix, or at the TEST pin.
 
 /**
  * A matrix key: its row and column, from 0.
@@ -74,12 +73,12 @@ export function keyLine(word, key) {
 
 /** The set of matrix keys that the bench reports as pressed. */
 export class PressedKeys {
-  /** @param {string[]} items the pressed keys: `0.2` for row 0, column 2 */
-  constructor(items = []) {
-    /** @type {Set<number>} */
+  /** @param {string[]} keyTexts the pressed keys: `0.2` for row 0, column 2 */
+  constructor(keyTexts = []) {
+    /** @type {Set<number>} the numbers of the pressed keys, computed from their rows and columns */
     this.numbers = new Set();
-    for (const item of items) {
-      const [row, column] = item.split(".");
+    for (const keyText of keyTexts) {
+      const [row, column] = keyText.split(".");
       this.numbers.add(Number(row) * COLUMN_FACTOR + Number(column));
     }
   }

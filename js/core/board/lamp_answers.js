@@ -21,7 +21,7 @@ const TRACE_ANSWER = /^trace ran \d+ \w+ lines (\d+) ([.*]+|-)$/;
 /** Matches an answer that reports an error. */
 const REFUSAL_ANSWER = /^no \d/;
 
-/** Converts answers about the lamps of a board that has a display to display text. */
+/** Converts answers about lamps to display text, for a board that has a display. */
 class LampAnswerReader {
   /**
    * @param {Face} face

@@ -25,14 +25,14 @@ export function lampAt(lamp) {
  * Returns the functions that read a lamp of a multiplexed group. Only one row is on at a time, so the duty cycle is multiplied by `rows`;
  * the maximum is 1.
  * @param {import("./face.js").Group} group
- * @param {number} number the index of the group in the list of multiplexed groups that are not displays
- * @param {number} index the lamp's index in the group, row by row
+ * @param {number} groupIndex the index of the group in the list of multiplexed groups that are not displays
+ * @param {number} lampIndex the lamp's index in the group, row by row
  * @returns {LampReader & { column: number, row: number }} `column` and `row` are the board lamps that select the lamp
  */
-export function scannedLampAt({ first, rows, columns, firstRowLamp }, number, index) {
-  const [column, row] = [first + (index % columns), firstRowLamp + Math.floor(index / columns)];
+export function scannedLampAt({ first, rows, columns, firstRowLamp }, groupIndex, lampIndex) {
+  const [column, row] = [first + (lampIndex % columns), firstRowLamp + Math.floor(lampIndex / columns)];
   /** @type {LampReader["duty"]} */
-  const duty = ({ scannedGroups }) => Math.min(1, scannedGroups[number][index] * rows);
+  const duty = ({ scannedGroups }) => Math.min(1, scannedGroups[groupIndex][lampIndex] * rows);
   return {
     column, row, duty,
     isLit: (marks) => isLit(marks, column) && isLit(marks, row),

@@ -9,9 +9,9 @@ import * as say from "../../words/board.js";
  * @typedef {import("./face.js").TestPin} TestPin
  * @typedef {{ place: string, name: string }} Buzzer a buzzer: the output line that drives it, and its name
  *
- * A pin of a part. `line` is the signal line at the pin ("" for the TEST pin). For a port pin or a chain bit, `id` is the name of the line.
- * For any other pin, `id` is its function: `clock 0`, `data 0`, `row 1`, `column 2`, `lamp 3`, `buzzer 0`, `test` or `TEST`. `colour` is
- * the lamp colour. `number` is the pin number on the 16-pin chip package.
+ * A pin of a part. `line` is the signal line at the pin, "" for the TEST pin and for the pin of its button or switch. For a port pin or a
+ * chain bit, `id` is the name of the line. For any other pin, `id` is its function: `clock 0`, `data 0`, `row 1`, `column 2`, `lamp 3`,
+ * `buzzer 0`, `test` or `TEST`. `colour` is the lamp colour. `number` is the pin number on the 16-pin chip package.
  * @typedef {{ id: string, line: string, label: string, colour?: string, number?: number, x: number, y: number }} Pin
  * @typedef {Omit<Pin, "x" | "y">} UnplacedPin
  *

@@ -11,7 +11,7 @@ import * as say from "../../words/conditions.js";
  * @typedef {import("./condition_language.js").ExtraValues} ExtraValues
  * @typedef {import("./parser.js").ConditionNode} ConditionNode
  * @typedef {import("./parser.js").CompareNode} CompareNode
- * @typedef {import("./parser.js").FormNode} FormNode
+ * @typedef {import("./parser.js").KeywordNode} KeywordNode
  * @typedef {import("./parser.js").PlaceValuesNode} PlaceValuesNode
  * @typedef {import("./parser.js").PanelStateNode} PanelStateNode
  * @typedef {import("./parser.js").ValueNode} ValueNode
@@ -45,7 +45,7 @@ const COMPILERS = { lamps: compileLamps, display: compileDisplay, printed: compi
  * @param {Value} requiredValue
  * @returns {CompiledCondition}
  */
-function compareValues(value, sign, requiredValue) {
+function createComparison(value, sign, requiredValue) {
   const compare = COMPARISONS[sign];
   return {
     address: -1,
@@ -84,7 +84,8 @@ function compileComparison({ sign, left, right }, names, dependencies) {
   const requiredValue = compileValue(right, names, dependencies);
   checkRange(value, right, requiredValue);
   checkRange(requiredValue, left, value);
-  if (value.name !== "pc" || !requiredValue.isConstant || (sign !== "=" && sign !== "!=")) return compareValues(value, sign, requiredValue);
+  const isCounterEquality = value.name === "pc" && requiredValue.isConstant && (sign === "=" || sign === "!=");
+  if (!isCounterEquality) return createComparison(value, sign, requiredValue);
   const address = requiredValue.read([]);
   const condition = compileCounter(address, String(address), names, dependencies);
   return sign === "=" ? condition : negateCondition(condition, "");
@@ -122,7 +123,7 @@ function compilePlaceValues({ place, values, text, column }, names, dependencies
 
 /**
  * Compiles a condition that starts with a keyword.
- * @param {FormNode} node
+ * @param {KeywordNode} node
  * @param {Names} names
  * @param {Dependencies} dependencies
  */
@@ -206,7 +207,7 @@ export function compileConditionNode(node, names, dependencies) {
     if (node.kind === "values") return compilePlaceValues(node, names, dependencies);
     if (node.kind === "panel") return compilePanelState(node, names, dependencies);
     if (node.kind === "at") return compileCounter(findLabelAddress(node.label, names), `@${node.label}`, names, dependencies);
-    if (node.kind === "form") return compileKeyword(node, names, dependencies);
+    if (node.kind === "keyword") return compileKeyword(node, names, dependencies);
     return joinConditions(node.kind, node.parts.map((part) => compileConditionNode(part, names, dependencies)), node.text);
   });
 }

@@ -7,7 +7,7 @@
 //
 // `places` has at most 16 different entries: places that `trace` reports, and members of STATE_PLACES, which `state` reports (probes.js
 // queries both). The argument of `holds` contains the values of these places, in the same order. `error` is an error message, and `column`
-// is the error's column, from 0.
+// is the error's column, counted from 0.
 //
 // There are three functions that compile conditions:
 // - compileCondition: the condition of a breakpoint;
@@ -44,13 +44,13 @@ import * as say from "../../words/conditions.js";
  * @typedef {{ condition: Condition, error: "", column: -1 } | { condition: null, error: string, column: number }} ConditionResult
  *
  * A compiled value or condition. `textOf` returns its value as text: the value of a place as `trace` spells it, any other value in decimal,
- * and a condition as `true` or `false`. `number` returns the value as a number; it is null for a condition.
- * @typedef {{ places: string[], textOf: (values: string[]) => string, number: ((values: string[]) => number) | null }} Expression
+ * and a condition as `true` or `false`. `numberOf` returns the value as a number; it is null for a condition.
+ * @typedef {{ places: string[], textOf: (values: string[]) => string, numberOf: ((values: string[]) => number) | null }} Expression
  * @typedef {{ expression: Expression, error: "", column: -1 } | { expression: null, error: string, column: number }} ExpressionResult
  */
 
 /** @type {ExtraValues} the values that are used if a caller passes none; no second cycle of an instruction is pending */
-const DEFAULT_VALUES = { test: "", owed: "0", keys: "", cycles: 0, lampForecast: [], printed: [] };
+const DEFAULT_EXTRA_VALUES = { test: "", owed: "0", keys: "", cycles: 0, lampForecast: [], printed: [] };
 
 /** @type {(names: Names) => (name: string) => boolean} returns a function that tests whether a name is a lamp name */
 const createLampNameTest = ({ face }) => (/** @type {string} */ name) => face.lampNumbers.has(name);
@@ -132,8 +132,8 @@ export function compileCondition(conditionText, names) {
     checkPlaceCount(dependencies.places);
     return {
       text, negation, places: dependencies.places, needs: [], address,
-      holds: (values, extraValues = DEFAULT_VALUES) => matches(values, extraValues),
-      explain: (values, extraValues = DEFAULT_VALUES) => (matches(values, extraValues) ? "" : explain(values, extraValues, false)),
+      holds: (values, extraValues = DEFAULT_EXTRA_VALUES) => matches(values, extraValues),
+      explain: (values, extraValues = DEFAULT_EXTRA_VALUES) => (matches(values, extraValues) ? "" : explain(values, extraValues, false)),
     };
   });
 }
@@ -160,8 +160,8 @@ export function compileTestCondition(conditionText, names) {
     const selectValues = statePlaces.length === 0 ? (/** @type {string[]} */ values) => values : joinAllValues;
     return {
       text, negation, places, needs: [...dependencies.needs, ...statePlaces], address,
-      holds: (values, extraValues = DEFAULT_VALUES) => matches(selectValues(values, extraValues), extraValues),
-      explain: (values, extraValues = DEFAULT_VALUES) => {
+      holds: (values, extraValues = DEFAULT_EXTRA_VALUES) => matches(selectValues(values, extraValues), extraValues),
+      explain: (values, extraValues = DEFAULT_EXTRA_VALUES) => {
         const selectedValues = selectValues(values, extraValues);
         return matches(selectedValues, extraValues) ? "" : explain(selectedValues, extraValues, false);
       },
@@ -194,12 +194,12 @@ export function compileExpression(text, names) {
     if (isCondition(node)) {
       const { matches } = compileConditionNode(node, names, dependencies);
       checkPlaceCount(dependencies.places);
-      const formatTruth = (/** @type {string[]} */ values) => String(matches(values, DEFAULT_VALUES));
-      return { places: dependencies.places, number: null, textOf: formatTruth };
+      const formatTruth = (/** @type {string[]} */ values) => String(matches(values, DEFAULT_EXTRA_VALUES));
+      return { places: dependencies.places, numberOf: null, textOf: formatTruth };
     }
     const { read, textOf } = compileValue(node, names, dependencies);
     checkPlaceCount(dependencies.places);
-    return { places: dependencies.places, number: read, textOf: textOf || ((/** @type {string[]} */ values) => String(read(values))) };
+    return { places: dependencies.places, numberOf: read, textOf: textOf || ((/** @type {string[]} */ values) => String(read(values))) };
   });
   return /** @type {ExpressionResult} */ ({ expression, ...error });
 }

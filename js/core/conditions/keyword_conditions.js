@@ -19,8 +19,8 @@ import * as say from "../../words/conditions.js";
  * @typedef {import("./values.js").Dependencies} Dependencies
  *
  * The parts of a keyword condition. `subject` is the name of the measured value in messages; `isPlural` is true if that name is plural.
- * `required` is the text of the required value. `measure` returns the text of the actual value, `matches` returns whether that text meets
- * the condition, and `remark` returns text to append to the message.
+ * `required` is the text of the required value. `measure` returns the text of the actual value, `matches` returns whether that text
+ * satisfies the condition, and `remark` returns text to append to the message.
  * @typedef {{ subject: string, required: string, isPlural?: boolean, measure: (values: string[], extraValues: ExtraValues) => string,
  *   matches: (actual: string, extraValues: ExtraValues) => boolean, remark?: (actual: string) => string, address?: number }}
  *   KeywordConditionParts
@@ -59,7 +59,7 @@ const lampMarks = (value) => (value === "-" ? "" : value);
  * @param {number} lamp the lamp number
  * @param {Names} names
  */
-function isDisplayLamp(lamp, { face }) {
+function isUnnamedDisplayLamp(lamp, { face }) {
   if (face.lamps.has(lamp)) return false;
   return face.groups.some((group) => group.kind === "display" && groupLamps(group).includes(lamp));
 }
@@ -77,7 +77,7 @@ export function compileLamps(words, names, dependencies) {
   let required = words.join("");
   if (!/^[*.?]+$/.test(required)) {
     const requiredLamps = new Set(words.join(" ") === "none" ? [] : words.map((name) => findLampNumber(name, names)));
-    required = indices(count).map((lamp) => (requiredLamps.has(lamp) ? "*" : isDisplayLamp(lamp, names) ? "?" : ".")).join("");
+    required = indices(count).map((lamp) => (requiredLamps.has(lamp) ? "*" : isUnnamedDisplayLamp(lamp, names) ? "?" : ".")).join("");
   }
   if (required.length !== count) fail(say.wrongPatternLength(required.length, count));
   const place = dependencies.addPlace("lamps");
@@ -192,7 +192,7 @@ function formatAddress(address, { map }) {
 }
 
 /**
- * Compiles a comparison of the program counter with an address. The condition is true only between two instructions.
+ * Compiles the condition that the program counter is equal to an address. The condition is true only between two instructions.
  * @param {number} address
  * @param {string} required the address as written in the condition
  * @param {Names} names

@@ -19,16 +19,16 @@ import * as say from "../../words/conditions.js";
  * @typedef {{ kind: "sum", sign: "+" | "-" | "&", left: ValueNode, right: ValueNode, text: string, column: number }} SumNode
  * @typedef {NumberNode | NameNode | PanelNode | SumNode} ValueNode
  *
- * A condition, by its `kind`. `form`: a keyword (`lamps`, `display`, `printed`, `cycles` or a chain) with the words after it. `values`: a
- * place with its required values. `panel`: `lamp NAME on` or `key NAME down`. `at`: `at LABEL`.
+ * A condition, by its `kind`. `keyword`: a keyword (`lamps`, `display`, `printed`, `cycles` or a chain) with the words after it.
+ * `values`: a place with its required values. `panel`: `lamp NAME on` or `key NAME down`. `at`: `at LABEL`.
  * @typedef {{ kind: "or" | "and", parts: ConditionNode[], text: string, column: number }} JoinedNode
  * @typedef {{ kind: "not", part: ConditionNode, text: string, column: number }} NotNode
  * @typedef {{ kind: "compare", sign: Sign, left: ValueNode, right: ValueNode, text: string, column: number }} CompareNode
- * @typedef {{ kind: "form", words: Token[], text: string, column: number }} FormNode
+ * @typedef {{ kind: "keyword", words: Token[], text: string, column: number }} KeywordNode
  * @typedef {{ kind: "values", place: NameNode, values: ValueNode[], text: string, column: number }} PlaceValuesNode
  * @typedef {{ kind: "panel", subject: "lamp" | "key", name: string, isOn: boolean, text: string, column: number }} PanelStateNode
  * @typedef {{ kind: "at", label: string, text: string, column: number }} AtNode
- * @typedef {JoinedNode | NotNode | CompareNode | FormNode | PlaceValuesNode | PanelStateNode | AtNode} ConditionNode
+ * @typedef {JoinedNode | NotNode | CompareNode | KeywordNode | PlaceValuesNode | PanelStateNode | AtNode} ConditionNode
  * @typedef {ConditionNode | ValueNode} Node
  */
 
@@ -48,7 +48,7 @@ const JOIN_OPERATORS = new Map([["or", "or"], ["||", "or"], ["and", "and"], ["&&
 /** Matches the name of a port. */
 const PORT_NAME = /^(rom\d+|ram\d+\.\d+)$/i;
 /** The node kinds that are conditions. */
-const CONDITION_KINDS = new Set(["or", "and", "not", "compare", "form", "values", "panel", "at"]);
+const CONDITION_KINDS = new Set(["or", "and", "not", "compare", "keyword", "values", "panel", "at"]);
 /** The first words of places that are written with blanks, such as `ram 0 0x12`, and how many numerals follow each word. */
 const SPACED_NUMERALS = new Map([["ram", 2], ["st", 3]]);
 /** The node kinds whose text needs no parentheses: single names and numbers. */
@@ -321,7 +321,7 @@ class Parser {
     if (word === "display") return this.parseDisplay(token);
     if (word === "printed" || word === "cycles") {
       this.scanner.goTo(token.end);
-      return this.formNode(token, this.wordsAfter(word === "printed"));
+      return this.keywordNode(token, this.parseWords(word === "printed"));
     }
     const panel = word === "lamp" || word === "key" ? this.parsePanel(token, word) : null;
     if (panel) return panel;
@@ -362,7 +362,7 @@ class Parser {
     return { kind: "at", label: nameToken.text.replace(/^@/, ""), text: this.textFrom(column), column };
   }
 
-  // --- Keywords followed by names ---
+  // --- keywords followed by names ---
 
   /**
    * Parses `lamp NAME on` or `key NAME down`. Without `on` or `down`, the result is a value. Returns null if an operator follows the word
@@ -402,7 +402,7 @@ class Parser {
     if (kind === "sign" && (text in OPERATORS || /^[+\-&]$/.test(text))) {
       return { kind: "name", text: token.text, direction: "", column: token.column };
     }
-    return this.formNode(token, this.wordsAfter(false, true));
+    return this.keywordNode(token, this.parseWords(false, true));
   }
 
   /**
@@ -413,8 +413,8 @@ class Parser {
   parseDisplay(head) {
     this.scanner.goTo(head.end);
     const isNot = this.skipEquality();
-    const form = this.formNode(head, this.wordsAfter(true, true));
-    return isNot ? { kind: "not", part: form, text: form.text, column: head.column } : form;
+    const node = this.keywordNode(head, this.parseWords(true, true));
+    return isNot ? { kind: "not", part: node, text: node.text, column: head.column } : node;
   }
 
   /** Skips an optional `=`, `==` or `!=`; returns true for `!=`. */
@@ -436,11 +436,11 @@ class Parser {
   }
 
   /**
-   * Returns the words before the next `and`, `or` or closing parenthesis.
+   * Consumes and returns the words before the next `and`, `or` or closing parenthesis.
    * @param {boolean} canBeQuoted true if the words can be quoted
    * @param {boolean} [canBeLamps] true if the words can be lamp names; even `or` can be a lamp name
    */
-  wordsAfter(canBeQuoted, canBeLamps = false) {
+  parseWords(canBeQuoted, canBeLamps = false) {
     const { scanner } = this;
     scanner.unpeek();
     /** @type {Token[]} */
@@ -453,7 +453,7 @@ class Parser {
         scanner.goTo(word.column);
         return this.parseQuoted();
       }
-      const isEnd = this.findOperator(word) !== "" && !(canBeLamps && this.isLampsFrom(word.column));
+      const isEnd = this.findOperator(word) !== "" && !(canBeLamps && this.hasOnlyLampNamesFrom(word.column));
       if (isEnd || (this.depth > 0 && word.text === ")")) {
         scanner.goTo(position);
         return words;
@@ -466,11 +466,11 @@ class Parser {
    * Returns whether all words from a column to the end of the text are lamp names.
    * @param {number} column
    */
-  isLampsFrom(column) {
+  hasOnlyLampNamesFrom(column) {
     return this.text.slice(column).trim().split(/\s+/).every((word) => this.isLampName(word));
   }
 
-  /** Returns the words of text in quotes. */
+  /** Parses text in quotes. Returns its words as tokens. */
   parseQuoted() {
     const token = this.scanner.next();
     return token.text.split(/\s+/).filter(Boolean).map((text) => ({ ...token, text }));
@@ -480,11 +480,11 @@ class Parser {
    * Returns the node for a keyword and its words.
    * @param {Token} head the keyword
    * @param {Token[]} words
-   * @returns {FormNode}
+   * @returns {KeywordNode}
    */
-  formNode(head, words) {
+  keywordNode(head, words) {
     const { column } = head;
-    return { kind: "form", words: [{ ...head, text: head.text.toLowerCase() }, ...words], text: this.textFrom(column), column };
+    return { kind: "keyword", words: [{ ...head, text: head.text.toLowerCase() }, ...words], text: this.textFrom(column), column };
   }
 
   /**
@@ -506,8 +506,8 @@ class Parser {
       }
       words.push(word);
     }
-    const form = this.formNode(head, words);
-    return isNot ? { kind: "not", part: form, text: form.text, column: head.column } : form;
+    const node = this.keywordNode(head, words);
+    return isNot ? { kind: "not", part: node, text: node.text, column: head.column } : node;
   }
 }
 

@@ -9,14 +9,14 @@ import { LAST_ADDRESS, hex, parseNumber, indices } from "../bench/numbers.js";
  * @typedef {import("../bench/answers.js").Board} Board
  *
  * A place. `name` is its displayed name. `probesOn` returns the `trace` places that report its value; an empty list if the board does not
- * have the place. `value` returns its value in the spelling of `trace`, and `number` its value as a number. `maxValue` returns its maximum,
- * -1 if the value is not a number.
- * @typedef {{ name: string, maxValue: (board: Board) => number, probesOn: (board: Board) => string[], value: (answers: string[]) => string,
- * number: (answers: string[]) => number }} Place
+ * have the place. `textOf` returns its value in the spelling of `trace`. `numberOf` returns its value as a number. `maxValueOn` returns the
+ * maximum of this number, -1 if the value is not a number.
+ * @typedef {{ name: string, maxValueOn: (board: Board) => number, probesOn: (board: Board) => string[],
+ *   textOf: (answers: string[]) => string, numberOf: (answers: string[]) => number }} Place
  */
 
 /** The usual name of the accumulator on other processors, in lower case. */
-const ACCUMULATOR = "a";
+const ACCUMULATOR_ALIAS = "a";
 /** The number of nibbles in a RAM register, without the status characters. */
 export const NIBBLES_PER_REGISTER = 16;
 /** The number of status characters in a RAM register. */
@@ -39,7 +39,7 @@ export const PLACE_WORDS = [
 /** @type {(place: string) => number} returns the maximum value of a place; -1 if the value is not a number */
 export const maxPlaceValue = (place) => MAX_VALUES.get(place) ?? (/^(p\d$|rom\.)/.test(place) ? MAX_BYTE : MAX_DIGIT);
 
-/** @type {(answers: string[]) => string} returns the first answer */
+/** @type {(answers: string[]) => string} returns the only answer for a place that `trace` reports under one name */
 const firstAnswer = ([answer]) => answer;
 
 /**
@@ -56,8 +56,8 @@ const parseHexDigits = (answers) => parseInt(answers.join(""), 16);
  */
 function singlePlace(name, existsOn = () => true) {
   return {
-    name, maxValue: () => maxPlaceValue(name), probesOn: (board) => (existsOn(board) ? [name] : []), value: firstAnswer,
-    number: parseHexDigits,
+    name, maxValueOn: () => maxPlaceValue(name), probesOn: (board) => (existsOn(board) ? [name] : []), textOf: firstAnswer,
+    numberOf: parseHexDigits,
   };
 }
 
@@ -68,7 +68,7 @@ function singlePlace(name, existsOn = () => true) {
  * @returns {Place}
  */
 function linePlace(name, existsOn) {
-  return { ...singlePlace(name, existsOn), maxValue: () => 1 };
+  return { ...singlePlace(name, existsOn), maxValueOn: () => 1 };
 }
 
 /**
@@ -91,7 +91,7 @@ function registerPlace(name) {
   const pairMatch = /^p([0-7])$/.exec(name);
   if (!pairMatch) return null;
   const halves = [0, 1].map((half) => `r${2 * Number(pairMatch[1]) + half}`);
-  return { ...singlePlace(name), probesOn: () => halves, value: (answers) => answers.join("") };
+  return { ...singlePlace(name), probesOn: () => halves, textOf: (answers) => answers.join("") };
 }
 
 /**
@@ -142,8 +142,8 @@ function marksToNumber([marks]) {
 function lampPlace(name) {
   if (name === "lamps") {
     return {
-      name, maxValue: ({ lamps }) => (lamps.length <= MAX_NUMERIC_LAMPS ? 2 ** lamps.length - 1 : -1),
-      probesOn: ({ lamps }) => (lamps.length > 0 ? ["lamps"] : []), value: firstAnswer, number: marksToNumber,
+      name, maxValueOn: ({ lamps }) => (lamps.length <= MAX_NUMERIC_LAMPS ? 2 ** lamps.length - 1 : -1),
+      probesOn: ({ lamps }) => (lamps.length > 0 ? ["lamps"] : []), textOf: firstAnswer, numberOf: marksToNumber,
     };
   }
   const lampMatch = /^lamp[ .]?(\d+)$/.exec(name);
@@ -152,13 +152,13 @@ function lampPlace(name) {
     // The value of a lamp is the level of its signal line.
     return {
       ...linePlace(`lamp ${lampNumber}`, () => true), probesOn: ({ lamps }) => lamps.slice(lampNumber, lampNumber + 1),
-      value: ([answer]) => (answer === "1" ? "*" : "."),
+      textOf: ([answer]) => (answer === "1" ? "*" : "."),
     };
   }
   const chainMatch = /^chain([0-3])(?:\.(\d+))?$/.exec(name);
   if (!chainMatch) return null;
   const [, number, bit] = chainMatch;
-  if (bit === undefined) return { ...singlePlace(name, ({ chains }) => Number(number) < chains.length), maxValue: () => -1 };
+  if (bit === undefined) return { ...singlePlace(name, ({ chains }) => Number(number) < chains.length), maxValueOn: () => -1 };
   return linePlace(name, ({ chains }) => Number(number) < chains.length && Number(bit) < chains[Number(number)].chips * BITS_PER_CHIP);
 }
 
@@ -178,5 +178,5 @@ export function parsePlace(text) {
  * @param {string} text
  */
 export function placeByAlias(text) {
-  return text.trim().toLowerCase() === ACCUMULATOR ? parsePlace("acc") : null;
+  return text.trim().toLowerCase() === ACCUMULATOR_ALIAS ? parsePlace("acc") : null;
 }

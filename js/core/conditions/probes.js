@@ -26,7 +26,7 @@ export class Probes {
    * @param {ForecastAnswers} answers the answers to the queries
    * @returns {string[]}
    */
-  take(answers) {
+  takeValues(answers) {
     const tracedValues = this.groups.flatMap(() => rowValues(answers.takeTrace().row));
     if (!this.queriesState) return tracedValues;
     const state = answers.take();

@@ -4,8 +4,8 @@ import * as say from "../../words/conditions.js";
 
 /**
  * @typedef {"number" | "word" | "sign" | "text" | "end"} TokenKind
- * @typedef {{ kind: TokenKind, text: string, column: number, end: number }} Token `column` is the column of the first character, from 0;
- *   `end` is the column after the last one
+ * @typedef {{ kind: TokenKind, text: string, column: number, end: number }} Token a token; `column` is the column of its first character,
+ *   counted from 0, and `end` is the column after its last character
  */
 
 /** An error in a condition or a property line. `column` counts from 0; it is -1 until the column is known. */
@@ -89,21 +89,21 @@ export class Scanner {
     this.match(BLANKS);
     const column = this.index;
     /** @type {(kind: TokenKind, text: string) => Token} */
-    const token = (kind, text) => ({ kind, text, column, end: this.index });
-    if (column === this.text.length) return token("end", "");
+    const createToken = (kind, text) => ({ kind, text, column, end: this.index });
+    if (column === this.text.length) return createToken("end", "");
     const sign = this.match(SIGN);
-    if (sign) return token("sign", sign[0]);
+    if (sign) return createToken("sign", sign[0]);
     const text = this.match(QUOTED_TEXT);
-    if (text) return token("text", text[1]);
+    if (text) return createToken("text", text[1]);
     const word = this.match(WORD);
-    if (word) return token("word", word[0]);
+    if (word) return createToken("word", word[0]);
     const number = this.match(NUMBER);
     if (!number) {
       const [invalidText] = /** @type {RegExpExecArray} */ (this.match(RAW_WORD));
       return fail(invalidText.startsWith('"') ? say.NO_END_OF_TEXT : say.unknownSign(invalidText), column);
     }
     if (Number.isNaN(parseNumeral(number[0]))) fail(say.notANumeralMessage(number[0]), column);
-    return token("number", number[0]);
+    return createToken("number", number[0]);
   }
 
   /**
@@ -129,7 +129,7 @@ export class Scanner {
   }
 
   /**
-   * The column of the next token. A later `goTo` can return to this column.
+   * The column after the consumed text, or of the peeked token. A later `goTo` can return to this column.
    * @returns {number}
    */
   get position() {

@@ -1,4 +1,4 @@
-// Parses `set PLACE = VALUE` or `set PLACE VALUE`, and translates it to bench lines.
+// Parses `set PLACE = VALUE` or `set PLACE VALUE`, and translates it into bench lines.
 
 import { LAST_ADDRESS, hex, parseNumber } from "../bench/numbers.js";
 import { parseExpression } from "./parser.js";
@@ -10,7 +10,7 @@ import * as say from "../../words/conditions.js";
 /**
  * @typedef {import("./condition_language.js").Names} Names
  * @typedef {import("./parser.js").ValueNode} ValueNode
- * @typedef {{ place: string, value: ValueNode }} Setting `place` has the spelling that `settablePlace` returns
+ * @typedef {{ place: string, value: ValueNode }} Setting a place with its new value; `place` has the spelling that `settablePlace` returns
  *
  * The place and the bench lines that set it. If the text has an error, `error` is the message and `column` is the column in the text after
  * `set`.
@@ -54,8 +54,8 @@ export function settingLines(place, value) {
 export function parseSetting(text) {
   if (text.trim() === "") return fail(say.SET_SYNTAX, 0);
   const node = parseExpression(text);
-  if (node.kind === "compare" && node.sign === "=" && node.left.kind === "name") return makeSetting(node.left, node.right);
-  return node.kind === "values" && node.values.length === 1 ? makeSetting(node.place, node.values[0]) : fail(say.SET_SYNTAX, node.column);
+  if (node.kind === "compare" && node.sign === "=" && node.left.kind === "name") return createSetting(node.left, node.right);
+  return node.kind === "values" && node.values.length === 1 ? createSetting(node.place, node.values[0]) : fail(say.SET_SYNTAX, node.column);
 }
 
 /**
@@ -64,20 +64,20 @@ export function parseSetting(text) {
  * @param {ValueNode} value
  * @returns {Setting}
  */
-function makeSetting({ text, column }, value) {
+function createSetting({ text, column }, value) {
   const place = settablePlace(text);
   if (place !== "") return { place, value };
   return fail(parsePlace(text) || !hintFor(text) ? say.cannotBeSetMessage(text) : say.noSuchPlaceMessage(text, hintFor(text)), column);
 }
 
 /**
- * Translates the text after `set` to bench lines. VALUE can contain numbers and names from the program.
+ * Translates the text after `set` into bench lines. VALUE can contain numbers and names from the program.
  * @param {string} text
  * @param {Names["map"]} map the source map of the program
  * @param {import("./condition_language.js").Board | null} [board] if given, a place that the board does not have is an error
  * @returns {SettingResult}
  */
-export function readSetting(text, map, board = null) {
+export function compileSetting(text, map, board = null) {
   try {
     const { place, value } = parseSetting(text);
     const parsedPlace = parsePlace(place);

@@ -141,8 +141,8 @@ export function keyValue(name, { face }, dependencies) {
   }
   const [word, ...numbers] = key.downLine.split(" ");
   if (word === "test") return bitValue(`key ${name}`, dependencies.addPlace("test"), (answer) => Number(answer === numbers[0]));
-  const item = numbers.join(".");
-  return bitValue(`key ${name}`, dependencies.addPlace("keys"), (answer) => Number(answer.split(",").includes(item)));
+  const rowAndColumn = numbers.join(".");
+  return bitValue(`key ${name}`, dependencies.addPlace("keys"), (answer) => Number(answer.split(",").includes(rowAndColumn)));
 }
 
 /**
@@ -179,12 +179,12 @@ function placeValue(place, { board }, dependencies) {
   const { name } = place;
   const probes = place.probesOn(board);
   if (probes.length === 0) fail(say.boardLacks(name));
-  const maxValue = place.maxValue(board);
+  const maxValue = place.maxValueOn(board);
   if (maxValue < 0) fail(say.notOneNumberMessage(name));
   const answerIndexes = probes.map((probe) => dependencies.addPlace(probe));
   const selectAnswers = (/** @type {string[]} */ values) => answerIndexes.map((index) => values[index]);
-  return { name, maxValue, isConstant: false, read: (values) => place.number(selectAnswers(values)),
-    textOf: (values) => place.value(selectAnswers(values)) };
+  return { name, maxValue, isConstant: false, read: (values) => place.numberOf(selectAnswers(values)),
+    textOf: (values) => place.textOf(selectAnswers(values)) };
 }
 
 /**
@@ -320,7 +320,7 @@ export function nibbleValues({ text, column }, count, names, dependencies) {
 }
 
 /**
- * Returns the value of a sum.
+ * Returns the value of a sum, a difference or a bitwise AND.
  * @param {SumNode} node
  * @param {Names} names
  * @param {Dependencies} dependencies

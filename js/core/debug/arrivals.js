@@ -123,7 +123,7 @@ export class Arrivals {
       [linesBefore, skippedCount] = ["", 0];
       while (!answers.isEmpty) {
         const { cycles: partCycles, end } = answers.takeRun();
-        const row = this.probes.take(answers);
+        const row = this.probes.takeValues(answers);
         cyclesRun += partCycles;
         if (end === "end") continue;
         arrivalCount += 1;

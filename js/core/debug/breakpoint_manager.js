@@ -1,6 +1,6 @@
 // Manages the breakpoints of the current session in a list. The breakpoints in the list move with the source text. After each change of the
-// list, the manager sends the breakpoints to the bench. If the bench gets a breakpoint in another way, for example from a typed `break`,
-// the manager adds it to the list.
+// list, the manager sends the breakpoints to the bench. If something else sets a breakpoint in the bench, for example a typed `break`, the
+// manager adds this breakpoint to the list.
 
 import { BreakpointList, MAX_BREAKPOINTS, MAX_ENABLED_BREAKPOINTS, instructionAtAddress, instructionForLine } from "./breakpoints.js";
 import { isSoft } from "./soft_breakpoints.js";
@@ -16,7 +16,7 @@ import * as say from "../../words/debug.js";
  */
 
 /**
- * The callbacks of the breakpoint manager.
+ * The functions with which the breakpoint manager uses the bench and the page.
  * @typedef {object} ManagerCallbacks
  * @property {(breakpoints: LocatedBreakpoint[]) => Promise<[number, string][]>} setBreakpoints Replaces all breakpoints of the bench.
  *   Resolves to the ids and error messages of breakpoints that cannot be compiled.
@@ -213,7 +213,7 @@ export class BreakpointManager {
       this.remove(existingBreakpoint.id);
       return;
     }
-    const instruction = this.map ? instructionForLine(line, this.map) : { line, address: -1, message: this.pendingMessage() };
+    const instruction = this.map ? instructionForLine(line, this.map) : { line, address: -1, message: this.inactiveMessage() };
     if (instruction.message) this.callbacks.showMessage(instruction.message);
     if (instruction.line !== line && this.list.findByLine(instruction.line)) return;
     if (this.map && instruction.address < 0) return;
@@ -225,14 +225,14 @@ export class BreakpointManager {
    * instruction. Returns undefined if no instruction follows, or if the list is full.
    * @param {number} line
    */
-  breakpointOnLine(line) {
+  findOrAddOnLine(line) {
     if (!this.list.findByLine(line)) this.toggleLine(line);
     const nextLine = this.map ? instructionForLine(line, this.map).line : line;
     return this.list.findByLine(line) || this.list.findByLine(nextLine);
   }
 
   /** Returns a message that explains why a new breakpoint has no effect yet; "" if no reason is known. */
-  pendingMessage() {
+  inactiveMessage() {
     return this.mapError ? say.inactiveUntilThen(this.mapError) : "";
   }
 

@@ -4,8 +4,7 @@
 // - a WRR at a port without outputs, or an RDR at a port without inputs;
 // - a write to a chip that is not on the board;
 // - an instruction at an address outside the program text;
-// - a WRR or RDR that uses a different ROM from the one at its last execution, because the program sent the last SRC for another
-//   instruction.
+// - a WRR or RDR that uses a different ROM than at its last execution, because the last SRC selected a ROM for another instruction.
 //
 // Before each run, this module asks the bench what the run will do. It does not simulate instructions. src_selection.js tracks the chips
 // and registers that SRC selects.
@@ -134,7 +133,7 @@ export class CommonMistakes {
     const lines = linesBefore.map(({ line }) => `${line}\n`).join("") + probes.lines;
     const answers = new ForecastAnswers(this.session.engine.ask(file, lines).answers);
     answers.skip(linesBefore.length);
-    return condition.holds(probes.take(answers));
+    return condition.holds(probes.takeValues(answers));
   }
 
   /**

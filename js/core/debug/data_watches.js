@@ -38,8 +38,8 @@ const UNWATCHABLE_PLACE = "pc";
 /** The maximum number of cycles in one query. */
 const MAX_QUERY_CYCLES = 50000;
 
-/** @returns {WatchEvents} a result without a change */
-const createEmptyResult = () => ({ cycles: -1, id: 0, change: "", changes: new Map() });
+/** @returns {WatchEvents} watch events without a change */
+const createEmptyEvents = () => ({ cycles: -1, id: 0, change: "", changes: new Map() });
 
 /**
  * Compiles requested watches. `errors` contains the error messages of watches that cannot be compiled, by watch id.
@@ -88,11 +88,11 @@ export class DataWatches {
    * @param {Engine} engine
    * @param {Uint8Array} file the session file; not changed
    * @param {PlannedLine[]} plannedLines
-   * @param {() => Uint8Array} codes returns the contents of ROM
+   * @param {() => Uint8Array} readCodes returns the contents of ROM
    * @returns {WatchEvents}
    */
-  searchLines(engine, file, plannedLines, codes) {
-    const events = createEmptyResult();
+  searchLines(engine, file, plannedLines, readCodes) {
+    const events = createEmptyEvents();
     if (this.isEmpty) return events;
     const copy = file.slice();
     let doneCycles = 0;
@@ -104,7 +104,7 @@ export class DataWatches {
       const run = answers.takeRun();
       const stop = this.findStop(trace.row, trace.lines, events);
       if (stop) {
-        events.cycles = doneCycles + Math.min(run.cycles, stop.cycles + instructionCycles(codes()[stop.address]));
+        events.cycles = doneCycles + Math.min(run.cycles, stop.cycles + instructionCycles(readCodes()[stop.address]));
         return events;
       }
       if (run.end !== "end") return events;
@@ -122,8 +122,8 @@ export class DataWatches {
   findStop(row, lines, events) {
     let valuesBefore = rowValues(row);
     for (const line of lines) {
-      const { cycles, address, row: next } = parseTraceLine(line);
-      const valuesAfter = rowValues(next);
+      const { cycles, address, row: rowAfter } = parseTraceLine(line);
+      const valuesAfter = rowValues(rowAfter);
       const stoppingWatches = this.watches.filter((watch) => this.countChange(watch, valuesBefore, valuesAfter, events));
       if (stoppingWatches.length > 0) {
         const [{ id, place }] = stoppingWatches;
@@ -169,7 +169,7 @@ export class DataWatches {
    */
   formatValue({ id, place }, values) {
     const [placeColumns] = this.columns.get(id) || [[]];
-    return place.value(placeColumns.map((column) => values[column]));
+    return place.textOf(placeColumns.map((column) => values[column]));
   }
 
   /**
@@ -238,12 +238,12 @@ export class SoftStopFinder {
   /**
    * @param {import("./arrivals.js").Arrivals} arrivals
    * @param {DataWatches} dataWatches
-   * @param {() => Uint8Array} codes returns the contents of ROM
+   * @param {() => Uint8Array} readCodes returns the contents of ROM
    */
-  constructor(arrivals, dataWatches, codes) {
+  constructor(arrivals, dataWatches, readCodes) {
     this.arrivals = arrivals;
     this.dataWatches = dataWatches;
-    this.codes = codes;
+    this.readCodes = readCodes;
   }
 
   get isEmpty() {
@@ -261,7 +261,7 @@ export class SoftStopFinder {
     const events = this.arrivals.searchLines(engine, file, plannedLines);
     if (this.dataWatches.isEmpty) return events;
     const limitedLines = events.cycles >= 0 ? truncateLines(plannedLines, events.cycles) : plannedLines;
-    const { changes, ...watchStop } = this.dataWatches.searchLines(engine, file, limitedLines, this.codes);
+    const { changes, ...watchStop } = this.dataWatches.searchLines(engine, file, limitedLines, this.readCodes);
     if (watchStop.cycles < 0 || watchStop.cycles === events.cycles) return { ...events, changes };
     const earlierEvents = this.arrivals.searchLines(engine, file, truncateLines(plannedLines, watchStop.cycles));
     return { ...earlierEvents, ...watchStop, reason: "watch", changes };

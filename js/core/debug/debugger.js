@@ -46,7 +46,7 @@ import { CommonMistakes } from "./common_mistakes.js";
  * @typedef {import("./common_mistakes.js").CommonMistake} CommonMistake
  * @typedef {import("../engine/past_search.js").BackSearchResult} BackSearchResult
  * @typedef {import("../engine/past_search.js").BackGoal} BackGoal
- * @typedef {import("../engine/timeline.js").SessionAtMoment} Present
+ * @typedef {import("../engine/timeline.js").SessionAtMoment} SessionAtMoment
  * @typedef {import("../engine/worker_session.js").Frame} Frame
  * @typedef {import("../engine/worker_session.js").LinesResult} LinesResult
  * @typedef {import("../engine/worker_session.js").WorkerSession} WorkerSession
@@ -59,7 +59,7 @@ import { CommonMistakes } from "./common_mistakes.js";
  * - "goal" for the goal of a move;
  * - "break", "watch" or "code", the bench's reasons for the end of a run;
  * - an error answer of the bench;
- * - "usual" for a common mistake;
+ * - "mistake" for a common mistake;
  * - "recorded" for the end of a recording.
  *
  * `id`: the id of the breakpoint or data watch, 0 for none. `change`: a description of the watched change. `cycles`: the number of cycles
@@ -79,8 +79,8 @@ import { CommonMistakes } from "./common_mistakes.js";
  *   result: (LinesResult & { snapshot: string[] }) | null, tally: Tally }} RunResult the result of a move; `result` is null if no line was
  *   executed
  *
- * The result of a move back or forward. `isDone` is false if the goal was not found. `hasChangedBoard` is true if the board has changed.
- * `cycles` is the distance of the move.
+ * The result of a move back or forward. `isDone` is false if the goal was not found, or if there is no move to undo. `hasChangedBoard` is
+ * true if the board has changed. `cycles` is the distance of the move.
  * @typedef {Omit<BackSearchResult, "moment" | "present"> & { isDone: boolean, hasChangedBoard: boolean, cycles: number }} BackResult
  *
  * The last change of a place: the number of cycles since the change, and the address of the instruction that made it (-1 for a typed line).
@@ -126,9 +126,9 @@ export class Debugger {
   constructor(session) {
     this.session = session;
     this.watches = new DataWatches([]);
-    this.arrivals = this.createStopFinder([]);
+    this.stopFinder = this.createStopFinder([]);
     this.commonMistakes = new CommonMistakes(session);
-    /** @type {import("../engine/key_queue.js").PlannedLine[] | null} lines that have run but are not yet checked for mistakes */
+    /** @type {import("../engine/key_queue.js").PlannedLine[] | null} lines that have run but have not been checked for mistakes */
     this.uncheckedLines = null;
     /** @type {CommonMistake[]} mistakes that were found after their lines had run, and are not yet reported */
     this.lateMistakes = [];
@@ -165,7 +165,7 @@ export class Debugger {
       return softBreakpoint;
     });
     this.names = names;
-    this.arrivals = this.createStopFinder(softBreakpoints);
+    this.stopFinder = this.createStopFinder(softBreakpoints);
     this.hardBreakpoints = new Map(breakpoints.filter((breakpoint) => !isSoft(breakpoint)).map(({ id, address }) => [address, id]));
     return { lines: this.breakLines(), errors };
   }
@@ -188,7 +188,7 @@ export class Debugger {
     const changeCounts = new Map(this.watches.watches.map(({ id, changeCount }) => [id, changeCount]));
     const { watches, errors } = compileWatches(requestedWatches, names);
     this.watches = new DataWatches(watches.map((watch) => ({ ...watch, changeCount: changeCounts.get(watch.id) || 0 })));
-    this.arrivals = new SoftStopFinder(this.arrivals.arrivals, this.watches, () => this.session.romBytes);
+    this.stopFinder = new SoftStopFinder(this.stopFinder.arrivals, this.watches, () => this.session.romBytes);
     return errors;
   }
 
@@ -227,14 +227,14 @@ export class Debugger {
     let plannedLines = session.queue.plan(cycles);
     const cyclesBeforeGoal = this.watcher ? cyclesToGoal(engine, file, plannedLines, this.watcher) : -1;
     if (cyclesBeforeGoal >= 0) plannedLines = truncateLines(plannedLines, cyclesBeforeGoal);
-    const events = this.arrivals.searchLines(engine, file, plannedLines);
+    const events = this.stopFinder.searchLines(engine, file, plannedLines);
     if (events.cycles >= 0) plannedLines = truncateLines(plannedLines, events.cycles);
     const checksLater = isUrgent && this.commonMistakes.stoppingKinds.size === 0 && session.recording === null;
     const foundMistakes = checksLater ? { mistakes: [], stop: -1 } : this.commonMistakes.searchLines(plannedLines);
     if (foundMistakes.stop >= 0) plannedLines = truncateLines(plannedLines, foundMistakes.stop);
     const countBefore = session.count.total;
     const frame = session.advanceBy(plannedLines);
-    this.arrivals.count(events);
+    this.stopFinder.count(events);
     this.uncheckedLines = checksLater ? plannedLines : null;
     const stop = this.findMistakeOrRecordingStop(frame, foundMistakes.stop) || this.findStop(frame, events, cyclesBeforeGoal);
     if (stop) this.endMove();
@@ -263,7 +263,7 @@ export class Debugger {
    * @param {number} cyclesToMistake the cycles before the mistake, -1 for none
    */
   findMistakeOrRecordingStop(frame, cyclesToMistake) {
-    if (cyclesToMistake >= 0 && frame.cycles === cyclesToMistake) return this.createStop("usual");
+    if (cyclesToMistake >= 0 && frame.cycles === cyclesToMistake) return this.createStop("mistake");
     const { recorder } = this.session;
     if (!recorder || !recorder.mustStopMachine || frame.end) return null;
     recorder.mustStopMachine = false;
@@ -323,14 +323,14 @@ export class Debugger {
    * Returns the tally of lines that have run, without the common mistakes that they made.
    * @param {BreakpointEvents} events the breakpoint events that were found in advance
    * @param {{ reason: string, id: number } | null} stop
-   * @param {number} before the cycle count before the lines
+   * @param {number} countBefore the cycle count before the lines
    * @returns {Tally}
    */
-  createTally({ hits, notes, noteCount, id }, stop, before) {
+  createTally({ hits, notes, noteCount, id }, stop, countBefore) {
     /** @type {[number, number][]} */
     const allHits = [...hits];
     if (stop && stop.reason === "break" && stop.id !== 0 && stop.id !== id) allHits.push([stop.id, 1]);
-    return { hits: allHits, notes: notes.map((note) => ({ ...note, cycles: before + note.cycles })), noteCount, mistakes: [] };
+    return { hits: allHits, notes: notes.map((note) => ({ ...note, cycles: countBefore + note.cycles })), noteCount, mistakes: [] };
   }
 
   // --- Moves ---
@@ -346,10 +346,11 @@ export class Debugger {
     this.beginMove();
     const { session } = this;
     const goal = this.compileGoal(requestedGoal);
-    const codes = () => session.romBytes;
-    const watcher = createWatcher(session.engine, session.file, goal, codes);
+    const readCodes = () => session.romBytes;
+    const watcher = createWatcher(session.engine, session.file, goal, readCodes);
     const endsAtReturn = watcher !== null && watcher.endsAtReturn;
-    const goalSearch = { ...await searchGoal(session.engine, session.file, goal, shouldContinue, maxDistance, codes), id: 0, endsAtReturn };
+    const goalResult = await searchGoal(session.engine, session.file, goal, shouldContinue, maxDistance, readCodes);
+    const goalSearch = { ...goalResult, id: 0, endsAtReturn };
     if (!watcher) return { searchResult: goalSearch, result: null, tally: NO_TALLY };
     const events = await this.searchStops(goalSearch.cycles, shouldContinue);
     if (goalSearch.end === "bound" && events.cycles < 0) {
@@ -360,7 +361,7 @@ export class Debugger {
     const searchResult = cycles < 0 ? { ...goalSearch, change: "" }
       : { cycles, isReached: false, end: events.reason, id, endsAtReturn, change };
     const result = await session.serve(runLines(Math.max(1, searchResult.cycles)), async () => true);
-    this.arrivals.count(events);
+    this.stopFinder.count(events);
     if (!searchResult.isReached && searchResult.id === 0) searchResult.id = this.breakpointIdAtStop(searchResult.end);
     return { searchResult, result, tally: this.createTally(events, { reason: searchResult.end, id: searchResult.id }, this.startTotal) };
   }
@@ -372,13 +373,13 @@ export class Debugger {
    */
   async searchStops(cycles, shouldContinue) {
     const allEvents = createEmptyEvents();
-    if (this.arrivals.isEmpty) return allEvents;
+    if (this.stopFinder.isEmpty) return allEvents;
     const { engine, file } = this.session;
     const copy = file.slice();
     for (let doneCycles = 0; doneCycles < cycles;) {
       const pieceCycles = Math.min(SEARCH_PIECE_CYCLES, cycles - doneCycles);
       const plannedLines = runLines(pieceCycles).trimEnd().split("\n").map((line) => ({ line, change: null }));
-      const events = this.arrivals.searchLines(engine, copy, plannedLines);
+      const events = this.stopFinder.searchLines(engine, copy, plannedLines);
       for (const [id, hits] of events.hits) allEvents.hits.set(id, (allEvents.hits.get(id) || 0) + hits);
       allEvents.notes = [...allEvents.notes, ...events.notes.map((note) => ({ ...note, cycles: note.cycles + doneCycles }))];
       allEvents.noteCount += events.noteCount;
@@ -400,17 +401,17 @@ export class Debugger {
    * @returns {Promise<{ result: LinesResult & { snapshot: string[] }, typedResult: TypedResult }>}
    */
   async serveTyped(lines, shouldContinue) {
-    const { session, arrivals } = this;
+    const { session, stopFinder } = this;
     const countBefore = session.count.total;
-    const { counts } = arrivals;
+    const { counts } = stopFinder;
     try {
-      const { lines: plannedLines, runs, ...stop } = await planTypedLines(session.engine, session.file, arrivals, lines, shouldContinue);
+      const { lines: plannedLines, runs, ...stop } = await planTypedLines(session.engine, session.file, stopFinder, lines, shouldContinue);
       const result = await session.serve(plannedLines, shouldContinue);
       this.commonMistakes.forgetRom();
       const tallies = runs.map(({ events, cyclesBefore }) => this.createTally(events, null, countBefore + cyclesBefore));
       return { result, typedResult: { ...stop, cycles: session.count.total - countBefore, tally: tallies.reduce(joinTallies, NO_TALLY) } };
     } catch (error) {
-      arrivals.restoreCounts(counts);
+      stopFinder.restoreCounts(counts);
       throw error;
     }
   }
@@ -439,11 +440,11 @@ export class Debugger {
   async goBack(goal, shouldContinue) {
     this.beginMove();
     const { session } = this;
-    const { moment, present: knownPresent, ...report } = await this.findBackTarget(goal, shouldContinue);
+    const { moment, present, ...report } = await this.findBackTarget(goal, shouldContinue);
     if (!moment) return { ...report, isDone: false, hasChangedBoard: false, cycles: 0 };
-    const present = knownPresent || await session.timeline.sessionAt(session.engine, moment, shouldContinue);
+    const sessionAtMoment = present || await session.timeline.sessionAt(session.engine, moment, shouldContinue);
     session.timeline.goBack(moment, session);
-    return { ...report, ...this.enterMoment(present) };
+    return { ...report, ...this.enterMoment(sessionAtMoment) };
   }
 
   /**
@@ -469,7 +470,7 @@ export class Debugger {
   stoppingBreakpoints() {
     const hardBreakpoints = this.hardBreakpoints || new Map(this.session.breakpointAddresses.map((address) => [address, 0]));
     const unconditionalFields = { from: 1, hits: 0, places: [], holds: () => true, noteText: null };
-    const softBreakpoints = this.arrivals.arrivals.breakpoints.filter(({ noteText }) => !noteText);
+    const softBreakpoints = this.stopFinder.arrivals.breakpoints.filter(({ noteText }) => !noteText);
     return [...[...hardBreakpoints].map(([address, id]) => ({ ...unconditionalFields, id, address })), ...softBreakpoints];
   }
 
@@ -495,21 +496,21 @@ export class Debugger {
    */
   goForward() {
     this.beginMove();
-    const present = this.session.timeline.goForward();
-    return present
-      ? { ...EMPTY_SEARCH_RESULT, ...this.enterMoment(present) }
+    const sessionAtMoment = this.session.timeline.goForward();
+    return sessionAtMoment
+      ? { ...EMPTY_SEARCH_RESULT, ...this.enterMoment(sessionAtMoment) }
       : { ...EMPTY_SEARCH_RESULT, isDone: false, hasChangedBoard: false, cycles: 0 };
   }
 
   /**
    * Replaces the state of the session with the state at another moment, but keeps the current breakpoints. Returns part of the result of
    * the move.
-   * @param {Present} present
+   * @param {SessionAtMoment} sessionAtMoment
    */
-  enterMoment(present) {
+  enterMoment(sessionAtMoment) {
     const { session } = this;
     const countBefore = session.count.total;
-    const hasChangedBoard = session.replaceState(present);
+    const hasChangedBoard = session.replaceState(sessionAtMoment);
     const lines = this.breakLines();
     if (lines) session.changeBreaks(lines);
     this.commonMistakes.forgetRom();
@@ -532,7 +533,7 @@ export class Debugger {
     let from = 0;
     return places.map((place, index) => {
       const values = answers.slice(from, from += probes[index].length);
-      return place && values.length > 0 ? place.value(values) : "";
+      return place && values.length > 0 ? place.textOf(values) : "";
     });
   }
 
@@ -543,6 +544,6 @@ export class Debugger {
   readPlaces(places) {
     if (places.length === 0) return [];
     const probes = new Probes(places);
-    return probes.take(new ForecastAnswers(this.session.ask(probes.lines)));
+    return probes.takeValues(new ForecastAnswers(this.session.ask(probes.lines)));
   }
 }

@@ -38,7 +38,7 @@ function pieceLines(watcher, cycles) {
 function searchAnswers(answers, watcher) {
   let doneCycles = 0;
   while (!answers.isEmpty) {
-    const result = watcher.take(answers);
+    const result = watcher.readAnswers(answers);
     doneCycles += result.cycles;
     if (result.isReached || result.end !== "end") return { ...result, cycles: doneCycles };
   }
@@ -53,12 +53,12 @@ function searchAnswers(answers, watcher) {
  * @param {(done: number) => Promise<boolean>} shouldContinue called after each piece with the number of cycles searched. If it resolves
  *   to false, `searchGoal` throws `CancelledError`
  * @param {number} maxCycles the maximum number of cycles to search
- * @param {() => Uint8Array} [codes] returns the contents of ROM
+ * @param {() => Uint8Array} [readCodes] returns the contents of ROM
  * @returns {Promise<SearchResult>}
  */
-export async function searchGoal(engine, file, goal, shouldContinue, maxCycles, codes) {
+export async function searchGoal(engine, file, goal, shouldContinue, maxCycles, readCodes) {
   const copy = file.slice();
-  const watcher = createWatcher(engine, file, goal, codes);
+  const watcher = createWatcher(engine, file, goal, readCodes);
   if (!watcher) return { cycles: 0, isReached: false, end: missingGoalEnd(goal) };
   if (watcher.setupLine) engine.serve(copy, watcher.setupLine, copy);
   const piece = new PieceSize(FIRST_PIECE_CYCLES, 1, MAX_PIECE_CYCLES);
@@ -100,7 +100,7 @@ export function cyclesToGoal(engine, file, plannedLines, watcher) {
       answers.take();
       continue;
     }
-    const result = watcher.take(answers);
+    const result = watcher.readAnswers(answers);
     doneCycles += result.cycles;
     if (result.isReached) return doneCycles;
     if (result.end !== "end") return -1;
@@ -116,13 +116,13 @@ export function cyclesToGoal(engine, file, plannedLines, watcher) {
  */
 export function truncateLines(plannedLines, cycles) {
   /** @type {PlannedLine[]} */
-  const result = [];
+  const truncatedLines = [];
   let cyclesLeft = cycles;
   for (const plannedLine of plannedLines) {
     const lineCycles = plannedCycles(plannedLine);
     if (cyclesLeft === 0) break;
-    result.push(lineCycles > cyclesLeft ? { line: `run ${cyclesLeft}`, change: null } : plannedLine);
+    truncatedLines.push(lineCycles > cyclesLeft ? { line: `run ${cyclesLeft}`, change: null } : plannedLine);
     cyclesLeft -= Math.min(lineCycles, cyclesLeft);
   }
-  return result;
+  return truncatedLines;
 }

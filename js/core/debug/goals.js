@@ -29,10 +29,10 @@ import { becomesTrue } from "./condition_search.js";
  * @typedef {{ cycles: number, isReached: boolean, end: string }} SearchResult
  *
  * The watcher of a goal. `setupLine`: a bench line to send once before all runs, "" for none. `maxRun`: returns the maximum length of the
- * next run in cycles. `queriesBefore`: returns the queries before a run. `queriesAfter`: the queries after a run. `take`: reads the answers
- * to the queries and to the run, and returns the result. `endsAtReturn`: true if a return from a subroutine reaches the goal.
+ * next run in cycles. `queriesBefore`: returns the queries before a run. `queriesAfter`: the queries after a run. `readAnswers`: reads the
+ * answers to the queries and to the run, and returns the result. `endsAtReturn`: true if a return from a subroutine reaches the goal.
  * @typedef {{ setupLine: string, maxRun: () => number, queriesBefore: (cycles: number) => string, queriesAfter: string,
- *   take: (answers: ForecastAnswers) => SearchResult, endsAtReturn: boolean }} Watcher
+ *   readAnswers: (answers: ForecastAnswers) => SearchResult, endsAtReturn: boolean }} Watcher
  */
 
 /** The maximum length of a piece of a search, in cycles. */
@@ -60,7 +60,7 @@ function traceWatcher(places, cyclesToGoal) {
     maxRun: () => MAX_PIECE_CYCLES,
     queriesBefore: (cycles) => `trace ${cycles}${places}\n`,
     queriesAfter: "",
-    take: (answers) => {
+    readAnswers: (answers) => {
       const { lines } = answers.takeTrace();
       const run = answers.takeRun();
       for (const line of lines) {
@@ -84,7 +84,7 @@ function conditionWatcher(condition) {
   const watcher = traceWatcher(` ${condition.places.join(" ")}`, () => -1);
   return {
     ...watcher,
-    take: (answers) => {
+    readAnswers: (answers) => {
       const { row, lines } = answers.takeTrace();
       const run = answers.takeRun();
       if (lastRow !== "" && becomesTrue(condition, lastRow, row)) return { cycles: 1, isReached: true, end: "" };
@@ -130,7 +130,7 @@ function countWatcher(count, isSecondCyclePending) {
     maxRun: () => instructionsLeft,
     queriesBefore: (cycles) => `count ${cycles}\n`,
     queriesAfter: "regs\n",
-    take: (answers) => {
+    readAnswers: (answers) => {
       const startedCount = answers.takeCounts().reduce((sum, instruction) => sum + instruction.startCount, 0);
       const run = answers.takeRun();
       const isNowSecondCyclePending = parseCounter(answers.take()).isSecondCyclePending;
@@ -159,7 +159,7 @@ function addressWatcher(engine, file, address) {
     maxRun: () => MAX_PIECE_CYCLES,
     queriesBefore: () => "",
     queriesAfter: "regs\n",
-    take: (answers) => {
+    readAnswers: (answers) => {
       const run = answers.takeRun();
       const { counter, isSecondCyclePending } = parseCounter(answers.take());
       return !isSecondCyclePending && counter === address ? { cycles: run.cycles, isReached: true, end: "" } : { ...run, isReached: false };
@@ -203,10 +203,10 @@ export function missingGoalEnd(goal) {
  * @param {Engine} engine
  * @param {Uint8Array} file the session file; not changed
  * @param {Goal} goal
- * @param {() => Uint8Array} [codes] returns the contents of ROM
+ * @param {() => Uint8Array} [readCodes] returns the contents of ROM
  * @returns {Watcher | null} null if the goal does not exist in the current state
  */
-export function createWatcher(engine, file, goal, codes = () => romCodes(engine, file)) {
+export function createWatcher(engine, file, goal, readCodes = () => romCodes(engine, file)) {
   if (goal.kind === "here") return addressWatcher(engine, file, goal.address);
   if (goal.kind === "change") {
     const place = parsePlace(goal.place);
@@ -217,6 +217,6 @@ export function createWatcher(engine, file, goal, codes = () => romCodes(engine,
   const [regs] = engine.ask(file, "regs\n").answers;
   const { counter, isSecondCyclePending } = parseCounter(regs);
   if (goal.kind === "count") return countWatcher(goal.count, isSecondCyclePending);
-  if (goal.kind === "out") return isInSubroutine(regs, codes()) ? returnWatcher(codes(), -1) : null;
-  return isSecondCyclePending || !isCall(codes()[counter]) ? countWatcher(1, isSecondCyclePending) : returnWatcher(codes(), 0);
+  if (goal.kind === "out") return isInSubroutine(regs, readCodes()) ? returnWatcher(readCodes(), -1) : null;
+  return isSecondCyclePending || !isCall(readCodes()[counter]) ? countWatcher(1, isSecondCyclePending) : returnWatcher(readCodes(), 0);
 }

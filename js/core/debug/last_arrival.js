@@ -12,7 +12,7 @@ import { parseCounter } from "./goals.js";
  * @typedef {import("../engine/past_search.js").BackSearchResult} BackSearchResult
  * @typedef {import("../engine/past_search.js").Finder} Finder
  * @typedef {import("../engine/timeline.js").ShouldContinue} ShouldContinue
- * @typedef {import("../engine/timeline.js").SessionAtMoment} Present
+ * @typedef {import("../engine/timeline.js").SessionAtMoment} SessionAtMoment
  * @typedef {import("../engine/replay_units.js").Unit} Unit
  * @typedef {import("../engine/worker_session.js").WorkerSession} WorkerSession
  * @typedef {import("./arrivals.js").SoftBreakpoint} SoftBreakpoint
@@ -42,13 +42,13 @@ class LastArrivalFinder {
 
   /**
    * Starts the replay at a past moment, on a copy of the session with the current breakpoints.
-   * @param {Present} present
+   * @param {SessionAtMoment} sessionAtMoment
    */
   begin({ file, count }) {
     const { engine, arrivals } = this;
     const [breaks, watches] = engine.ask(file, "breaks\nwatches\n").answers.map(readItems);
     const removalLines = [
-      ...breaks.map((address) => `unbreak 0x${address}\n`), ...watches.map((item) => `unwatch ${item.replace(".", " 0x")}\n`)];
+      ...breaks.map((address) => `unbreak 0x${address}\n`), ...watches.map((watch) => `unwatch ${watch.replace(".", " 0x")}\n`)];
     this.fileCopy = file.slice();
     engine.serve(this.fileCopy, removalLines.join("") + arrivals.setupLines, this.fileCopy);
     this.totalCycles = count.total;

@@ -55,16 +55,17 @@ function findSteppedLine({ registers: before }, { registers: after }, cycles, ma
 /** The changes that the last executed source lines made to the machine state. */
 export class LineChanges {
   constructor() {
-    /** @type {MachineState | null} the state at the last pause; `cycles` is the cycle count at that pause */
-    this.before = null;
-    this.cycles = 0;
+    /** @type {MachineState | null} the state at the last pause; null before the first pause */
+    this.lastState = null;
+    /** The cycle count at the last pause. */
+    this.lastCycles = 0;
     /** @type {Map<number, string>} the descriptions of changes, by line number */
     this.lines = new Map();
   }
 
   /** Forgets the last pause and all changes. */
   forget() {
-    this.before = null;
+    this.lastState = null;
     this.lines = new Map();
   }
 
@@ -75,17 +76,17 @@ export class LineChanges {
    * @param {SourceMap | null} map the source map of the program in ROM; null if the source is unknown
    */
   addPause(machineState, cycles, map) {
-    const { before } = this;
-    const elapsedCycles = cycles - this.cycles;
-    this.before = machineState;
-    this.cycles = cycles;
-    if (before && map && elapsedCycles === 0) return;
-    const line = before && map && elapsedCycles > 0 ? findSteppedLine(before, machineState, elapsedCycles, map) : 0;
-    if (!before || line === 0) {
+    const { lastState } = this;
+    const elapsedCycles = cycles - this.lastCycles;
+    this.lastState = machineState;
+    this.lastCycles = cycles;
+    if (lastState && map && elapsedCycles === 0) return;
+    const line = lastState && map && elapsedCycles > 0 ? findSteppedLine(lastState, machineState, elapsedCycles, map) : 0;
+    if (!lastState || line === 0) {
       this.lines = new Map();
       return;
     }
     const lines = [...this.lines].filter(([reportedLine]) => reportedLine !== line);
-    this.lines = new Map([...lines, /** @type {[number, string]} */ ([line, describeChanges(before, machineState)])].slice(-MAX_LINES));
+    this.lines = new Map([...lines, /** @type {[number, string]} */ ([line, describeChanges(lastState, machineState)])].slice(-MAX_LINES));
   }
 }

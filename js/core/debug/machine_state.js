@@ -37,7 +37,7 @@ export class MachineState {
   /** @returns {Map<number, Ram>} the contents of the banks, by bank number */
   get ram() {
     if (!this.parsedRam) {
-      const bankNumbers = this.ports.srcBytes.slice(1).map((item) => Number(item.split(".")[0]));
+      const bankNumbers = this.ports.srcBytes.slice(1).map((latchedByte) => Number(latchedByte.split(".")[0]));
       this.parsedRam = new Map(this.banks.map((answer, index) => [bankNumbers[index], readRam(answer.split("\n"))]));
     }
     return this.parsedRam;
@@ -58,8 +58,9 @@ export class MachineState {
    * @param {number} [bank]
    */
   latchedSrcByte(bank = this.bank) {
-    const latchedItem = this.ports.srcBytes.slice(1).map((item) => item.split(".")).find(([number]) => Number(number) === bank);
-    return latchedItem && parseInt(latchedItem[1], 16);
+    const banksAndBytes = this.ports.srcBytes.slice(1).map((latchedByte) => latchedByte.split("."));
+    const latchedParts = banksAndBytes.find(([number]) => Number(number) === bank);
+    return latchedParts && parseInt(latchedParts[1], 16);
   }
 
   /**
@@ -138,8 +139,8 @@ export class MachineState {
     /** @type {Map<string, string>} */
     const values = new Map([["acc", registers.accumulator], ["cy", registers.carry], ["dcl", registers.bank]]);
     registers.registers.forEach((value, index) => values.set(`R${index}`, value));
-    for (const item of ports.srcBytes) {
-      const [bank, byte] = item.split(".");
+    for (const latchedByte of ports.srcBytes) {
+      const [bank, byte] = latchedByte.split(".");
       values.set(byte === undefined ? "SRC" : say.srcOfBank(bank), byte === undefined ? bank : byte);
     }
     for (const [bank, ram] of this.ram) {

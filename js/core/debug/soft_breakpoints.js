@@ -36,7 +36,7 @@ function compileBracedText(text, names) {
   const lamp = names.face.lampNumbers.get(text.trim());
   const place = parsePlace(lamp === undefined ? text : `lamp ${lamp}`);
   const probes = place ? place.probesOn(names.board) : [];
-  if (place && probes.length > 0) return { note: { places: probes, textOf: place.value }, error: "", column: -1 };
+  if (place && probes.length > 0) return { note: { places: probes, textOf: place.textOf }, error: "", column: -1 };
   if (place) return { note: null, error: boardLacks(place.name), column: 0 };
   const { expression, error, column } = compileExpression(text, names);
   return expression ? { note: { places: expression.places, textOf: expression.textOf }, error: "", column: -1 }

@@ -57,8 +57,8 @@ export class SrcSelection {
    * @param {string} state the answer to `state`
    */
   readLatchedBytes(state) {
-    for (const item of parseItems(stateValue(state, "banks"))) {
-      const [bank, byte] = item.split(".");
+    for (const latchedByte of parseItems(stateValue(state, "banks"))) {
+      const [bank, byte] = latchedByte.split(".");
       this.latchedBytes.set(Number(bank), parseInt(byte, 16));
     }
   }
@@ -105,9 +105,9 @@ export class SrcSelection {
     const port = this.portMasks.get(chip);
     const isWrite = name === "WRR";
     const action = say.romAccess(name, isWrite, chip);
-    if (port === undefined) return isWrite ? { kind: "chip", message: say.missingPartMessage(action, this.description) } : null;
-    if (isWrite && !/[01]/.test(port)) return { kind: "lines", message: say.noOutputsMessage(action, this.description) };
-    if (!isWrite && !port.includes("i")) return { kind: "lines", message: say.noInputsMessage(action, this.description) };
+    if (port === undefined) return isWrite ? { kind: "chip", message: say.missingPartMessage(action, this.lastSrcText) } : null;
+    if (isWrite && !/[01]/.test(port)) return { kind: "lines", message: say.noOutputsMessage(action, this.lastSrcText) };
+    if (!isWrite && !port.includes("i")) return { kind: "lines", message: say.noInputsMessage(action, this.lastSrcText) };
     const lastChip = this.lastChips.get(address);
     const otherKind = [...this.instructionKinds].find((instructionKind) => instructionKind !== name);
     if (otherKind === undefined || lastChip === undefined || lastChip === chip) return null;
@@ -116,7 +116,7 @@ export class SrcSelection {
   }
 
   /** A part of a message that names the address of the last SRC; "" before the first SRC. */
-  get description() {
+  get lastSrcText() {
     return this.srcAddress < 0 ? "" : say.lastSrcSuffix(hex(this.srcAddress, 3));
   }
 
@@ -131,6 +131,6 @@ export class SrcSelection {
     const chip = (this.latchedBytes.get(bank) || 0) >> 6;
     if (chip < chips) return null;
     const chipText = chips === 0 ? say.bankWithoutRam(bank) : say.chipOfBank(chip, bank, chips);
-    return { kind: "chip", message: say.writesTo(name, chipText, this.description) };
+    return { kind: "chip", message: say.writesTo(name, chipText, this.lastSrcText) };
   }
 }

@@ -13,7 +13,7 @@ import { MAX_RUN_CYCLES } from "../engine/key_queue.js";
  * @typedef {import("./data_watches.js").SoftStopFinder} SoftStopFinder
  * @typedef {import("./arrivals.js").BreakpointEvents} BreakpointEvents
  *
- * The plan. `lines`: the lines to execute. `runs`: the breakpoint events of each run, and the number of cycles before the run. If a
+ * A plan for typed lines. `lines`: the lines to execute. `runs`: the breakpoint events and the preceding cycles of each run. If a
  * breakpoint ends the last line early, `id` is the id of the breakpoint, `cutLine` is the line as typed, and `reason` and `change` have the
  * same meaning as in `BreakpointEvents`. Otherwise `id` is 0, and `cutLine`, `reason` and `change` are "".
  * @typedef {{ lines: string, runs: { events: BreakpointEvents, cyclesBefore: number }[], id: number, cutLine: string, reason: string,
@@ -33,15 +33,15 @@ function runCycles(input) {
  * Plans typed lines. Throws CancelledError if `shouldContinue` resolves to false.
  * @param {Engine} engine
  * @param {Uint8Array} file the session file; not changed
- * @param {SoftStopFinder} arrivals finds the stops of the machine, and counts hits and changes
+ * @param {SoftStopFinder} stopFinder finds the stops of the machine, and counts hits and changes
  * @param {string} lines
  * @param {(done: number) => Promise<boolean>} shouldContinue called with the number of planned characters; resolves to true to continue
  * @returns {Promise<TypedPlan>}
  */
-export async function planTypedLines(engine, file, arrivals, lines, shouldContinue) {
+export async function planTypedLines(engine, file, stopFinder, lines, shouldContinue) {
   /** @type {TypedPlan} */
   const plan = { lines: "", runs: [], id: 0, cutLine: "", reason: "", change: "" };
-  if (arrivals.isEmpty || !/\brun\b/.test(lines)) return { ...plan, lines };
+  if (stopFinder.isEmpty || !/\brun\b/.test(lines)) return { ...plan, lines };
   const copy = file.slice();
   let [pendingLines, doneCycles] = ["", 0];
   for (let offset = 0; offset < lines.length;) {
@@ -54,11 +54,11 @@ export async function planTypedLines(engine, file, arrivals, lines, shouldContin
     if (cycles > 0) {
       const linesBefore = pendingLines.slice(0, -servedLines.length);
       if (linesBefore) engine.serve(copy, linesBefore, copy);
-      const events = arrivals.searchLines(engine, copy, [{ line: `run ${cycles}`, change: null }]);
+      const events = stopFinder.searchLines(engine, copy, [{ line: `run ${cycles}`, change: null }]);
       const { id, reason, change } = events;
       if (events.cycles >= 0) [servedLines, plan.cutLine] = [`run ${events.cycles}\n`, input.line.trim()];
       if (events.cycles >= 0) Object.assign(plan, { id, reason, change });
-      arrivals.count(events);
+      stopFinder.count(events);
       plan.runs.push({ events, cyclesBefore: doneCycles });
       const run = readRun(engine.serve(copy, servedLines, copy).answers[0]);
       doneCycles += run ? run.cycles : 0;

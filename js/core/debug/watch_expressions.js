@@ -1,7 +1,7 @@
 // Parses watch expressions, to which the user can give names: `count = R5`, `digit = ram 0 0x12`, `r5 + 1 > limit`.
 //
 //     const { watch, error } = parseWatch("digit = ram 0 0x12", names);
-//     watch.pieces(machineState, names)    the current value as pieces (word_values.js)
+//     watch.readPieces(machineState, names)    the current value as pieces (word_values.js)
 
 import { compileExpression } from "../conditions/condition_language.js";
 import { KEYWORDS, parseExpression } from "../conditions/parser.js";
@@ -17,9 +17,10 @@ import * as say from "../../words/debug.js";
  * @typedef {import("./word_values.js").Piece} Piece
  * @typedef {import("../conditions/condition_language.js").Names} Names
  *
- * A watch expression. `name` is the name that the user gave, or else the expression. `text` is the saved text. `value` is the expression
- * without the name. `place` is the name of a RAM or status character, "" for any other expression. `pieces` returns the current value.
- * @typedef {{ name: string, text: string, place: string, value: string, pieces: ValueReader }} WatchExpression
+ * A watch expression. `name` is the name that the user gave, or else the expression. `text` is the saved text. `expression` is the
+ * expression without the name. `place` is the name of a RAM or status character, "" for any other expression. `readPieces` returns the
+ * current value.
+ * @typedef {{ name: string, text: string, place: string, expression: string, readPieces: ValueReader }} WatchExpression
  *
  * A function that returns the value of a watch expression in a machine state, as pieces of text.
  * @typedef {(machineState: MachineState, names: Names) => Piece[]} ValueReader
@@ -108,7 +109,7 @@ function portReader(place) {
 function placeReader(place) {
   return (machineState, { board }) => {
     const probes = place.probesOn(board);
-    return [probes.length === 0 ? say.BOARD_LACKS_IT : place.value(probes.map((probe) => readPlaceValue(probe, machineState, board)))];
+    return [probes.length === 0 ? say.BOARD_LACKS_IT : place.textOf(probes.map((probe) => readPlaceValue(probe, machineState, board)))];
   };
 }
 
@@ -122,39 +123,39 @@ function expressionReader(text) {
     const { expression, error } = compileExpression(text, names);
     if (!expression) return [error];
     const answers = expression.places.map((place) => readPlaceValue(place, machineState, names.board));
-    const number = expression.number ? expression.number(answers) : 0;
+    const number = expression.numberOf ? expression.numberOf(answers) : 0;
     const value = expression.textOf(answers);
     return [number > MAX_DECIMAL_ONLY_VALUE && /^\d+$/.test(value) ? say.withHex(value, number.toString(16).toUpperCase()) : value];
   };
 }
 
 /**
- * Splits a watch expression into its name and its value. `column` is the index at which the value starts. `count = R5` has the name
- * `count`. `r5 = 10` is a comparison and has no name.
+ * Splits the text of a watch into its name and its expression. `column` is the index at which the expression starts. `count = R5` has the
+ * name `count`. `r5 = 10` is a comparison and has no name.
  * @param {string} text
  */
 function splitWatchExpression(text) {
-  const [, name, value] = /^\s*([^\s=<>!&+()-]*)\s*=(?!=)\s*(.*?)\s*$/.exec(text) || [];
+  const [, name, expression] = /^\s*([^\s=<>!&+()-]*)\s*=(?!=)\s*(.*?)\s*$/.exec(text) || [];
   // `x = 5` is a comparison: a watch that names a constant would be useless.
   const isComparison = name === undefined || KEYWORDS.has(name.toLowerCase()) || /^(test|owed)$/i.test(name) || parsePlace(name) !== null
-    || !Number.isNaN(parseNumeral(value));
-  if (isComparison) return { name: "", value: text.trim(), column: text.length - text.trimStart().length };
-  return { name, value, column: text.trimEnd().length - value.length };
+    || !Number.isNaN(parseNumeral(expression));
+  if (isComparison) return { name: "", expression: text.trim(), column: text.length - text.trimStart().length };
+  return { name, expression, column: text.trimEnd().length - expression.length };
 }
 
 /**
  * Returns the error message for an expression, with a column; "" if there is no error. If `names` is null, checks only the syntax.
- * @param {string} value
+ * @param {string} text the expression
  * @param {number} startColumn the column at which the expression starts
  * @param {Names | null} names
  */
-function expressionError(value, startColumn, names) {
+function expressionError(text, startColumn, names) {
   if (names) {
-    const { error, column } = compileExpression(value, names);
+    const { error, column } = compileExpression(text, names);
     return error && errorInColumn(error, startColumn + column);
   }
   try {
-    parseExpression(value);
+    parseExpression(text);
     return "";
   } catch (error) {
     if (error instanceof ConditionError) return errorInColumn(error.message, startColumn + Math.max(0, error.column));
@@ -170,29 +171,30 @@ function expressionError(value, startColumn, names) {
  */
 export function parseWatch(text, names = null) {
   if (text.length > MAX_LENGTH) return { watch: null, error: say.tooLongMessage(MAX_LENGTH) };
-  const { name, value, column } = splitWatchExpression(text);
+  const { name, expression, column } = splitWatchExpression(text);
   if (name !== "" && !NAME.test(name)) return { watch: null, error: say.NAME_SYNTAX };
-  if (value === "") return { watch: null, error: say.EXPRESSION_MISSING };
-  const place = parsePlace(value);
-  const error = place ? "" : expressionError(value, column, names);
+  if (expression === "") return { watch: null, error: say.EXPRESSION_MISSING };
+  const place = parsePlace(expression);
+  const error = place ? "" : expressionError(expression, column, names);
   if (error) return { watch: null, error };
   const placeName = place ? place.name : "";
-  const pieces = registerReader(placeName) || portReader(placeName) || memoryReader(placeName)
-    || (place ? placeReader(place) : expressionReader(value));
+  const readPieces = registerReader(placeName) || portReader(placeName) || memoryReader(placeName)
+    || (place ? placeReader(place) : expressionReader(expression));
   const character = /^(ram|st)\./.test(placeName) ? placeName : "";
-  return { watch: { name: name || value, text: name ? `${name} = ${value}` : value, place: character, value, pieces }, error: "" };
+  const watchText = name ? `${name} = ${expression}` : expression;
+  return { watch: { name: name || expression, text: watchText, place: character, expression, readPieces }, error: "" };
 }
 
 /**
  * Parses saved watch expressions, which can be invalid data. `error` is the first error message, "" for none.
  * @param {unknown} texts
- * @returns {{ all: WatchExpression[], error: string }}
+ * @returns {{ watches: WatchExpression[], error: string }}
  */
 export function parseWatches(texts) {
-  if (!Array.isArray(texts)) return { all: [], error: "" };
+  if (!Array.isArray(texts)) return { watches: [], error: "" };
   const results = texts.slice(0, MAX_WATCH_EXPRESSIONS).flatMap((text) => (typeof text === "string" ? [parseWatch(text)] : []));
   const failedResult = results.find(({ error }) => error !== "");
-  return { all: results.flatMap(({ watch }) => (watch ? [watch] : [])), error: failedResult ? failedResult.error : "" };
+  return { watches: results.flatMap(({ watch }) => (watch ? [watch] : [])), error: failedResult ? failedResult.error : "" };
 }
 
 /**
@@ -201,5 +203,5 @@ export function parseWatches(texts) {
  * @returns {Map<string, string>}
  */
 export function collectWatchNames(texts) {
-  return new Map(parseWatches(texts).all.filter(({ name, text }) => name !== text).map(({ name, value }) => [name, value]));
+  return new Map(parseWatches(texts).watches.filter(({ name, text }) => name !== text).map(({ name, expression }) => [name, expression]));
 }

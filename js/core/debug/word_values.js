@@ -13,15 +13,15 @@ import * as say from "../../words/debug.js";
  * @typedef {import("../text/assembly.js").Parts} Parts
  *
  * An editable value: its `poke` place, its title, and its text.
- * @typedef {{ place: string, name: string, value: string }} Value
- * @typedef {string | Value} Piece
+ * @typedef {{ place: string, name: string, value: string }} EditableValue
+ * @typedef {string | EditableValue} Piece
  *
  * A name in the program, which is a label or a constant: its value, and its description.
  * @typedef {{ value: number, isLabel: boolean, description: string }} NamedValue
  *
  * Two functions that explain the words of a program. `nameOf` returns the named value; undefined for any other word. `describeInstruction`
  * returns the description of an instruction; "" for any other word.
- * @typedef {{ nameOf: (name: string) => NamedValue | undefined, describeInstruction: (word: string) => string }} Program
+ * @typedef {{ nameOf: (name: string) => NamedValue | undefined, describeInstruction: (word: string) => string }} WordLookup
  */
 
 /** Matches the mnemonic of an instruction that uses a status character, and captures the number of this character. */
@@ -43,7 +43,7 @@ export function joinPieces(pieces) {
  * Returns the value of a register.
  * @param {number} number the register number
  * @param {MachineState} machineState
- * @returns {Value}
+ * @returns {EditableValue}
  */
 function registerValue(number, machineState) {
   return { place: `r${number}`, name: `R${number}`, value: machineState.register(number) };
@@ -54,7 +54,7 @@ function registerValue(number, machineState) {
  * @param {string} place `acc` or `cy`
  * @param {string} name the title
  * @param {MachineState} machineState
- * @returns {Value}
+ * @returns {EditableValue}
  */
 function accumulatorOrCarryValue(place, name, { registers }) {
   return { place, name, value: place === "acc" ? registers.accumulator : registers.carry };
@@ -151,9 +151,9 @@ function instructionPieces(name, description, parts, machineState) {
   const pieces = selectedPieces(name, machineState);
   if (!ACCUMULATOR_WORD.test(description)) return pieces;
   /** @type {Piece[]} */
-  const accumulator = [
+  const accumulatorPieces = [
     "acc ", accumulatorOrCarryValue("acc", "acc", machineState), ", cy ", accumulatorOrCarryValue("cy", "cy", machineState)];
-  return pieces.length > 0 ? [...pieces, "; ", ...accumulator] : accumulator;
+  return pieces.length > 0 ? [...pieces, "; ", ...accumulatorPieces] : accumulatorPieces;
 }
 
 /**
@@ -177,7 +177,7 @@ function numberPieces(numberText, value, { head }, machineState) {
  * @param {string} text the line
  * @param {number} index the index of a character of the word
  * @param {MachineState} machineState
- * @param {Program} program
+ * @param {WordLookup} lookup
  * @returns {Piece[]}
  */
 export function valuesAt(text, index, machineState, { nameOf, describeInstruction }) {

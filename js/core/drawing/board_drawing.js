@@ -28,7 +28,7 @@ import * as say from "../../words/drawing.js";
  */
 
 /**
- * The callbacks of the board editor, to the text editor and to the bench.
+ * The functions with which the board editor uses the text editor and the bench.
  * @typedef {object} DrawingCallbacks
  * @property {() => string} text Returns the board text in the editor.
  * @property {(lines: string) => Promise<string[]>} ask Resolves to the bench's answers to lines, without changing the session.

@@ -42,7 +42,7 @@ import * as say from "../../words/drawing.js";
  *
  * The result of an action: the edits in order, the text after all edits, the affected part ("" for none), a message, and the
  * numbers of the deleted chains. If the action is impossible, `refusal` is a message and there are no edits; otherwise `refusal` is "".
- * @typedef {{ edits: TextEdit[], text: string, part: string, message: string, deletedChains: number[], refusal: string }} Result
+ * @typedef {{ edits: TextEdit[], text: string, part: string, message: string, deletedChains: number[], refusal: string }} ActionResult
  */
 
 /** @type {ShelfPart[]} the kinds of parts on the shelf, in order */
@@ -289,7 +289,7 @@ function findNewPanelError(textBefore, textAfter) {
  * Performs an action on a board text, and returns the result.
  * @param {string} text
  * @param {DrawingAction} action
- * @returns {Result}
+ * @returns {ActionResult}
  */
 export function applyAction(text, action) {
   const unchangedResult = { edits: [], text, part: "", message: "", deletedChains: [] };

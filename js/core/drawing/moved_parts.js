@@ -19,7 +19,7 @@ export class MovedParts {
     this.positions = new Map();
     /** @type {Deletion[]} the recorded edits that delete chains */
     this.deletions = [];
-    /** True if positions have changed since the last call of `takeChanges`. */
+    /** True if positions have changed since the last call of `hasNewChanges`. */
     this.hasChanged = false;
   }
 
@@ -58,7 +58,7 @@ export class MovedParts {
   }
 
   /** Returns whether positions have changed since the previous call. */
-  takeChanges() {
+  hasNewChanges() {
     const { hasChanged } = this;
     this.hasChanged = false;
     return hasChanged;

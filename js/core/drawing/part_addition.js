@@ -335,7 +335,7 @@ function ensureSegmentBits(editedBoard, count) {
 }
 
 /**
- * Throws `ImpossibleAction` if an action takes an output line away from the buzzer or the printer.
+ * Throws `ImpossibleAction` if the buzzer or the printer would lose its output line.
  * @param {EditedBoard} editedBoard
  * @param {(line: string) => boolean} isLost returns whether a line is no longer an output after the action
  */

@@ -86,7 +86,7 @@ function addDependents(board, face, deletedParts) {
  * @param {EditedBoard} editedBoard
  * @param {DeletedParts} deletedParts
  */
-function removeAll(editedBoard, deletedParts) {
+function removeDeletedParts(editedBoard, deletedParts) {
   const { matrix } = editedBoard.board;
   if (deletedParts.lamps.size > 0) removeLamps(editedBoard, deletedParts.lamps);
   if (deletedParts.keys && matrix) removeKeys(editedBoard);
@@ -248,7 +248,7 @@ export function deletePart(editedBoard, part) {
   const face = new Face(editedBoard.text);
   for (let pass = 0; pass < 2; pass++) addDependents(board, face, deletedParts);
   const description = describeDependents(board, deletedParts, part);
-  removeAll(editedBoard, deletedParts);
+  removeDeletedParts(editedBoard, deletedParts);
   return description;
 }
 

@@ -7,10 +7,10 @@ import * as say from "../../words/key_scan.js";
  * @typedef {import("../bench/answers.js").Board} Board
  * @typedef {import("../bench/answers.js").Matrix} Matrix
  *
- * The port of a signal line. `bank`: the RAM bank that DCL must select, or -1 for a ROM port. `source`: the byte that SRC must send to
+ * The port of a signal line. `bank`: the RAM bank that DCL must select, or -1 for a ROM port. `srcByte`: the byte that SRC must send to
  * select the port. `write`: the instruction that writes to the port. `title`: the name of the port in comments. `bit`: the value of the
  * line's bit in the port (1, 2, 4 or 8).
- * @typedef {{ bank: number, source: number, write: string, title: string, bit: number }} Port
+ * @typedef {{ bank: number, srcByte: number, write: string, title: string, bit: number }} Port
  *
  * A source line: its label ("" for none), the words of its instruction (mnemonic and operands), and its comment.
  * @typedef {[label: string, instruction: string[], comment?: string]} Line
@@ -30,8 +30,8 @@ const REGISTER_VALUES = 16;
 function portForLine(line) {
   const numbers = line.slice(3).split(".").map(Number);
   const bit = 2 ** numbers[numbers.length - 1];
-  if (line.startsWith("rom")) return { bank: -1, source: numbers[0] * 16, write: "WRR", title: say.romPort(numbers[0]), bit };
-  return { bank: numbers[0], source: numbers[1] * 64, write: "WMP", title: say.ramPort(numbers[0], numbers[1]), bit };
+  if (line.startsWith("rom")) return { bank: -1, srcByte: numbers[0] * 16, write: "WRR", title: say.romPort(numbers[0]), bit };
+  return { bank: numbers[0], srcByte: numbers[1] * 64, write: "WMP", title: say.ramPort(numbers[0], numbers[1]), bit };
 }
 
 /** @type {(left: Port, right: Port) => boolean} returns whether two signal lines belong to one port */
@@ -45,10 +45,10 @@ const hexByte = (byte) => `0x${byte.toString(16).toUpperCase().padStart(2, "0")}
  * @param {Port} port
  * @returns {Line[]}
  */
-function selectionLines({ bank, source, title }) {
+function selectionLines({ bank, srcByte, title }) {
   /** @type {Line[]} */
   const bankLines = bank < 0 ? [] : [["", ["LDM", String(bank)]], ["", ["DCL"]]];
-  return [...bankLines, ["", ["FIM", "P0,", hexByte(source)], title], ["", ["SRC", "P0"]]];
+  return [...bankLines, ["", ["FIM", "P0,", hexByte(srcByte)], title], ["", ["SRC", "P0"]]];
 }
 
 /**
@@ -102,13 +102,13 @@ function firstRowLines(first, labels) {
  */
 function columnLines(columns, labels) {
   const ports = columns.map(portForLine);
-  const chips = ports.filter((port, index) => ports.findIndex((candidate) => isSamePort(candidate, port)) === index);
-  return chips.flatMap((chip) => {
+  const distinctPorts = ports.filter((port, index) => ports.findIndex((candidate) => isSamePort(candidate, port)) === index);
+  return distinctPorts.flatMap((distinctPort) => {
     /** @type {Line[]} */
-    const lines = [...selectionLines(chip), ["", ["RDR"]]];
+    const lines = [...selectionLines(distinctPort), ["", ["RDR"]]];
     let bit = 1 / 2;
-    const chipColumns = ports.map((port, column) => ({ ...port, column })).filter((port) => isSamePort(port, chip));
-    for (const { bit: columnBit, column } of chipColumns.sort((a, b) => a.bit - b.bit)) {
+    const portColumns = ports.map((port, column) => ({ ...port, column })).filter((port) => isSamePort(port, distinctPort));
+    for (const { bit: columnBit, column } of portColumns.sort((a, b) => a.bit - b.bit)) {
       if (columnBit === bit) continue;
       for (; bit < columnBit; bit *= 2) lines.push(["", ["RAR"]]);
       lines.push(["", ["JCN", "2,", labels.labelFor(String(column))], say.columnInCarry(column)]);

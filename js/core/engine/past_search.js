@@ -118,7 +118,7 @@ export class LastChangeFinder {
   changeBetween(rowBefore, rowAfter) {
     const { place } = this;
     if (!place) return null;
-    const [from, to] = [rowBefore, rowAfter].map((row) => place.value(rowValues(row)));
+    const [from, to] = [rowBefore, rowAfter].map((row) => place.textOf(rowValues(row)));
     return { place: place.name, from, to };
   }
 }

@@ -41,7 +41,7 @@ function parseAction(words) {
 }
 
 /**
- * Splits a paragraph into strings of plain text and links. The words of a link without a valid action become plain text.
+ * Splits a paragraph into pieces of plain text and links. The words of a link without a valid action become plain text.
  * @param {string} text
  * @returns {ParagraphPiece[]}
  */

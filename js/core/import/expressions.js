@@ -200,7 +200,7 @@ class Evaluation {
 
   /**
    * Returns the value of a number.
-   * @param {RegExpExecArray} found the match of the number's pattern
+   * @param {RegExpExecArray} match the match of the number's pattern
    * @param {number} base
    */
   parseNumber([numeral, digits], base) {

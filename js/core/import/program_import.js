@@ -18,9 +18,9 @@ import * as say from "../../words/import.js";
  * @typedef {{ line: number, words: string }} ImportError
  *
  * The rules for the value of an operand. `from` and `to` are its lowest and highest value. Negative numbers down to -`modulus` / 2 are
- * allowed, and `modulus` is added to them. If `modulus` is 0, negative numbers are not allowed. `isNumber` is true if the output must
+ * allowed, and `modulus` is added to them. If `modulus` is 0, negative numbers are not allowed. `requiresNumber` is true if the output must
  * contain the value of a name instead of the name.
- * @typedef {{ from?: number, to: number, modulus?: number, isNumber?: boolean }} OperandRules
+ * @typedef {{ from?: number, to: number, modulus?: number, requiresNumber?: boolean }} OperandRules
  */
 
 /** The maximum number of passes that compute the values of names. */
@@ -82,9 +82,9 @@ class ProgramImport {
     this.lines.forEach((line, index) => this.recordDefinition(line, index + 1));
     if (this.errors.length > 0) return [];
     this.chooseSpellings();
-    let passes = MAX_PASSES;
+    let passesLeft = MAX_PASSES;
     // The value of a name can depend on later lines, so the passes are repeated until no value changes, at most MAX_PASSES times.
-    while (passes > 0 && this.computeValues()) passes -= 1;
+    while (passesLeft > 0 && this.computeValues()) passesLeft -= 1;
     return this.lines.map((line, index) => this.attemptLine(index + 1, () => this.formatOutputLine(line), ""));
   }
 
@@ -156,7 +156,7 @@ class ProgramImport {
     return evaluate(text, address, this.nameValues);
   }
 
-  /** Runs one pass over the lines that computes the values of the names. Returns whether any value has changed. */
+  /** Computes the values of the names in one pass over the lines. Returns whether any value has changed. */
   computeValues() {
     let [address, hasChanged] = [0, false];
     for (const line of this.lines) {
@@ -216,7 +216,7 @@ class ProgramImport {
    */
   formatStatementLine({ label, word, operand }) {
     const name = this.names.get(toAsciiUpperCase(label)) || "";
-    if (word === "EQU") return `${name} = ${this.convertExpression(operand, { to: LAST_ADDRESS, isNumber: true })}`;
+    if (word === "EQU") return `${name} = ${this.convertExpression(operand, { to: LAST_ADDRESS, requiresNumber: true })}`;
     const statement = this.convertStatement(word, operand);
     const labelText = name === "" ? "" : `${name}:`;
     return statement === "" ? labelText : padToColumn(labelText, COLUMNS.statement) + statement;
@@ -235,7 +235,7 @@ class ProgramImport {
     if (INSTRUCTIONS_OF_4040.has(word)) throw new LineError(say.instructionOf4040(word));
     if (word === PROGRAM_RAM_MNEMONIC) throw new LineError(say.NO_PROGRAM_RAM);
     if (UNSUPPORTED_DIRECTIVES.has(word)) throw new LineError(say.notSupportedMessage(word));
-    if (word === "ORG") return `ORG ${this.convertExpression(operand, { to: LAST_ADDRESS, isNumber: true })}`;
+    if (word === "ORG") return `ORG ${this.convertExpression(operand, { to: LAST_ADDRESS, requiresNumber: true })}`;
     if (word === "ALIGN" || RESERVE_DIRECTIVES.has(word)) return this.convertReservation(word, operand);
     if (BYTE_DIRECTIVES.has(word)) return `DB ${this.convertBytes(operand)}`;
     const kinds = OPERAND_KINDS.get(word);
@@ -249,7 +249,7 @@ class ProgramImport {
    * @param {string} operand
    */
   convertReservation(word, operand) {
-    this.convertExpression(operand, { to: LAST_ADDRESS + 1, isNumber: true });
+    this.convertExpression(operand, { to: LAST_ADDRESS + 1, requiresNumber: true });
     this.originalTexts = [`${word} ${operand}`];
     const nextAddress = this.findAddressAfter({ text: "", label: "", word, operand, comment: "", isLong: false }, this.address);
     if (nextAddress > LAST_ADDRESS) throw new LineError(say.PAST_LAST_ADDRESS);
@@ -304,22 +304,22 @@ class ProgramImport {
   }
 
   /**
-   * Converts an operand that is a name, a number or an expression. A name remains a name, unless `isNumber` is true. An expression becomes
-   * a number, and the comment of the line repeats the original expression.
+   * Converts an operand that is a name, a number or an expression. A name remains a name, unless `requiresNumber` is true. An expression
+   * becomes a number, and the comment of the line repeats the original expression.
    * @param {string} text
    * @param {OperandRules} rules
    */
-  convertExpression(text, { from = 0, to, modulus = 0, isNumber = false }) {
+  convertExpression(text, { from = 0, to, modulus = 0, requiresNumber = false }) {
     const { value, isKnown, error } = this.evaluateText(text, this.address);
     if (error) throw new LineError(error);
     if (!isKnown) throw new LineError(say.dependsOnItself(text));
     // A negative number becomes its two's complement.
     const number = modulus > 0 && value < 0 && value >= -modulus / 2 ? value + modulus : value;
     if (!(number >= from && number <= to)) throw new LineError(say.outOfRange(text, number, from, to));
-    if (NAME.test(text) && !isNumber) return this.names.get(toAsciiUpperCase(text)) || "";
+    if (NAME.test(text) && !requiresNumber) return this.names.get(toAsciiUpperCase(text)) || "";
     if (!PLAIN_NUMBER.test(text)) this.originalTexts.push(text);
-    if (/^[0-9]+$/.test(text) || to < NIBBLE_VALUES || (isNumber && number < 10)) return String(number);
-    return `0x${hex(number, number > BYTE_VALUES - 1 || (to > BYTE_VALUES - 1 && !isNumber) ? 3 : 2)}`;
+    if (/^[0-9]+$/.test(text) || to < NIBBLE_VALUES || (requiresNumber && number < 10)) return String(number);
+    return `0x${hex(number, number > BYTE_VALUES - 1 || (to > BYTE_VALUES - 1 && !requiresNumber) ? 3 : 2)}`;
   }
 
   /**
@@ -329,8 +329,8 @@ class ProgramImport {
   convertRegister(text) {
     const word = toAsciiUpperCase(text);
     if (/^R([0-9]|1[0-5])$/.test(word) && !this.definingLines.has(word)) return word;
-    // A name can be defined as a register, as in `COUNT EQU R5`.
-    return `R${this.convertExpression(text, { to: NIBBLE_VALUES - 1, isNumber: true })}`;
+    // The operand can be a name for the number of a register, as in `COUNT EQU 5`.
+    return `R${this.convertExpression(text, { to: NIBBLE_VALUES - 1, requiresNumber: true })}`;
   }
 
   /**

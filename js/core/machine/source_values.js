@@ -6,7 +6,7 @@ import { MachineState } from "../debug/machine_state.js";
 import { valuesAt } from "../debug/word_values.js";
 
 /**
- * @typedef {import("../debug/word_values.js").Program} Program
+ * @typedef {import("../debug/word_values.js").WordLookup} WordLookup
  * @typedef {import("../debug/word_values.js").Piece} Piece
  */
 
@@ -22,7 +22,7 @@ import { valuesAt } from "../debug/word_values.js";
  * @property {() => void} onChange Called after the values have changed, and when they become unavailable because the session starts to run.
  */
 
-/** @typedef {Program & ValueCallbacks} SourceValueCallbacks */
+/** @typedef {WordLookup & ValueCallbacks} SourceValueCallbacks */
 
 export class SourceValues {
   /** @param {SourceValueCallbacks} callbacks */

@@ -35,7 +35,7 @@ function evaluateNumber(text, session) {
   const { expression, error, column } = compileExpression(text, session.names);
   if (!expression) return rejectCommand(errorInColumn(error, column));
   const values = session.debugger.readPlaces(expression.places);
-  if (expression.number) return expression.number(values);
+  if (expression.numberOf) return expression.numberOf(values);
   return expression.textOf(values) === "true" ? 1 : 0;
 }
 

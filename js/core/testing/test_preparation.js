@@ -3,7 +3,7 @@
 import { readBoard, parseRefusal } from "../bench/answers.js";
 import { matchAnswers, readInputs } from "../bench/inputs.js";
 import { Face } from "../board/face.js";
-import { missingParts } from "../board/face_board.js";
+import { missingPartErrors } from "../board/face_board.js";
 import { SourceMap } from "../machine/source_map.js";
 import { findSendingErrors, sentText } from "../text/sendable_text.js";
 import { romCodes } from "../engine/rom_codes.js";
@@ -29,7 +29,7 @@ import { romCodes } from "../engine/rom_codes.js";
  * @returns {ProjectTextError[]}
  */
 export function findNameErrors(face, board) {
-  const nameErrors = [...face.errors, ...missingParts(face, board)].filter(({ isFatal }) => isFatal);
+  const nameErrors = [...face.errors, ...missingPartErrors(face, board)].filter(({ isFatal }) => isFatal);
   return nameErrors.map(({ line, message: words }) => ({ text: "board", line, number: 0, words }));
 }
 

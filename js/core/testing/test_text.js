@@ -4,7 +4,7 @@
 import { parseDuration, parseExactDuration } from "../conditions/durations.js";
 import { compileExpression, compileTestCondition } from "../conditions/condition_language.js";
 import { parsePlace } from "../conditions/places.js";
-import { readSetting } from "../conditions/set_command.js";
+import { compileSetting } from "../conditions/set_command.js";
 import { parseNumber } from "../bench/numbers.js";
 import { keyLine, pinKey } from "../board/key_place.js";
 import { errorInColumn } from "../../words/conditions.js";
@@ -452,7 +452,7 @@ class TestReader {
    */
   readSet(text, startColumn) {
     const { board, map } = this.names;
-    const { place, lines, error, column } = readSetting(text, map, board);
+    const { place, lines, error, column } = compileSetting(text, map, board);
     if (error) fail(error, startColumn + column);
     const address = parseRomAddress(place);
     const hasRom = Number.isNaN(address) || board.roms.some(({ chip }) => Number(chip) === Math.floor(address / 256));

@@ -3,7 +3,7 @@ import { basename } from "node:path";
 import { parseRomCodes } from "../../core/engine/rom_codes.js";
 import { listQueries, PAGE_NUMBERS } from "../../core/bench/rom_bytes.js";
 import { findDifferingLines } from "../../core/bench/script_progress.js";
-import { missingParts } from "../../core/board/face_board.js";
+import { missingPartErrors } from "../../core/board/face_board.js";
 import { sortByLine } from "../../core/board/face.js";
 import { Panel } from "../../core/panel/terminal_panel.js";
 import { Screen, fitsPanel, countMiddleRows } from "../../core/panel/screen.js";
@@ -79,7 +79,7 @@ async function readTexts(session, name, texts) {
  * @param {number} linesBefore the number of lines before the board's text in its file
  */
 function findMissingPartNote({ board, face }, linesBefore) {
-  const [note] = sortByLine([...face.errors, ...missingParts(face, board)]);
+  const [note] = sortByLine([...face.errors, ...missingPartErrors(face, board)]);
   return note ? noteOfBoard(note.line + linesBefore, note.message) : "";
 }
 

@@ -6,7 +6,7 @@ import { EYE_PERSISTENCE_MS } from "../../core/time/mcs4_time.js";
 import { DisplayView } from "./display_view.js";
 import { Cell, block, button, element, makeFirstTabStop, makeOneTabStop, makePressedSwitch } from "../ui/dom.js";
 import { Face, moreErrorsMessage, sortByLine } from "../../core/board/face.js";
-import { missingParts } from "../../core/board/face_board.js";
+import { missingPartErrors } from "../../core/board/face_board.js";
 import { PressedKeys } from "../../core/board/key_place.js";
 import { LampsView } from "./lamps_view.js";
 import * as say from "../../words/board.js";
@@ -114,7 +114,7 @@ export class FrontView {
    * @param {Face} face
    */
   drawErrors(board, face) {
-    const errors = sortByLine([...face.errors, ...missingParts(face, board)]);
+    const errors = sortByLine([...face.errors, ...missingPartErrors(face, board)]);
     const root = block("face-faults");
     const messages = errors.slice(0, MAX_LISTED_ERRORS).map(({ line, message }) => say.boardErrorInLine(line, message));
     const footnote = moreErrorsMessage(errors, MAX_LISTED_ERRORS);

@@ -16,7 +16,7 @@ const FILL_COMMANDS = {
 export function fillEmptyPanels(action) {
   for (const [panelId, commandId] of Object.entries(FILL_COMMANDS)) {
     const command = commandById(commandId);
-    const { words, button } = say.EMPTY[panelId];
+    const { words, button } = say.EMPTY_PANELS[panelId];
     const fillButton = element("button", { type: "button" }, button);
     onClick(fillButton, () => action(command));
     block(panelId).after(element("p", { className: "empty" }, words, " ", fillButton));

@@ -25,6 +25,6 @@ export function makeKeyRows() {
  */
 export function addKeyRows(manual) {
   /** @type {ManualTable} */
-  const table = { caption: say.KEY_TABLE, head: [say.KEY, say.DOES], rows: makeKeyRows() };
+  const table = { caption: say.KEY_TABLE, head: [say.KEY_HEAD, say.EFFECT_HEAD], rows: makeKeyRows() };
   return manual.map((section) => (section.title === KEYBOARD ? { ...section, tables: [table, ...section.tables] } : section));
 }

@@ -107,7 +107,7 @@ export class DrawingController {
   /** @param {DrawingState} state */
   show(state) {
     this.view.show(state);
-    if (this.drawing.movedParts.takeChanges()) this.storePositions();
+    if (this.drawing.movedParts.hasNewChanges()) this.storePositions();
     this.input.setWire(state.wireStart, state.ends);
   }
 

@@ -202,7 +202,7 @@ export class BreakpointsController {
    */
   async editLine(line, fieldName) {
     await this.calls.ensureSourceChecked();
-    const breakpoint = this.manager.breakpointOnLine(line);
+    const breakpoint = this.manager.findOrAddOnLine(line);
     if (breakpoint) this.edit(breakpoint, fieldName);
   }
 

@@ -42,7 +42,7 @@ export class WatchView {
 
   /** @param {unknown} texts the expressions that were saved with a session, not yet validated */
   open(texts) {
-    const { all: expressions, error } = parseWatches(texts);
+    const { watches: expressions, error } = parseWatches(texts);
     this.status.textContent = error;
     this.setExpressions(expressions);
   }
@@ -94,7 +94,7 @@ export class WatchView {
     const state = this.calls.pausedState();
     if (!state) return;
     const names = this.calls.names();
-    this.expressions.forEach((expression, index) => this.showRow(this.rows[index], expression, expression.pieces(state, names)));
+    this.expressions.forEach((expression, index) => this.showRow(this.rows[index], expression, expression.readPieces(state, names)));
   }
 
   /**

@@ -4,7 +4,7 @@ import { drawBoardPicture } from "./gallery_view.js";
 import { block, button, byId, element, field, onClick } from "../ui/dom.js";
 import { folderFromFiles, getDroppedFolders, readFolder } from "./folder_files.js";
 import { SessionList } from "./session_list.js";
-import { ORDER, TO_DO, exampleWords } from "../../words/example_notes.js";
+import { EXAMPLE_ORDER, FIRST_TRIES, exampleWords } from "../../words/example_notes.js";
 import * as say from "../../words/session.js";
 
 /**
@@ -34,14 +34,14 @@ import * as say from "../../words/session.js";
 
 /**
  * Returns the examples in page order: first the empty example, with which the user can build a board, then the others in the order of
- * ORDER.
+ * EXAMPLE_ORDER.
  * @param {Example[]} examples
  */
 function orderExamples(examples) {
   /** @type {(example: Example) => boolean} */
   const isEmpty = ({ board, program, lines, project }) => [board, program, lines, project].every((text) => text === "");
   /** @type {(example: Example) => number} */
-  const orderIndex = (example) => (isEmpty(example) ? -1 : ORDER.indexOf(example.name));
+  const orderIndex = (example) => (isEmpty(example) ? -1 : EXAMPLE_ORDER.indexOf(example.name));
   return [...examples].sort((first, second) => orderIndex(first) - orderIndex(second));
 }
 
@@ -127,7 +127,7 @@ export class SessionsView {
     const open = () => this.runAndClose(() => this.calls.openExample(example));
     const openButton = this.makeButton(example.name, say.newSession(example.name), open);
     openButton.prepend(drawBoardPicture(example.board));
-    const [, toDo = ""] = Object.entries(TO_DO).find(([name]) => name === example.name) || [];
+    const [, toDo = ""] = Object.entries(FIRST_TRIES).find(([name]) => name === example.name) || [];
     const title = element("span", { className: "grow" }, toDo ? exampleWords(example.title, toDo) : example.title);
     if (!example.story) return element("li", {}, openButton, title);
     const description = say.newStory(example.name);

@@ -40,7 +40,7 @@ export class WelcomeView {
     if (this.cards.length > 0) return;
     /** @type {(name: string) => Example | undefined} */
     const findExample = (name) => this.examples.find((example) => example.name === name);
-    this.cards = Object.entries(say.CARDS).map(([name, card]) => this.makeCard(name, card, findExample(card.example)));
+    this.cards = Object.entries(say.WELCOME_CARDS).map(([name, card]) => this.makeCard(name, card, findExample(card.example)));
     const title = element("h2", { id: "welcome-title" }, say.WELCOME);
     this.dialog.append(
       element("div", { className: "bar" }, title, makeButton(say.CLOSE, () => this.dialog.close())),

@@ -8,8 +8,8 @@ import * as say from "../../words/text.js";
 
 /**
  * @typedef {import("../../core/debug/word_values.js").Piece} Piece
- * @typedef {import("../../core/debug/word_values.js").Value} Value
- * @typedef {(cell: HTMLElement, value: Value) => void} MakeEditable makes a cell editable
+ * @typedef {import("../../core/debug/word_values.js").EditableValue} EditableValue
+ * @typedef {(cell: HTMLElement, value: EditableValue) => void} MakeEditable makes a cell editable
  */
 
 /** The distance in pixels between the pointer and the tooltip. */
@@ -59,7 +59,7 @@ export class MeaningView {
     if (this.meaningNode.textContent !== description) this.meaningNode.textContent = description;
   }
 
-  /** @param {Value} value */
+  /** @param {EditableValue} value */
   makeCell(value) {
     const cell = element("button", { "type": "button", "className": "value", "title": say.editHint(value.name) });
     cell.setAttribute("aria-label", value.name);
