@@ -17,7 +17,8 @@ import { ForecastAnswers } from "./forecast_answers.js";
  */
 
 /**
- * Returns the planned lines with the queries of all sources before each run. If a source needs states, `state` follows each other line.
+ * Returns the planned lines with the queries of all sources before each run. If a source needs states, `state` follows each line
+ * that is not a run.
  * @param {SentLine[]} plannedLines
  * @param {QuerySource[]} querySources
  */

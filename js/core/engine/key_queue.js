@@ -92,7 +92,7 @@ export class KeyQueue {
   }
 
   /**
-   * Updates the queue after planned lines were executed, and the last run perhaps ended early.
+   * Updates the queue after planned lines were executed. If the last run ended early, only the cycles that it ran count.
    * @param {PlannedLine[]} plannedLines
    * @param {(index: number) => number} cyclesOf returns the number of cycles that the line at an index ran
    */
