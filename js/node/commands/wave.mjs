@@ -21,7 +21,7 @@ import { checkOutputFile, writeUserFile } from "../user_files.mjs";
  * @typedef {import("../input_texts.mjs").InputText} InputText
  * @typedef {import("./table.mjs").Values} Values
  *
- * An opened session. `state` is its state without breakpoints and watches. `boardText` is the text of its board; null if the user names
+ * An opened session. `state` is its state without breakpoints or watches. `boardText` is the text of its board; null if the user names
  * none. `program` is the program with its labels; null if the user names none.
  * @typedef {{ face: Face, state: Uint8Array, boardText: InputText | null, board: import("../../core/bench/answers.js").Board,
  *   engine: import("../../core/engine/engine_host.js").EngineHost,
