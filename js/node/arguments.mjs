@@ -4,7 +4,7 @@ import * as say from "../words/commands.js";
 import { CommandError, UsageError } from "./output.mjs";
 
 const PROJECT_FILE = "mcs4.toml";
-/** The names of the arguments that may be empty, because they are not file names. */
+/** The names of the arguments that can be empty, because they are not file names. */
 const NON_FILE_ARGUMENTS = new Set(["CYCLES", "N", "KEYS", "FIRST", "LAST", "COUNT"]);
 
 /**
@@ -74,8 +74,8 @@ export function requireProjectFiles(project, kind) {
 }
 
 /**
- * Resolves to the file names of the board, the program and the properties. In a project, `words` contains only the name of a properties file. If it
- * is empty, uses the project's own properties file.
+ * Resolves to the file names of the board, the program and the properties. In a project, `words` contains only the name of a properties file. If
+ * `words` is empty, uses the project's own properties file.
  * @param {string | undefined} folder
  * @param {string[]} words
  */

@@ -18,7 +18,7 @@ const HAS_GROUPS = process.platform !== "win32";
 const KILL_DELAYS = { command: 1000, tool: 10000 };
 
 /**
- * How a child ended: its exit status, or the signal that ended it. `error` is a message if the child could not start, otherwise "".
+ * The end of a child: its exit status, or the signal that ended it. `error` is a message if the child could not start, otherwise "".
  * @typedef {{ status: number | null, signal: NodeJS.Signals | null, error: string }} ChildEnd
  */
 
@@ -45,7 +45,7 @@ function sendSignal(pid, signal) {
 }
 
 /**
- * Tracks a child until it ends. Resolves to how it ended.
+ * Tracks a child until it ends. Resolves to its exit status or signal.
  * @param {import("node:child_process").ChildProcess} child
  * @param {boolean} hasGroup true if the child has its own process group
  * @returns {Promise<ChildEnd>}

@@ -67,7 +67,7 @@ class SessionFile {
   }
 }
 
-/** @type {(name: string) => string} replaces the separators in a path by forward slashes, which the debugger expects and Windows accepts */
+/** @type {(name: string) => string} replaces the separators in a path with forward slashes, which the debugger expects and Windows accepts */
 const toSlashes = (name) => (sep === "/" ? name : name.split(sep).join("/"));
 
 /**

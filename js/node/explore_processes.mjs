@@ -22,10 +22,9 @@ import { readUserText, writeUserFile } from "./user_files.mjs";
  * @typedef {import("./input_texts.mjs").InputText} InputText
  *
  * The settings of a search. `seconds` is its duration, `jobs` the number of processes, and `seed` the seed of its random numbers. `allowsModel` is
- * true if the search may run the model command of the properties file. `folder` is a temporary folder. `report` is the file to which a job writes its
- * report.
+ * true if the search is allowed to run the model command of the properties file. `folder` is a temporary folder.
  * @typedef {{ seconds: number, jobs: number, seed: number, allowsModel: boolean, folder: string,
- *   texts: { board: InputText, program: InputText, properties: { name: string, text: string } }, report?: string }} Settings
+ *   texts: { board: InputText, program: InputText, properties: { name: string, text: string } } }} Settings
  */
 
 /** The time in milliseconds for which the search runs before it checks the clock and signals. */
@@ -240,7 +239,8 @@ export async function exploreTexts(settings) {
 }
 
 /**
- * Returns the settings of this process if it is a job of another process, otherwise null.
+ * Returns the settings of this process if it is a job of another process, otherwise null. `reportFile` is the file to which the job writes its
+ * report.
  * @returns {Settings & { reportFile: string } | null}
  */
 export function readJobSettings() {

@@ -39,8 +39,8 @@ function findLockHolders(name) {
 }
 
 /**
- * Returns the command line and id of the process that holds the lock of a file. Returns "" if there is no such process, or if the user may
- * not see the process.
+ * Returns the command line and id of the process that holds the lock of a file. Returns "" if there is no such process, or if the user is
+ * not allowed to see the process.
  * @param {string} name
  */
 export function findLockHolder(name) {

@@ -177,11 +177,11 @@ export async function createRejectedTextsError(engine, givenTexts, errors) {
  * @param {import("./input_texts.mjs").InputText} program
  */
 export async function readCheckedMap(engine, codes, program) {
-  const { sessionProgram } = await import("../core/engine/session_program.js");
-  const { errors, difference: otherByte, map } = sessionProgram(engine, codes, program.text);
+  const { compareWithRom } = await import("../core/engine/session_program.js");
+  const { errors, difference, map } = compareWithRom(engine, codes, program.text);
   if (errors.length > 0) throw await createRejectedTextsError(engine, { program }, errors);
-  if (!otherByte) return map;
-  const { address, romByte, line, sourceByte } = otherByte;
+  if (!difference) return map;
+  const { address, romByte, line, sourceByte } = difference;
   throw new CommandError(otherProgramMessage(program.name, address, romByte, line + program.linesBefore, sourceByte));
 }
 
@@ -200,8 +200,8 @@ export async function yieldToMessages() {
  * @param {import("./input_texts.mjs").InputText} program
  */
 export async function assembleProgram(engine, program) {
-  const { readSource } = await import("../core/engine/session_program.js");
-  const { errors, map, bytes } = readSource(engine, program.text);
+  const { assembleSource } = await import("../core/engine/session_program.js");
+  const { errors, map, bytes } = assembleSource(engine, program.text);
   if (errors.length > 0) throw await createRejectedTextsError(engine, { program }, errors);
   return { map, bytes };
 }

@@ -4,7 +4,7 @@ import { readFileSync } from "node:fs";
 import { readBoard } from "../core/bench/answers.js";
 import { readWiring } from "../core/bench/text_check_answers.js";
 import { ErrorMessages } from "../core/bench/error_messages.js";
-import { readProgram } from "../core/engine/program_check.js";
+import { assembleText } from "../core/engine/program_check.js";
 import { readInstructions } from "../core/help/manual.js";
 import { SourceMap } from "../core/machine/source_map.js";
 import { findDefinedNames } from "../core/text/assembly.js";
@@ -26,7 +26,7 @@ import { readPageData } from "./page_parts.mjs";
 
 /** The maximum number of errors in a message. */
 const MAX_ERRORS = 20;
-/** The maximum number of characters that a message shows of a line. */
+/** The maximum number of characters of a line that a message shows. */
 export const MAX_SHOWN_LENGTH = 120;
 /** The error number of the assembler for a line whose form it does not know. */
 export const UNKNOWN_FORM = 30;
@@ -103,7 +103,7 @@ export class RejectedTexts {
     engine.serve(state, `wire\n${sentText(board.text, "#")}.\n`, state);
     const roms = new Set(readBoard(engine.ask(state, "board\n").answers).roms.map(({ chip }) => chip));
     const sentSource = sentText(text, ";");
-    const [error = null] = findMissingRoms(sentSource.split("\n"), new SourceMap(readProgram(engine, sentSource).map, sentSource), roms)
+    const [error = null] = findMissingRoms(sentSource.split("\n"), new SourceMap(assembleText(engine, sentSource).map, sentSource), roms)
       .sort((first, second) => first.line - second.line);
     return error;
   }

@@ -25,7 +25,7 @@ import { isDumb, makePainter } from "./terminal.mjs";
  * @property {import("node:tty").WriteStream} output the terminal that shows the prompt and the messages
  * @property {() => void} [onLineExecuted] called after the execution of a line
  * @property {() => void} [onLeave] called when the prompt releases the terminal: at Ctrl-Z, and when the prompt ends
- * @property {() => void} [onReturn] called when the prompt has the terminal again after Ctrl-Z
+ * @property {() => void} [onReturn] called when the prompt uses the terminal again after Ctrl-Z
  */
 
 /** The escape sequences around pasted text, and the sequences that switch them on and off (bracketed paste). */

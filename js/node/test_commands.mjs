@@ -25,8 +25,8 @@ import { CommandError, UsageError, print, printError } from "./output.mjs";
 const MAX_CYCLES = 100000000;
 
 /**
- * Resolves to the file names of the board, the program and the tests. In a project, `givenNames` contains only the names of test files. If it is
- * empty, the result contains all test files of the project.
+ * Resolves to the file names of the board, the program and the tests. In a project, `givenNames` contains only the names of test files. If
+ * `givenNames` is empty, the result contains all test files of the project.
  * @param {string | undefined} folder
  * @param {string[]} givenNames
  */
@@ -84,9 +84,9 @@ export async function countCycles({ name, RecorderClass, checkNames = () => {}, 
   const program = texts.readText(programName, "asm");
   const engine = await startEngine();
   const state = await openSession(engine, texts, session);
-  const { errors, otherByte, counts } = await countSession(engine, state, program.text, cycles, RecorderClass);
-  if (otherByte) {
-    const { address, romByte, line, sourceByte } = otherByte;
+  const { errors, difference, counts } = await countSession(engine, state, program.text, cycles, RecorderClass);
+  if (difference) {
+    const { address, romByte, line, sourceByte } = difference;
     throw new CommandError(otherProgramMessage(programName, address, romByte, line + program.linesBefore, sourceByte));
   }
   if (!counts) throw await createRejectedTextsError(engine, { program }, errors);

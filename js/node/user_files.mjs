@@ -223,7 +223,7 @@ function checkWritable(target, { mode }) {
 }
 
 /**
- * Gives a new file the owner and mode of the file that it will replace. Throws a FileErrorReason if the user may not set this owner.
+ * Gives a new file the owner and mode of the file that it will replace. Throws a FileErrorReason if the user is not allowed to set this owner.
  * @param {number} file
  * @param {import("node:fs").Stats} oldStat
  */
@@ -310,7 +310,7 @@ function readBeginning(name, count) {
 }
 
 /**
- * Throws a UserFileError if a command must not overwrite a file. A command may overwrite an empty file or a file of the kind that it writes, but none
+ * Throws a UserFileError if a command must not overwrite a file. A command can overwrite an empty file or a file of the kind that it writes, but none
  * of its inputs. New files, devices and pipes are accepted.
  * @param {string} name
  * @param {string} header the text at the beginning of files of this kind

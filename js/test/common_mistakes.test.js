@@ -6,7 +6,7 @@ import { DebugSession } from "../core/debug/debug_session.js";
 import { KINDS } from "../words/debug.js";
 import { SourceMap } from "../core/machine/source_map.js";
 import { sentText } from "../core/text/sendable_text.js";
-import { readProgram } from "../core/engine/program_check.js";
+import { assembleText } from "../core/engine/program_check.js";
 import { Engine } from "../core/engine/engine.js";
 import { pageModule } from "./page_session.js";
 
@@ -27,7 +27,7 @@ function openDebugger(program) {
   assert.deepEqual(session.rejectedTexts, []);
   const text = sentText(program, ";");
   const benchDebugger = session.debugger;
-  benchDebugger.commonMistakes.map = new SourceMap(readProgram(engine, text).map, text);
+  benchDebugger.commonMistakes.map = new SourceMap(assembleText(engine, text).map, text);
   benchDebugger.beginMove();
   return benchDebugger;
 }
@@ -139,7 +139,7 @@ test("during a key press, mistakes are checked after the lamps are reported, and
 test("during a key press, mistakes are checked at once if the frame has a stop, or if mistakes cause stops", () => {
   const program = "FIM P0, 0x10\nSRC P0\nWRR\nJUN on\non: NOP\nend: JUN end\n";
   const debuggerWithBreakpoint = openDebugger(program);
-  debuggerWithBreakpoint.session.changeBreaks("break 7\n");
+  debuggerWithBreakpoint.session.changeBreakpoints("break 7\n");
   const frame = debuggerWithBreakpoint.advance(1543, true);
   assert.deepEqual([frame.stop.reason, frame.tally.mistakes.length], ["break", 1]);
   const debuggerWithStoppingMistakes = openDebugger(program);

@@ -106,11 +106,11 @@ testOnBothHosts("a VCD file is written piece by piece", async (engine) => {
   const state = copyWithoutStops(engine, stateAfter(engine, `${BOARD}${PROGRAM}`));
   const board = readBoard(engine.ask(state, "board\n").answers);
   const choice = chooseLines(board, "", false, ["ram0.0", "acc", "pc", "ram0.0[3:0]"]);
-  const { lines, chosenIndexes } = linesWithMembers(choice.lines, choice.chosenIndexes);
+  const { lines, chosenIndices } = linesWithMembers(choice.lines, choice.chosenIndices);
   let vcdText = null;
   let file = "";
   for await (const waves of recordPieces(engine, state, { lines, program: null, cycles: 45000 }, async () => {})) {
-    if (!vcdText) vcdText = new VcdText(waves, chosenIndexes);
+    if (!vcdText) vcdText = new VcdText(waves, chosenIndices);
     file += (file === "" ? vcdText.formatHead() : "") + [...vcdText.formatChanges()].join("");
   }
   file += vcdText.formatEnd();

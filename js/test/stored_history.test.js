@@ -21,7 +21,7 @@ function createStore(maximum = 5000000) {
 }
 
 /** Adds the report of a call to the history, as the page does. */
-function addReport(history, calls, report = calls.bench.snapshotReport([], false)) {
+function addReport(history, calls, report = calls.bench.takePageState([], false)) {
   history.addReport(report.past, { file: calls.bench.session.file.slice(), total: report.total, reset: report.reset });
 }
 

@@ -141,8 +141,8 @@ function beginRecording(state = STATE, values = []) {
 
 /** Adds a run to a recording, and the state after it, which is STATE with `changes`. Returns the recording. */
 function addRun(builder, levels, instructions, answer, changes) {
-  builder.takeRun(new ForecastAnswers([...answersOf(builder, levels, instructions), answer]));
-  builder.takeState(stateWith(changes));
+  builder.recordRun(new ForecastAnswers([...answersOf(builder, levels, instructions), answer]));
+  builder.recordState(stateWith(changes));
   return builder;
 }
 
@@ -181,20 +181,20 @@ test("a recording ends at its last cycle, even inside an instruction", () => {
 });
 
 test("a refusal by the bench is an error", () => {
-  assert.throws(() => beginRecording().takeRun(new ForecastAnswers(["no 90"])), /no 90/);
+  assert.throws(() => beginRecording().recordRun(new ForecastAnswers(["no 90"])), /no 90/);
   assert.throws(() => addRun(beginRecording(), LEVELS, [], "no 46", {}), /no 46/);
 });
 
 test("a two-cycle instruction is recorded once, and commands between cycles take no time", () => {
   const builder = beginRecording();
   addRun(builder, LEVELS, [[0, "00A", {}]], "ok 9 ran 1 end", { pc: "020", owed: "1" });
-  builder.takeState(stateWith({ pc: "020", owed: "1", keys: "0.1" }));
+  builder.recordState(stateWith({ pc: "020", owed: "1", keys: "0.1" }));
   addRun(builder, { ...LEVELS, "rom1.1": 0 }, [], "ok 11 ran 1 break", { pc: "020", keys: "0.1" });
-  builder.takeState(stateWith({ pc: "020", keys: "0.1", test: "0" }));
-  builder.takeState(stateWith({ pc: "020", keys: "0.1" }));
-  builder.takeState(stateWith({ pc: "030", keys: "0.1" }));
+  builder.recordState(stateWith({ pc: "020", keys: "0.1", test: "0" }));
+  builder.recordState(stateWith({ pc: "020", keys: "0.1" }));
+  builder.recordState(stateWith({ pc: "030", keys: "0.1" }));
   addRun(builder, { ...LEVELS, "rom1.1": 0 }, [[0, "030", { "rom0.0": 0 }]], "ok 15 ran 1 watch", { pc: "031", keys: "0.1" });
-  builder.takeState(stateWith({ pc: "031", keys: "0.1", test: "0" }));
+  builder.recordState(stateWith({ pc: "031", keys: "0.1", test: "0" }));
   const waves = wavesOf(builder);
   const changesOf = (name) => [...waves.changesOf(lineIndexOf(waves.lines, name))];
   assert.deepEqual(["key1.2", "rom1.1", "rom0.0", "test", "pc"].map(changesOf), [[1], [1], [3], [3], [2, 3]]);

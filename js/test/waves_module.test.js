@@ -138,16 +138,16 @@ test("a recording in pieces gives the same VCD file, also for some lines, ports 
     const { calls, texts } = await openSession(name);
     await calls.serve(lines);
     const wholeWaves = new Waves(await calls.record(50001, false, { ...texts, values }));
-    const lineIndexes = wholeWaves.lines.map((_, line) => line);
-    const portIndexes = lineIndexes.filter((line) => wholeWaves.lines[line].kind === "port");
-    for (const selectedLines of [lineIndexes, lineIndexes.filter((line) => line % 7 === 3), portIndexes]) {
-      const { lines: recordedLines, chosenIndexes } = linesWithMembers(wholeWaves.lines, selectedLines);
+    const lineIndices = wholeWaves.lines.map((_, line) => line);
+    const portIndices = lineIndices.filter((line) => wholeWaves.lines[line].kind === "port");
+    for (const selectedLines of [lineIndices, lineIndices.filter((line) => line % 7 === 3), portIndices]) {
+      const { lines: recordedLines, chosenIndices } = linesWithMembers(wholeWaves.lines, selectedLines);
       let [vcdText, parts] = [null, []];
       const state = calls.bench.session.file.slice();
       const { program } = wholeWaves;
       for await (const waves of recordPieces(calls.bench.engine, state, { lines: recordedLines, program, cycles: 50001 }, async () => {})) {
         if (!vcdText) {
-          vcdText = new VcdText(waves, chosenIndexes);
+          vcdText = new VcdText(waves, chosenIndices);
           parts.push(vcdText.formatHead());
         }
         parts = [...parts, ...vcdText.formatChanges()];

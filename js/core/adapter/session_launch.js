@@ -11,7 +11,7 @@ import { getField } from "../server/framing.js";
 import { fileUri, uriFileName, createTestSession, findTestFiles } from "./test_launch.js";
 import { findBoard } from "../server/text_kinds.js";
 import { findSendingErrors, sentText } from "../text/sendable_text.js";
-import { readProgram, findDifference } from "../engine/program_check.js";
+import { assembleText, findDifference } from "../engine/program_check.js";
 import { disassembleRom } from "../engine/text_recovery.js";
 import { SessionWriter } from "./session_writer.js";
 import { AdapterError, optionalFlag, optionalText } from "./dap_protocol.js";
@@ -257,7 +257,7 @@ async function serveText(session, word, text, name, messages) {
  */
 export function describeDifference(session) {
   const { engine, file, statusQueries } = session.debugger.session;
-  const { refusal, ...program } = readProgram(engine, sentText(session.program, ";"));
+  const { refusal, ...program } = assembleText(engine, sentText(session.program, ";"));
   if (refusal) return say.PROGRAM_HAS_ERRORS;
   const difference = findDifference(engine, file, statusQueries.board, { refusal, ...program });
   return difference ? say.romDiffers(difference.hasRom, hex(difference.address, 3)) : "";
@@ -271,7 +271,7 @@ export function describeDifference(session) {
  * @param {ErrorMessages} messages
  */
 function checkRom(session, engine, { program, session: file }, messages) {
-  const { refusal } = readProgram(engine, sentText(session.program, ";"));
+  const { refusal } = assembleText(engine, sentText(session.program, ";"));
   if (refusal) throw refusalError(program, refusal, messages);
   const differenceText = describeDifference(session);
   if (differenceText === "") return;

@@ -4,7 +4,7 @@ import { readBoardText } from "../text/board_reader.js";
 
 /**
  * @typedef {import("../text/board_reader.js").Entry} Entry
- * @typedef {import("../text/sendable_text.js").Lines} Lines
+ * @typedef {import("../text/sendable_text.js").LineRange} LineRange
  */
 
 /**
@@ -36,10 +36,10 @@ function partName({ table, keys }, counts) {
 /**
  * Returns the line range of each part in a board text, by the name of the part. The result can lack a part whose table is unfinished.
  * @param {string} text
- * @returns {Map<string, Lines>}
+ * @returns {Map<string, LineRange>}
  */
 export function partLines(text) {
-  /** @type {Map<string, Lines>} */
+  /** @type {Map<string, LineRange>} */
   const ranges = new Map();
   /** @type {Record<string, number>} */
   const counts = {};
@@ -53,7 +53,7 @@ export function partLines(text) {
 
 /**
  * Returns the name of the first part that contains a line of the text; "" if no part contains it.
- * @param {Map<string, Lines>} parts
+ * @param {Map<string, LineRange>} parts
  * @param {number} line
  */
 export function partAtLine(parts, line) {

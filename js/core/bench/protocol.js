@@ -14,7 +14,7 @@
  * @typedef {{ snapshot: string[], file: ArrayBuffer, board: string[] | null, total: number, reset: number, futureCount: number,
  *   past: import("../engine/timeline.js").PastChanges, waves: import("../engine/live_recorder.js").LivePart | null,
  *   printed: import("../engine/printer_codes.js").PrintoutData | null,
- *   waitingChanges: import("../engine/key_queue.js").Change[] }} PageState
+ *   waitingChanges: import("../engine/key_queue.js").KeyChange[] }} PageState
  *
  * The result of a period in which the machine ran. `runEntries`: the executed lines with their answers. `changesKeys`: true if a key
  * changed. `end`: the answer that ended the run early, or "". `stop`: the reason why the machine stopped, or null. `tally`: breakpoint

@@ -4,7 +4,7 @@
 import { isSameKey } from "./key_place.js";
 
 /**
- * @typedef {import("../engine/key_queue.js").Change} Change
+ * @typedef {import("../engine/key_queue.js").KeyChange} KeyChange
  * @typedef {import("./key_place.js").Key} Key
  * @typedef {{ key: Key, word: "press" | "release" | "forget" }} RequestedChange a key change, or `forget` to drop the queued changes
  *   of the key
@@ -13,7 +13,7 @@ import { isSameKey } from "./key_place.js";
 /** The key changes that the worker has not made yet. */
 export class PendingKeys {
   constructor() {
-    /** @type {Change[]} the worker's queue as of its last report */
+    /** @type {KeyChange[]} the worker's queue as of its last report */
     this.waitingChanges = [];
     /** @type {RequestedChange[]} the changes in transit to the worker */
     this.changesInTransit = [];

@@ -18,7 +18,7 @@ import { Face } from "../board/face.js";
 import { SourceMap } from "../machine/source_map.js";
 import { sentText } from "../text/sendable_text.js";
 import { PieceSize } from "../engine/piece_size.js";
-import { readProgram } from "../engine/program_check.js";
+import { assembleText } from "../engine/program_check.js";
 import { WorkerSession } from "../engine/worker_session.js";
 import { BreakpointList } from "./breakpoints.js";
 import { Debugger, NO_TALLY, joinTallies, nearDistance } from "./debugger.js";
@@ -96,7 +96,7 @@ export class DebugSession {
   /** Returns the source map of the program. */
   readMap() {
     const programText = sentText(this.program, ";");
-    return new SourceMap(readProgram(this.debugger.session.engine, programText).map, programText);
+    return new SourceMap(assembleText(this.debugger.session.engine, programText).map, programText);
   }
 
   // --- Program and breakpoints ---

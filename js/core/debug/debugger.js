@@ -512,7 +512,7 @@ export class Debugger {
     const countBefore = session.count.total;
     const hasChangedBoard = session.replaceState(sessionAtMoment);
     const lines = this.breakLines();
-    if (lines) session.changeBreaks(lines);
+    if (lines) session.changeBreakpoints(lines);
     this.commonMistakes.forgetRom();
     this.startTotal = session.count.total;
     return { isDone: true, hasChangedBoard, cycles: Math.abs(session.count.total - countBefore) };

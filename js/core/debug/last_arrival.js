@@ -3,7 +3,7 @@
 // breakpoints that log a note instead of stopping.
 
 import { readItems, watchedPlaces } from "../bench/answers.js";
-import { searchResult, makeChangeFinder, searchPast } from "../engine/past_search.js";
+import { createSearchResult, createChangeFinder, searchPast } from "../engine/past_search.js";
 import { Arrivals } from "./arrivals.js";
 import { parseCounter } from "./goals.js";
 
@@ -78,7 +78,7 @@ class LastArrivalFinder {
         const isNow = cyclesBefore + cyclesRun === presentMoment.total
           && breakpoint !== null && breakpoint.address === presentMoment.counter;
         if (breakpoint && !isNow) {
-          lastArrival = searchResult({ moment: { ...moment, cycles: moment.cycles + cyclesRun }, end: "break", id: breakpoint.id });
+          lastArrival = createSearchResult({ moment: { ...moment, cycles: moment.cycles + cyclesRun }, end: "break", id: breakpoint.id });
           this.lastArrivalTotal = cyclesBefore + cyclesRun;
         }
         return false;
@@ -133,15 +133,15 @@ function combineFinders(finders) {
 export async function findLastArrival(session, breakpoints, { place, watches }, shouldContinue) {
   const { engine, file, timeline } = session;
   const places = [...watchedPlaces(session.ask("watches\n")[0]), ...(place === "" ? [] : [place])];
-  const changeFinders = places.map((placeName) => makeChangeFinder(engine, file, placeName));
-  if (changeFinders.some((finder) => finder === null)) return searchResult({ reason: "lacks", place });
+  const changeFinders = places.map((placeName) => createChangeFinder(engine, file, placeName));
+  if (changeFinders.some((finder) => finder === null)) return createSearchResult({ reason: "lacks", place });
   const finders = [...changeFinders.flatMap((finder) => (finder ? [finder] : [])), ...(watches ? watches.createFinders(engine) : [])];
   const combinedFinder = combineFinders([...(breakpoints.length > 0 ? [new LastArrivalFinder(session, breakpoints)] : []), ...finders]);
   const { lastMatch, start } = await searchPast(engine, timeline, combinedFinder, shouldContinue);
   if (lastMatch) return lastMatch;
   const { presentMoment } = timeline;
   const isPastEmpty = start.segment === presentMoment.segment && presentMoment.entry === 0;
-  return isPastEmpty ? searchResult({ reason: "short" }) : searchResult({ moment: start, end: "beginning" });
+  return isPastEmpty ? createSearchResult({ reason: "short" }) : createSearchResult({ moment: start, end: "beginning" });
 }
 
 /**
@@ -158,7 +158,7 @@ export async function findLastCall(session, call, returns, shouldContinue) {
   const finder = new LastArrivalFinder(session, [{ id: 0, address: call, from: 1, hits: 0, places: ["ret"], holds, noteText: null }]);
   const { lastMatch } = await searchPast(session.engine, session.timeline, finder, shouldContinue);
   const cyclesBack = session.count.total - finder.lastArrivalTotal - JMS_CYCLES;
-  if (!lastMatch || cyclesBack < 0) return searchResult({ reason: "short" });
+  if (!lastMatch || cyclesBack < 0) return createSearchResult({ reason: "short" });
   const moment = cyclesBack === 0 ? session.timeline.presentMoment : session.timeline.momentBefore(cyclesBack);
-  return moment ? searchResult({ moment }) : searchResult({ reason: "short" });
+  return moment ? createSearchResult({ moment }) : createSearchResult({ reason: "short" });
 }

@@ -17,7 +17,7 @@ const RESET_COMMANDS = { reset: true, wire: true };
  * Returns the lines that repeat a command: the command itself and, for `wire` or `asm`, the text after it.
  * @param {Input} input
  */
-function repeatedLines({ line, text, kind }) {
+function linesToRepeat({ line, text, kind }) {
   return kind === "wire" || kind === "asm" ? [line, ...text, "."].join("\n") : line;
 }
 
@@ -34,7 +34,7 @@ export function findAcceptedCommands(inputs, answers) {
     const [answer = ""] = answers[index];
     if (!answer.startsWith("ok ")) return;
     const run = readRun(answer);
-    commands.push({ line: repeatedLines(input), cycles: run ? run.cycles : 0, resets: RESET_COMMANDS[input.kind] === true });
+    commands.push({ line: linesToRepeat(input), cycles: run ? run.cycles : 0, resets: RESET_COMMANDS[input.kind] === true });
   });
   return commands;
 }

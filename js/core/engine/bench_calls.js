@@ -43,7 +43,7 @@ export class BenchCalls {
       new TimeRequests(bench),
       new OutputRequests(bench),
     ];
-    for (const group of requestGroups) Object.assign(this, boundMethods(group));
+    for (const group of requestGroups) Object.assign(this, bindMethods(group));
   }
 }
 
@@ -51,7 +51,7 @@ export class BenchCalls {
  * Returns the methods of a group of requests by name, as functions that are bound to the group.
  * @param {object} group
  */
-function boundMethods(group) {
+function bindMethods(group) {
   const names = Object.getOwnPropertyNames(Object.getPrototypeOf(group)).filter((name) => name !== "constructor");
   return Object.fromEntries(names.map((name) => [name, /** @type {any} */ (group)[name].bind(group)]));
 }

@@ -14,7 +14,8 @@ import { ForecastAnswers, parseTraceLine } from "./forecast_answers.js";
  * @typedef {{ first: number, longest: number, rest: number } | null} ChangeSummary
  *
  * The contents of a display during an interval. `patterns`: the segment pattern of each digit at the end. `changeSummary`: the times
- * between pattern changes. If a pattern changed, `patternTimes` lists for each digit its patterns with their durations in cycles.
+ * between pattern changes. If a pattern changed, `patternTimes` lists for each digit its patterns, except the unlit one, with their
+ * durations in cycles.
  * @typedef {{ patterns: number[], changeSummary: ChangeSummary, patternTimes: [number, number][][] }} ShownDisplay
  *
  * The lamp measurements of an interval of `cycles` cycles. `face`: the number that the page gave to the front panel. `marks`: one character
@@ -25,7 +26,7 @@ import { ForecastAnswers, parseTraceLine } from "./forecast_answers.js";
  */
 
 /**
- * The maximum number of cycles for which planned lines are measured. At full speed, they run longer; `forecastMeters` then forecasts the
+ * The maximum number of cycles for which planned lines are measured. A batch at full speed is longer; `forecastMeters` then forecasts the
  * next 30 ms instead.
  */
 export const MAX_MEASURED_CYCLES = 20000;
@@ -93,7 +94,7 @@ class PatternTimes {
    * Records a change in the lamps' states if the change affects this display.
    * @param {string} marks
    * @param {string} marksBefore the marks before the change
-   * @param {number} cycles the cycles before the change
+   * @param {number} cycles the time of the change, in cycles since the start of the interval
    */
   recordChange(marks, marksBefore, cycles) {
     const { first, rows, columns, firstRowLamp } = this.group;

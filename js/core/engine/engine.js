@@ -227,7 +227,7 @@ export class Engine {
 
   /** Does nothing. `prepareForRuns` is part of the interface EngineHost, but this host has nothing to prepare for later runs. */
   prepareForRuns() {
-    // This host uses only the bytes of a state.
+    // Every call receives the complete state.
   }
 
   /**

@@ -20,7 +20,7 @@
  * @property {(bytes: Uint8Array) => State} stateOf returns the state in a session file; if the bytes are not a valid session, the next
  *   `serve` or `ask` with this state rejects them
  * @property {(question: string) => string} [prove] asks the prover, and returns the line that the program mcs4-prove would print; only the
- *   module has it
+ *   module has this method
  */
 
 export {};

@@ -3,7 +3,7 @@
 import { sentText } from "../text/sendable_text.js";
 
 /**
- * An example. `lines` are console lines that the page suggests to the user; if there are none, the machine starts at once. `tests` and
+ * An example. `lines` are console lines that the page suggests to the user; if there are none, the program starts at once. `tests` and
  * `properties` belong to the program. `project` is the text of a project file, or "". If an example has a project file, its session comes
  * from that file and starts paused. `story` is a guided tour, which help/story.js reads.
  * @typedef {{ name: string, title: string, board: string, program: string, tests: string, properties: string, lines: string,

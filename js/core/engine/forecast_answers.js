@@ -85,7 +85,7 @@ export class ForecastAnswers {
     return { row: head[3], lines: this.answers.slice(from, this.nextIndex), cycles: Number(head[1]) };
   }
 
-  /** Consumes and parses the next answer to `count`: the instructions that start in a run. */
+  /** Consumes and parses the next answer to `count`. Returns the counts of the instructions that start in the run. */
   takeCounts() {
     return this.takeTrace().lines.map(readCountLine);
   }

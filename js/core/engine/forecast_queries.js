@@ -1,5 +1,5 @@
-// Adds queries before each planned run, which are sent in the same call as the run. In the answers to these queries, the bench forecasts
-// what happens during the run.
+// Adds queries before each planned run. The queries and the run are sent in the same call. In the answers to the queries, the bench
+// forecasts what happens during the run.
 
 import { plannedCycles } from "../debug/goal_search.js";
 import { ForecastAnswers } from "./forecast_answers.js";
@@ -12,12 +12,13 @@ import { ForecastAnswers } from "./forecast_answers.js";
  *
  * A source of queries before each run, such as the recorder or the printer. `queries` returns the query lines for a run of `cycles` cycles.
  * `count` is the number of these queries; the format of each answer is that of `trace`. `needsStates` is true if the source also needs the
- * answer to `state` after each key change.
+ * answer to `state` after each line that is not a run.
  * @typedef {{ queries: (cycles: number) => string, count: number, needsStates: boolean }} QuerySource
  */
 
 /**
- * Returns the planned lines with the queries of all sources before each run.
+ * Returns the planned lines with the queries of all sources before each run. If a source needs states, `state` follows each line
+ * that is not a run.
  * @param {SentLine[]} plannedLines
  * @param {QuerySource[]} querySources
  */

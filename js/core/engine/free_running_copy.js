@@ -1,4 +1,4 @@
-// Creates a copy of a state without breakpoints and watches, so that nothing stops its runs.
+// Creates a copy of a state without breakpoints or watches, so that nothing stops its runs.
 
 import { readItems } from "../bench/answers.js";
 import { joinLines } from "../bench/inputs.js";
@@ -13,7 +13,7 @@ function stopRemovalLines([breaks, watches]) {
 }
 
 /**
- * Returns a copy of a state without breakpoints and watches.
+ * Returns a copy of a state without breakpoints or watches.
  * @param {import("./engine_host.js").EngineHost} engine
  * @param {Uint8Array} file
  */

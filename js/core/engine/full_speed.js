@@ -18,7 +18,7 @@ const HIDDEN_REPORT_INTERVAL_MS = 1000;
 
 /**
  * Returns an empty report. `end` is the answer that ended the run early ("" for none), `stop` is the reason why the machine stopped, and
- * `tally` contains the breakpoint events. The batches do not measure the lamps (`litShares`), the buzzer (`buzzerLevels`) and RAM changes
+ * `tally` contains the breakpoint events. The batches do not measure the lamps (`litShares`), the buzzer (`buzzerLevels`) or RAM changes
  * (`chipHeat`).
  * @returns {Omit<DebugFrame, "runEntries">}
  */

@@ -1,5 +1,5 @@
-// Counts the changes of RAM nibbles while the machine runs, from the answers to `trace` queries before each run. Each frame watches one RAM
-// chip, so that the work per frame does not grow with the number of chips.
+// Counts the changes of RAM nibbles while the machine runs, from the answers to `trace` queries before each run. In each frame, the meter
+// watches one RAM chip, so that the work per frame does not grow with the number of chips.
 
 import { ChangeCounter, GROUPS_PER_CHIP, nibbleGroups } from "./heat_map.js";
 import { ForecastAnswers, parseTraceLine } from "./forecast_answers.js";
@@ -8,7 +8,7 @@ import { ForecastAnswers, parseTraceLine } from "./forecast_answers.js";
  * @typedef {import("../bench/answers.js").Board} Board
  * @typedef {import("./heat_map.js").Heat} Heat
  *
- * The changes in one RAM chip. `chipCount` is the number of all RAM chips on the board.
+ * The changes in one RAM chip. `chipCount` is the number of RAM chips on the board.
  * @typedef {Heat & { chipCount: number }} ChipHeat
  */
 

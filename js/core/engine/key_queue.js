@@ -19,15 +19,15 @@ export function runLines(cycles) {
 
 /**
  * @typedef {import("../board/key_place.js").Key} Key
- * @typedef {{ key: Key, word: "press" | "release" }} Change
+ * @typedef {{ key: Key, word: "press" | "release" }} KeyChange
  *
  * A line to send: a key change or a run.
- * @typedef {{ line: string, change: Change | null }} PlannedLine
+ * @typedef {{ line: string, change: KeyChange | null }} PlannedLine
  */
 
 /**
  * Returns the minimum number of cycles between a key change and the next one.
- * @param {Change} change
+ * @param {KeyChange} change
  */
 function minCyclesAfter(change) {
   return change.word === "press" ? KEY_DOWN_CYCLES : KEY_UP_CYCLES;
@@ -35,7 +35,7 @@ function minCyclesAfter(change) {
 
 export class KeyQueue {
   constructor() {
-    /** @type {Change[]} */
+    /** @type {KeyChange[]} */
     this.changes = [];
     /** The number of cycles that must pass before the next key change. */
     this.remainingWait = 0;
@@ -92,7 +92,7 @@ export class KeyQueue {
   }
 
   /**
-   * Updates the queue after planned lines were executed. The last run can have ended early.
+   * Updates the queue after planned lines were executed. If the last run ended early, only the cycles that it ran count.
    * @param {PlannedLine[]} plannedLines
    * @param {(index: number) => number} cyclesOf returns the number of cycles that the line at an index ran
    */

@@ -88,7 +88,7 @@ export class LiveRecorder {
   }
 
   /**
-   * Returns the recording so far, which the page extends with the later parts.
+   * Returns the start of a recording, which the page extends with the later parts. Called once, before the first call of `takePart`.
    * @param {Uint8Array} file
    * @returns {Recording}
    */
@@ -132,7 +132,7 @@ export class LiveRecorder {
     return 1 + this.builder.groups.length + Number(this.tracedPlaces !== "");
   }
 
-  /** True because the recorder reads the answer to `state` after each key change. */
+  /** True because the recorder reads the answer to `state` after each line that is not a run. */
   get needsStates() {
     return true;
   }
@@ -144,7 +144,7 @@ export class LiveRecorder {
    * @param {string[][]} tracedAnswers the answers to the queries before each line
    * @param {string[]} answers the answers to the lines, followed by the answer to `state`
    */
-  take(plannedLines, tracedAnswers, answers) {
+  recordLines(plannedLines, tracedAnswers, answers) {
     const { builder, trigger } = this;
     const startMoment = builder.elapsed;
     const instructionCount = builder.moments.count;
@@ -152,15 +152,15 @@ export class LiveRecorder {
     plannedLines.forEach(({ change }, index) => {
       const lineAnswers = new ForecastAnswers(tracedAnswers[index]);
       if (change) {
-        builder.takeState(lineAnswers.take());
+        builder.recordState(lineAnswers.take());
         return;
       }
       const from = builder.elapsed;
-      builder.takeForecast(lineAnswers);
+      builder.recordForecast(lineAnswers);
       if (this.tracedPlaces) this.triggerOnCondition(lineAnswers, from);
-      builder.takeEnd(readRun(answers[index]) || { cycles: 0, end: answers[index] });
+      builder.recordEnd(readRun(answers[index]) || { cycles: 0, end: answers[index] });
     });
-    builder.takeState(answers[plannedLines.length]);
+    builder.recordState(answers[plannedLines.length]);
     if (trigger && trigger.edge) this.triggerOnEdge(trigger, momentCounts);
     else if (trigger && trigger.address >= 0) this.triggerOnArrival(trigger.address, instructionCount);
     return this.endIfComplete(startMoment, instructionCount);
@@ -242,7 +242,7 @@ export class LiveRecorder {
 
   /**
    * Records the effect of lines that were executed while the machine was paused, by executing the lines again on a copy of the session.
-   * Ends the recording if a line changed the board or the program.
+   * If a line changed the board or the program, ends the recording instead.
    * @param {Uint8Array} file a copy of the session file before the lines; modified in place
    * @param {AcceptedCommand[]} commands
    */
@@ -257,7 +257,7 @@ export class LiveRecorder {
       const plannedLines = commands.slice(startIndex, index).map(replayLine);
       const { answers: allAnswers } = engine.serve(file, `${linesWithQueries(plannedLines, [this])}state\n`, file);
       const { sourceAnswers: [tracedAnswers], answers } = splitAnswers(plannedLines, [this], allAnswers);
-      this.take(plannedLines, tracedAnswers, answers);
+      this.recordLines(plannedLines, tracedAnswers, answers);
       this.mustStopMachine = false;
     }
   }

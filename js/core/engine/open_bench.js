@@ -8,7 +8,7 @@ import { SourceMap } from "../machine/source_map.js";
 import { sentText } from "../text/sendable_text.js";
 import { createProgramFromCheck } from "../waves/wave_program.js";
 import { FullSpeed } from "./full_speed.js";
-import { findDifference, readProgram } from "./program_check.js";
+import { findDifference, assembleText } from "./program_check.js";
 
 /**
  * @typedef {import("./examples.js").Example} Example
@@ -69,12 +69,12 @@ export class OpenBench {
    * @param {boolean} showsBoard true to include the answer to `board`
    * @returns {PageState}
    */
-  snapshotReport(snapshot, showsBoard) {
+  takePageState(snapshot, showsBoard) {
     const { file, statusQueries, count, timeline, printerCodes, queue } = this.session;
     const buffer = this.spareBuffers.pop() || new ArrayBuffer(file.length);
     new Uint8Array(buffer).set(file);
     const board = showsBoard ? statusQueries.board : null;
-    const waves = this.recordedPart();
+    const waves = this.takeRecordedPart();
     const past = timeline.takeChanges();
     const printed = printerCodes && printerCodes.takeChanges(count.total);
     const { total, reset } = count;
@@ -83,7 +83,7 @@ export class OpenBench {
   }
 
   /** Returns the part of the recording since the last report; null without a recording. */
-  recordedPart() {
+  takeRecordedPart() {
     const { session } = this;
     const { recorder, file } = session;
     if (!recorder) return null;
@@ -92,8 +92,8 @@ export class OpenBench {
   }
 
   /**
-   * Executes lines in the session. If the call fails or is cancelled, no line takes effect. Resolves to their result, with the new state
-   * for the page.
+   * Executes lines in the session. If the call fails or is cancelled, no line takes effect. Resolves to the result of the lines, with
+   * the new state for the page.
    * @param {string} lines
    * @returns {Promise<LinesReply>}
    */
@@ -112,7 +112,7 @@ export class OpenBench {
     this.debugger.commonMistakes.forgetRom();
     // A reset clears the return addresses, so the goal of the current move no longer applies.
     if (this.session.count.reset !== reset) this.debugger.beginMove();
-    return { ...result, ...this.snapshotReport(snapshot, result.hasChangedBoard) };
+    return { ...result, ...this.takePageState(snapshot, result.hasChangedBoard) };
   }
 
   /**
@@ -120,17 +120,18 @@ export class OpenBench {
    * @returns {LinesReply}
    */
   replyWithoutServing() {
-    const report = this.snapshotReport(this.session.takeSnapshot(), false);
+    const report = this.takePageState(this.session.takeSnapshot(), false);
     return { entries: [], firstAnswer: "", status: 0, hasChangedRom: false, hasChangedBoard: false, ...report };
   }
 
   /**
-   * Returns the `map` answer for a program, and the first difference between the program and ROM.
+   * Returns the `map` answer for a program, the error in its text, and its first difference from ROM. If ROM contains the program, the
+   * check for common mistakes uses its source map from then on.
    * @param {string} text the text as sent to the bench
    * @returns {ProgramCheck}
    */
   checkProgram(text) {
-    if (!this.program || this.program.text !== text) this.program = readProgram(this.engine, text);
+    if (!this.program || this.program.text !== text) this.program = assembleText(this.engine, text);
     const { map, refusal } = this.program;
     const { file, statusQueries } = this.session;
     const difference = findDifference(this.engine, file, statusQueries.board, this.program);
@@ -154,7 +155,7 @@ export class OpenBench {
    * Returns the texts for a recording, with the program checked against ROM.
    * @param {WaveTexts} texts
    */
-  recordingTexts({ board, program, values = [] }) {
+  createRecordingTexts({ board, program, values = [] }) {
     return { board, program: createProgramFromCheck(this.checkProgram(sentText(program, ";")), program), values };
   }
 
@@ -165,7 +166,7 @@ export class OpenBench {
   takePendingFrame() {
     const { tally, ...result } = this.fullSpeed.takeReport();
     const lateTally = { ...NO_TALLY, mistakes: this.debugger.takeLateMistakes() };
-    return { ...result, tally: joinTallies(lateTally, tally), ...this.snapshotReport(this.session.takeSnapshot(), false) };
+    return { ...result, tally: joinTallies(lateTally, tally), ...this.takePageState(this.session.takeSnapshot(), false) };
   }
 
   /** Runs the debugger's checks of the lines that were executed last. The debugger postpones these checks until the page has its report. */
@@ -182,6 +183,6 @@ export class OpenBench {
     this.fullSpeed.runBatch(this.debugger);
     if (!this.fullSpeed.isReportDue(this.spareBuffers.length > 0)) return null;
     const { snapshot, ...result } = this.fullSpeed.takeReport();
-    return { ...result, ...this.session.forecastMeters(), ...this.snapshotReport(snapshot, false) };
+    return { ...result, ...this.session.forecastMeters(), ...this.takePageState(snapshot, false) };
   }
 }

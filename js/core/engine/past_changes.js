@@ -39,7 +39,7 @@ function traceUnits(engine, file, units, groups) {
  * @param {Engine} engine
  * @param {Uint8Array} file the session file; modified in place, to the state after the units
  * @param {Unit[]} units
- * @param {string[][]} groups the places to watch, in groups that fit into one `trace`
+ * @param {string[][]} groups the places to watch, in groups; each group fits into one `trace` query
  * @param {(change: PastChange) => void} report called for each change: for the changes of the first group in order, then for those of the
  *   next group
  */

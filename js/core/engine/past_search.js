@@ -56,7 +56,7 @@ export const EMPTY_SEARCH_RESULT = { reason: "", place: "", from: "", to: "", li
  * @param {Partial<BackSearchResult>} fields
  * @returns {BackSearchResult}
  */
-export function searchResult(fields) {
+export function createSearchResult(fields) {
   return { moment: null, present: null, ...EMPTY_SEARCH_RESULT, ...fields };
 }
 
@@ -72,9 +72,9 @@ async function findLastInstruction(engine, timeline, shouldContinue) {
     const moment = timeline.momentBefore(cycles);
     if (!moment) break;
     const present = await timeline.sessionAt(engine, moment, shouldContinue);
-    if (readCounter(engine.ask(present.file, "regs\n").answers[0]).owed === "0") return searchResult({ moment, present });
+    if (readCounter(engine.ask(present.file, "regs\n").answers[0]).owed === "0") return createSearchResult({ moment, present });
   }
-  return searchResult({ reason: "short" });
+  return createSearchResult({ reason: "short" });
 }
 
 /** Finds the last change of a place. A result has the moment before the instruction or command that made the change. */
@@ -104,7 +104,7 @@ export class LastChangeFinder {
     reportChanges(engine, file, units, [probes], ({ before, after, unit, cycles, line }) => {
       const moment = { ...unit.moment, cycles: unit.moment.cycles + cycles };
       const change = this.changeBetween(before, after);
-      if (change) match = searchResult({ moment, line, ...change, end: "change" });
+      if (change) match = createSearchResult({ moment, line, ...change, end: "change" });
     });
     return match;
   }
@@ -123,7 +123,7 @@ export class LastChangeFinder {
   }
 }
 
-/** Finds the last moment before a condition became true. */
+/** Finds the moment before a condition last became true. */
 class LastTrueFinder extends LastChangeFinder {
   /**
    * @param {Engine} engine
@@ -150,7 +150,8 @@ class LastTrueFinder extends LastChangeFinder {
  * @param {Timeline} timeline
  * @param {Finder} finder
  * @param {ShouldContinue} shouldContinue
- * @returns {Promise<{ lastMatch: BackSearchResult | null, start: Moment }>} `start` is the start of the stored past
+ * @returns {Promise<{ lastMatch: BackSearchResult | null, start: Moment }>} `start` is the start of the searched part; if there is no
+ *   match, this is the start of the stored past
  */
 export async function searchPast(engine, timeline, finder, shouldContinue) {
   let to = timeline.presentMoment;
@@ -181,7 +182,7 @@ export async function searchPast(engine, timeline, finder, shouldContinue) {
  * @param {Uint8Array} file
  * @param {string} name
  */
-export function makeChangeFinder(engine, file, name) {
+export function createChangeFinder(engine, file, name) {
   const place = parsePlace(name);
   const probes = place ? place.probesOn(readBoard(engine.ask(file, "board\n").answers)) : [];
   return place && probes.length > 0 ? new LastChangeFinder(engine, place, probes) : null;
@@ -197,16 +198,17 @@ export function makeChangeFinder(engine, file, name) {
  */
 export async function findBackTarget(engine, { timeline, file }, goal, shouldContinue) {
   if (goal.kind === "change") {
-    const finder = makeChangeFinder(engine, file, goal.place);
-    if (!finder) return searchResult({ reason: "lacks", place: goal.place });
-    return (await searchPast(engine, timeline, finder, shouldContinue)).lastMatch || searchResult({ reason: "short", place: goal.place });
+    const finder = createChangeFinder(engine, file, goal.place);
+    if (!finder) return createSearchResult({ reason: "lacks", place: goal.place });
+    const { lastMatch } = await searchPast(engine, timeline, finder, shouldContinue);
+    return lastMatch || createSearchResult({ reason: "short", place: goal.place });
   }
   if (goal.kind === "when") {
     const finder = goal.searchCondition ? new LastTrueFinder(engine, goal.searchCondition) : null;
     const match = finder ? (await searchPast(engine, timeline, finder, shouldContinue)).lastMatch : null;
-    return match || searchResult({ reason: "short" });
+    return match || createSearchResult({ reason: "short" });
   }
   if (goal.kind === "instruction") return findLastInstruction(engine, timeline, shouldContinue);
   const moment = timeline.lastStop();
-  return searchResult({ moment, reason: moment ? "" : "short" });
+  return createSearchResult({ moment, reason: moment ? "" : "short" });
 }

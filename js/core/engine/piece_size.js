@@ -2,7 +2,7 @@
 
 /** The target duration of a piece, in milliseconds. */
 const PIECE_MILLISECONDS = 40;
-/** The length of the first piece, in cycles, of a task that examines each cycle. */
+/** The length in cycles of the first piece of a task that examines each cycle. */
 export const FIRST_PIECE_CYCLES = 1000;
 /** The maximum number of cycles in a piece of a search. */
 export const SEARCH_PIECE_CYCLES = 400000;

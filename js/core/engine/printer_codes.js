@@ -91,7 +91,7 @@ export class PrinterCodes {
    * @param {string[][]} answerLists one list of answers for each planned line; empty for a line that is not a run
    * @param {number} total the cycle count before the first line
    */
-  take(answerLists, total) {
+  readCodes(answerLists, total) {
     this.codes.length = this.countAt(total);
     let cyclesBefore = total;
     for (const answers of answerLists) {
@@ -126,7 +126,7 @@ export class PrinterCodes {
       const plannedLines = commands.slice(startIndex, index).map(replayLine);
       const { answers } = engine.serve(file, linesWithQueries(plannedLines, [this]), file);
       const { sourceAnswers: [answerLists] } = splitAnswers(plannedLines, [this], answers);
-      this.take(answerLists, cyclesBefore);
+      this.readCodes(answerLists, cyclesBefore);
       cyclesBefore += cycles;
     }
   }

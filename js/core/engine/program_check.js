@@ -41,7 +41,7 @@ export function findSendingError(text) {
  * @param {string} text
  * @returns {Program}
  */
-export function readProgram(engine, text) {
+export function assembleText(engine, text) {
   const sendingError = findSendingError(text);
   if (sendingError) return { text, map: [], refusal: sendingError, bytes: parseRomBytes([]) };
   const textWithLineEnd = text === "" || text.endsWith("\n") ? text : `${text}\n`;
@@ -49,7 +49,7 @@ export function readProgram(engine, text) {
   const [, asmAnswer, map, ...lists] = matchAnswers(readInputs(lines), engine.ask(engine.begin(), lines).answers);
   const refusal = parseRefusal(asmAnswer[0]) || parseRefusal(map[0]);
   const bytes = parseRomBytes(refusal ? [] : lists.flat());
-  const isFilled = filledAddresses(map);
+  const isFilled = findFilledAddresses(map);
   return { text, map: refusal ? [] : map, refusal, bytes: bytes.map((byte, address) => (isFilled[address] ? byte : NO_BYTE)) };
 }
 
@@ -57,7 +57,7 @@ export function readProgram(engine, text) {
  * Returns an array with 1 for each address at which a program has a byte, otherwise 0.
  * @param {string[]} map the answer to `map`
  */
-function filledAddresses(map) {
+function findFilledAddresses(map) {
   const isFilled = new Uint8Array(ADDRESS_COUNT);
   for (const { address, size } of readMap(map).lines) isFilled.fill(1, address, address + size);
   return isFilled;

@@ -1,6 +1,6 @@
 // Requests about the program in ROM and its source.
 
-import { findLeftovers, readProgram } from "./program_check.js";
+import { findLeftovers, assembleText } from "./program_check.js";
 import { disassembleRom } from "./text_recovery.js";
 
 /**
@@ -14,7 +14,7 @@ export class ProgramRequests {
   }
 
   /**
-   * Returns the `map` answer for a program, and its first difference from ROM.
+   * Returns the `map` answer for a program, the error in its text, and its first difference from ROM.
    * @param {string} text the text as sent to the bench
    */
   checkProgram(text) {
@@ -26,7 +26,7 @@ export class ProgramRequests {
    * @param {string} text the text as sent to the bench
    */
   findLeftovers(text) {
-    if (!this.bench.program || this.bench.program.text !== text) this.bench.program = readProgram(this.bench.engine, text);
+    if (!this.bench.program || this.bench.program.text !== text) this.bench.program = assembleText(this.bench.engine, text);
     return findLeftovers(this.bench.engine, this.bench.session.file, this.bench.program);
   }
 

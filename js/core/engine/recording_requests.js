@@ -25,7 +25,7 @@ export class RecordingRequests {
    */
   record(cycles, recordsPast, texts) {
     const { engine, session } = this.bench;
-    const recordedTexts = this.bench.recordingTexts(texts);
+    const recordedTexts = this.bench.createRecordingTexts(texts);
     /** @type {(done: number) => Promise<boolean>} */
     const shouldContinue = (done) => this.bench.shouldContinue(done, cycles);
     if (recordsPast) return recordLastCycles(engine, session.timeline, cycles, recordedTexts, shouldContinue);
@@ -42,7 +42,7 @@ export class RecordingRequests {
    */
   recordLive(texts, options) {
     const { engine, session } = this.bench;
-    const recorder = new LiveRecorder(engine, session.file, this.bench.recordingTexts(texts));
+    const recorder = new LiveRecorder(engine, session.file, this.bench.createRecordingTexts(texts));
     const names = this.bench.collectNames(texts);
     const { trigger, error } = readTrigger(options.trigger, recorder.lines, names);
     if (error) return { recording: null, error };
@@ -54,6 +54,6 @@ export class RecordingRequests {
   /** Ends the recording; returns its last part, or null if there is no recording. */
   endRecording() {
     if (this.bench.session.recorder) this.bench.session.recorder.stop("hand");
-    return this.bench.recordedPart();
+    return this.bench.takeRecordedPart();
   }
 }

@@ -5,7 +5,7 @@ import { hex } from "../bench/numbers.js";
 import { SourceMap } from "../machine/source_map.js";
 import { findTextErrors } from "../testing/test_preparation.js";
 import { sentText } from "../text/sendable_text.js";
-import { readProgram } from "./program_check.js";
+import { assembleText } from "./program_check.js";
 
 /**
  * @typedef {import("./engine_host.js").EngineHost} EngineHost
@@ -27,7 +27,7 @@ import { readProgram } from "./program_check.js";
  * @param {SourceMap} map
  * @returns {ByteDifference | null}
  */
-function firstDifference(codes, bytes, map) {
+function findFirstDifference(codes, bytes, map) {
   const address = bytes.findIndex((byte, index) => byte >= 0 && byte !== codes[index]);
   if (address < 0) return null;
   return { address: hex(address, 3), romByte: hex(codes[address], 2), line: map.lineOf(address), sourceByte: hex(bytes[address], 2) };
@@ -39,12 +39,12 @@ function firstDifference(codes, bytes, map) {
  * @param {string} text
  * @returns {{ errors: ProjectTextError[], map: SourceMap, bytes: Int16Array }}
  */
-export function readSource(engine, text) {
+export function assembleSource(engine, text) {
   const createErrorResult = (/** @type {ProjectTextError[]} */ errors) => ({ errors, map: new SourceMap([], ""), bytes: new Int16Array() });
   const textErrors = findTextErrors("program", text);
   if (textErrors.length > 0) return createErrorResult(textErrors);
   const sentSource = sentText(text, ";");
-  const { map, refusal, bytes } = readProgram(engine, sentSource);
+  const { map, refusal, bytes } = assembleText(engine, sentSource);
   if (refusal) return createErrorResult([{ text: "program", ...refusal, words: "" }]);
   return { errors: [], map: new SourceMap(map, sentSource), bytes };
 }
@@ -56,7 +56,7 @@ export function readSource(engine, text) {
  * @param {string} text
  * @returns {SessionProgram}
  */
-export function sessionProgram(engine, codes, text) {
-  const { errors, map, bytes } = readSource(engine, text);
-  return { errors, difference: errors.length > 0 ? null : firstDifference(codes, bytes, map), map };
+export function compareWithRom(engine, codes, text) {
+  const { errors, map, bytes } = assembleSource(engine, text);
+  return { errors, difference: errors.length > 0 ? null : findFirstDifference(codes, bytes, map), map };
 }

@@ -32,7 +32,7 @@ export class SessionRequests {
     this.bench.currentDebugger = new Debugger(session);
     this.bench.currentDebugger.commonMistakes.stoppingKinds = new Set(this.bench.stopKinds);
     this.bench.fullSpeed.stop();
-    return this.bench.snapshotReport(snapshot, true);
+    return this.bench.takePageState(snapshot, true);
   }
 
   /**
@@ -51,7 +51,7 @@ export class SessionRequests {
   }
 
   /**
-   * Executes lines in the session. If the call fails or is cancelled, no line takes effect. Resolves to their result.
+   * Executes lines in the session. If the call fails or is cancelled, no line takes effect. Resolves to the result of the lines.
    * @param {string} lines
    * @returns {Promise<LinesReply>}
    */

@@ -21,7 +21,7 @@ export class TimeRequests {
   advance(cycles, key = null) {
     if (key) this.press(key);
     const { snapshot, ...result } = this.bench.debugger.advance(cycles, key !== null);
-    return { ...result, ...this.bench.snapshotReport(snapshot, false) };
+    return { ...result, ...this.bench.takePageState(snapshot, false) };
   }
 
   /**
@@ -43,7 +43,7 @@ export class TimeRequests {
   }
 
   /**
-   * Removes the waiting changes of a key. Returns the changes that still wait.
+   * Removes the waiting changes of a key. Returns the other waiting changes.
    * @param {Key} key
    */
   forget(key) {

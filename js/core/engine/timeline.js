@@ -1,8 +1,8 @@
 // Stores the past of a session, so that the session can move back in time. The past consists of segments. A segment has the session file at
 // its start and the accepted commands since then. To compute a past state, the timeline runs the commands of a segment again on a copy of
 // its file. When the past becomes too long, segments without a stop (a moment at which the machine was paused) are removed first. The past
-// is stored in the memory of this worker. The page receives the additions (session/stored_history.js), and restores the past after a
-// reload.
+// is stored in the memory of this worker. The page receives the additions (js/page/session/stored_history.js), and restores the past
+// after a reload.
 
 import { CancelledError } from "../bench/bench_errors.js";
 import { stripSeq } from "../bench/state_line.js";
@@ -21,7 +21,7 @@ import { CycleCount } from "./accepted_commands.js";
  * @typedef {{ file: Uint8Array, count: CycleCount, entries: Entry[], cycles: number, characters: number, follows: boolean, marks: Mark[] }}
  * Segment
  *
- * A mark, which is an additional session state within a segment: the state after the first `entry` entries, which ran `cycles` cycles.
+ * A mark is an additional session state within a segment: the state after the first `entry` entries, which ran `cycles` cycles.
  * @typedef {{ entry: number, file: Uint8Array, count: CycleCount, cycles: number }} Mark
  *
  * A moment: after `entry` entries of a segment, and `cycles` cycles into the next entry.
@@ -69,7 +69,7 @@ export class Timeline {
   /** @param {SessionAtMoment} present */
   constructor(present) {
     /** @type {Segment[]} */
-    this.segments = [segmentAt(present, false)];
+    this.segments = [createSegment(present, false)];
     /** True if the machine is paused; the next entry then starts at a stop. */
     this.isStopped = true;
     /**
@@ -142,7 +142,7 @@ export class Timeline {
 
   /**
    * Appends commands to the past. Earlier moves back can then no longer be undone. A stored entry never changes. If the commands are too
-   * long to replay, the past starts again after them.
+   * many or too long to replay, the past starts again after them.
    * @param {AcceptedCommand[]} commands
    * @param {SessionAtMoment} present the session after the commands
    */
@@ -166,7 +166,7 @@ export class Timeline {
     const { cycles: segmentCycles, entries, characters } = lastSegment;
     const isFull = segmentCycles >= MAX_SEGMENT_CYCLES || entries.length >= MAX_SEGMENT_ENTRIES || characters >= MAX_SEGMENT_CHARACTERS;
     if (isTooLong || isFull) {
-      this.segments.push(segmentAt(present, !isTooLong));
+      this.segments.push(createSegment(present, !isTooLong));
       if (this.segments.length > 2) this.segments[this.segments.length - 3].marks = [];
       if (this.segments.length > MAX_SEGMENTS) this.dropSegment();
     }
@@ -302,7 +302,7 @@ export class Timeline {
  */
 function restoreSegment({ file, total, reset, entries }, index) {
   const [cycles, characters] = [entries.map((entry) => entry.cycles), entries.map(({ line }) => line.length)].map(addUp);
-  return { ...segmentAt({ file, count: new CycleCount(total, reset) }, index > 0), entries, cycles, characters };
+  return { ...createSegment({ file, count: new CycleCount(total, reset) }, index > 0), entries, cycles, characters };
 }
 
 /** @param {number[]} numbers */
@@ -340,7 +340,7 @@ function nextPiece(entries, from) {
  * @param {boolean} follows true if the segment starts where the previous one ends
  * @returns {Segment}
  */
-function segmentAt({ file, count }, follows) {
+function createSegment({ file, count }, follows) {
   return { file: file.slice(), count: count.copy(), entries: [], cycles: 0, characters: 0, follows, marks: [] };
 }
 

@@ -39,7 +39,7 @@ export class TravelRequests {
     const { searchResult, result, tally } = await this.bench.debugger.runToGoal(goal, maxCycles, shouldContinue);
     if (!result) return { ...this.bench.replyWithoutServing(), searchResult, tally };
     const { snapshot, ...served } = result;
-    return { ...served, ...this.bench.snapshotReport(snapshot, false), searchResult, tally };
+    return { ...served, ...this.bench.takePageState(snapshot, false), searchResult, tally };
   }
 
   /** Abandons the goal, because the user starts or pauses the machine. */
@@ -57,7 +57,7 @@ export class TravelRequests {
     let doneCycles = 0;
     const shouldContinue = (newCycles = 0) => this.bench.shouldContinue(doneCycles += newCycles, totalCycles);
     const outcome = await this.bench.debugger.goBack(goal, shouldContinue);
-    return travelResult(this.bench, "back", outcome);
+    return createTravelResult(this.bench, "back", outcome);
   }
 
   /**
@@ -65,7 +65,7 @@ export class TravelRequests {
    * @returns {TravelResult}
    */
   goForward() {
-    return travelResult(this.bench, "forward", this.bench.debugger.goForward());
+    return createTravelResult(this.bench, "forward", this.bench.debugger.goForward());
   }
 
   /**
@@ -99,10 +99,10 @@ export class TravelRequests {
  * @param {BackResult} outcome
  * @returns {TravelResult}
  */
-function travelResult(bench, word, outcome) {
+function createTravelResult(bench, word, outcome) {
   const { session } = bench;
   const { isDone, hasChangedBoard } = outcome;
   const entries = isDone ? [{ line: `(${word})`, textLines: 0, answers: [bench.engine.ask(session.file, "").openingAnswer] }] : [];
-  const report = bench.snapshotReport(session.takeSnapshot(), hasChangedBoard);
+  const report = bench.takePageState(session.takeSnapshot(), hasChangedBoard);
   return { entries, firstAnswer: "", status: 0, hasChangedRom: isDone, ...outcome, ...report };
 }

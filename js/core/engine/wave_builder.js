@@ -72,8 +72,8 @@ function fieldsForKind(lines, kind) {
 }
 
 /**
- * Returns one `trace` place per digit of a value. Each digit has a function that reads it. This function returns the value that consists of
- * all digits read so far.
+ * Returns one `trace` place per digit of a value, each with a function that reads the digit and returns the value of all digits read so
+ * far.
  * @param {string[]} places most significant digit first
  */
 function placesOfDigits(places) {
@@ -150,7 +150,7 @@ export class WaveBuilder {
   }
 
   /**
-   * Returns the queries to ask before a run: a `trace` of all instructions, and a `trace` for each group of places.
+   * Returns the queries to send before a run: a `trace` of all instructions, and a `trace` for each group of places.
    * @param {number} cycles the length of the run
    */
   queries(cycles) {
@@ -165,9 +165,9 @@ export class WaveBuilder {
   begin(answers) {
     const state = answers.take();
     this.isSecondCycle = stateValue(state, "owed") === "1";
-    this.takeState(state);
+    this.recordState(state);
     if (this.hasCounter) answers.takeTrace();
-    for (const group of this.groups) this.takeRow(group, answers.takeTrace().row, 0);
+    for (const group of this.groups) this.recordRow(group, answers.takeTrace().row, 0);
     for (const track of this.tracks) track.takeData();
   }
 
@@ -176,36 +176,36 @@ export class WaveBuilder {
    * program counter is not an instruction.
    * @param {ForecastAnswers} answers
    */
-  takeRun(answers) {
-    this.takeForecast(answers);
+  recordRun(answers) {
+    this.recordForecast(answers);
     const run = answers.takeRun();
     if (run.cycles === 0 && run.end !== "code") throw new Error(`the bench answered a recording by: ${run.end}`);
-    this.takeEnd(run);
+    this.recordEnd(run);
   }
 
   /**
    * Records the forecast of a run from the answers to the queries before the run.
    * @param {ForecastAnswers} answers
    */
-  takeForecast(answers) {
-    if (this.hasCounter) for (const line of answers.takeTrace().lines) this.takeInstructionLine(line);
+  recordForecast(answers) {
+    if (this.hasCounter) for (const line of answers.takeTrace().lines) this.recordInstructionLine(line);
     for (const group of this.groups) {
       const trace = answers.takeTrace();
-      // A command before the run can have changed the row.
-      this.takeRow(group, trace.row, this.elapsed);
+      // A command before the run could have changed the row.
+      this.recordRow(group, trace.row, this.elapsed);
       for (const line of trace.lines) {
         const { cycles, row } = parseTraceLine(line);
-        this.takeRow(group, row, this.elapsed + cycles + 1);
+        this.recordRow(group, row, this.elapsed + cycles + 1);
       }
     }
   }
 
   /**
-   * Records the instruction of a trace line such as `5 00A`. A frame has more than a thousand such lines, so this method parses them
-   * character by character.
+   * Records the start of the instruction in a trace line such as `5 00A`. A frame has more than a thousand such lines, so this method
+   * parses them character by character.
    * @param {string} line
    */
-  takeInstructionLine(line) {
+  recordInstructionLine(line) {
     let cycles = 0;
     let index = 0;
     for (let code = line.charCodeAt(0); code !== BLANK_CODE; code = line.charCodeAt(index)) {
@@ -213,23 +213,23 @@ export class WaveBuilder {
       index += 1;
     }
     const address = 256 * digitAt(line, index + 1) + 16 * digitAt(line, index + 2) + digitAt(line, index + 3);
-    this.takeInstruction(this.elapsed + cycles, address);
+    this.recordInstruction(this.elapsed + cycles, address);
   }
 
   /**
    * Adds the length of a run to `elapsed`, and records whether an invalid opcode stopped the run.
    * @param {import("./forecast_answers.js").RunResult} run
    */
-  takeEnd({ cycles, end }) {
+  recordEnd({ cycles, end }) {
     this.elapsed += cycles;
     this.isStuck = end === "code";
   }
 
   /**
-   * Records the keys, the TEST pin and the program counter. Called after a command, and at the end of the recording.
+   * Records the keys, the TEST pin and the program counter. Called after a command, and at the end of a part of the recording.
    * @param {string} state the answer to `state`
    */
-  takeState(state) {
+  recordState(state) {
     const keys = `,${stateValue(state, "keys")},`;
     const test = Number(stateValue(state, "test"));
     this.lines.forEach(({ kind, places }, member) => {
@@ -238,7 +238,7 @@ export class WaveBuilder {
     });
     // During the second cycle of an instruction, the counter already points to the next instruction.
     if (stateValue(state, "owed") === "0" || !this.hasStarted) {
-      this.takeInstruction(this.elapsed, parseInt(stateValue(state, "pc"), 16));
+      this.recordInstruction(this.elapsed, parseInt(stateValue(state, "pc"), 16));
     }
   }
 
@@ -247,7 +247,7 @@ export class WaveBuilder {
    * @param {number} moment
    * @param {number} counter the program counter
    */
-  takeInstruction(moment, counter) {
+  recordInstruction(moment, counter) {
     this.hasStarted = true;
     if (this.moments.last === moment) {
       this.counters.last = counter;
@@ -263,7 +263,7 @@ export class WaveBuilder {
    * @param {string} row the values of the places, each preceded by a blank
    * @param {number} moment
    */
-  takeRow(group, row, moment) {
+  recordRow(group, row, moment) {
     if (row === group.row) return;
     if (group.row === "") setPositions(group, row);
     for (const { readers, from, to } of group.fields) {

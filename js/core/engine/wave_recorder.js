@@ -27,8 +27,8 @@ import { copyWithoutStops } from "./free_running_copy.js";
  * - `from`, `cycles`: the moments at which the part starts and ends;
  * - `isStuck`: true if the next opcode is not an instruction;
  * - `tracks`: the values of each signal line over time;
- * - `moments`, `counters`: the moments at which instructions start, and the end of the part; and the program counter at each of these
- *   moments;
+ * - `moments`: the moments at which instructions start, and the end of the part;
+ * - `counters`: the program counter at each of these moments;
  * - `isOwed`: true if the first of these moments is the second cycle of an instruction;
  * - `listing`: the address and the listing line of each instruction that has not occurred in earlier parts.
  * @typedef {import("./wave_builder.js").WavePart & { listing: [number, string][] }} RecordedPart
@@ -69,10 +69,10 @@ class WaveRecorder {
     const answers = new ForecastAnswers(engine.serve(file, lines, file).answers);
     for (const { cycles } of units) {
       if (cycles > 0) {
-        builder.takeRun(answers);
+        builder.recordRun(answers);
       } else {
         answers.take();
-        builder.takeState(answers.take());
+        builder.recordState(answers.take());
       }
     }
   }
@@ -83,7 +83,7 @@ class WaveRecorder {
    */
   finish() {
     const { engine, file, builder, program } = this;
-    builder.takeState(engine.ask(file, "state\n").answers[0]);
+    builder.recordState(engine.ask(file, "state\n").answers[0]);
     const part = builder.take();
     return { ...part, lines: builder.lines, listing: listingLinesAt(engine, file, new Set(part.counters)), program };
   }

@@ -25,7 +25,7 @@ const dependsOnCounter = ({ kind }) => kind === "pc" || kind === "label";
  * Returns the chosen signal lines of a board together with the lines of each chosen port.
  * @param {WaveLine[]} lines the signal lines of the board
  * @param {number[]} chosenLines the indices of the chosen lines
- * @returns {{ lines: WaveLine[], chosenIndexes: number[] }} `chosenIndexes` are the new indices of the chosen lines
+ * @returns {{ lines: WaveLine[], chosenIndices: number[] }} `chosenIndices` are the new indices of the chosen lines
  */
 export function linesWithMembers(lines, chosenLines) {
   const neededIndices = [...new Set(chosenLines.flatMap((line) => [line, ...lines[line].members]))];
@@ -33,7 +33,7 @@ export function linesWithMembers(lines, chosenLines) {
   const newIndex = (/** @type {number} */ line) => positions.get(line) ?? -1;
   return {
     lines: neededIndices.map((line) => ({ ...lines[line], members: lines[line].members.map(newIndex) })),
-    chosenIndexes: chosenLines.map(newIndex),
+    chosenIndices: chosenLines.map(newIndex),
   };
 }
 
@@ -53,8 +53,8 @@ export async function* recordPieces(engine, state, { lines, program, cycles }, y
   while (builder.elapsed < cycles && !builder.isStuck) {
     const nextCycles = Math.min(PIECE_CYCLES, cycles - builder.elapsed);
     const answers = new ForecastAnswers(engine.serve(state, `${builder.queries(nextCycles)}run ${nextCycles}\nstate\n`, state).answers);
-    builder.takeRun(answers);
-    builder.takeState(answers.take());
+    builder.recordRun(answers);
+    builder.recordState(answers.take());
     waves.beginAt(waves.cycles);
     waves.append({ ...builder.take(), listing: [] });
     yield waves;

@@ -36,7 +36,7 @@ import { MAX_SEGMENT_ENTRIES, Timeline } from "./timeline.js";
  *
  * The result of executing lines: the last inputs with their answers (`entries`), the first line of all answers (`firstAnswer`), and the
  * shell's exit status.
- * `hasChangedRom` and `hasChangedBoard` are true if the lines can have changed ROM or the board.
+ * `hasChangedRom` and `hasChangedBoard` are true if the lines could have changed ROM or the board.
  * @typedef {{ entries: ServedInput[], firstAnswer: string, status: number, hasChangedRom: boolean, hasChangedBoard: boolean }} LinesResult
  * @typedef {LinesResult & { snapshot: string[] }} ResultAndSnapshot
  *
@@ -202,7 +202,7 @@ export class WorkerSession {
    * possible until then.
    * @param {string} lines commands that change breakpoints
    */
-  changeBreaks(lines) {
+  changeBreakpoints(lines) {
     const inputs = readInputs(lines);
     const { answers } = this.engine.serve(this.file, lines, this.file);
     this.unrecordedCommands = findAcceptedCommands(inputs, answers.map((answer) => [answer]));
@@ -223,7 +223,7 @@ export class WorkerSession {
       result = this.tryPlannedLines(servedLines);
     }
     const { recording } = this;
-    const stopCycle = recording ? recording.take(servedLines, result.tracedAnswers, result.answers) : -1;
+    const stopCycle = recording ? recording.recordLines(servedLines, result.tracedAnswers, result.answers) : -1;
     if (stopCycle >= 0) {
       servedLines = truncateLines(servedLines, stopCycle);
       result = this.tryPlannedLines(servedLines);
@@ -234,7 +234,7 @@ export class WorkerSession {
   }
 
   /**
-   * Returns the meters of lamps, buzzer and RAM that must measure the effect of planned lines. A meter is null if it is not requested, or
+   * Returns the meters of lamps, buzzer and RAM that measure the effect of planned lines. A meter is null if it is not requested, or
    * if the lines run too many cycles.
    * @param {PlannedLine[]} plannedLines
    */
@@ -268,7 +268,7 @@ export class WorkerSession {
     /** @type {(querySource: import("./forecast_queries.js").QuerySource) => string[][]} */
     const answersTo = (querySource) => sourceAnswers[querySources.indexOf(querySource)];
     const readMeters = () => {
-      if (printerCodes) printerCodes.take(answersTo(printerCodes), this.count.total);
+      if (printerCodes) printerCodes.readCodes(answersTo(printerCodes), this.count.total);
       return {
         litShares: brightnessMeter && brightnessMeter.take(answersTo(brightnessMeter)),
         buzzerLevels: buzzerMeter && buzzerMeter.take(answersTo(buzzerMeter)),

@@ -7,11 +7,11 @@ import * as say from "../../words/machine.js";
  * @typedef {{ mark: string, description: string }} BreakpointMark
  */
 
-/** The marks of breakpoints that stop every time, depend on a condition or a hit count, write a log text, or never stop. */
+/** The marks of breakpoints that stop every time, depend on a condition or a hit count, write a log text, or are inactive. */
 const ALWAYS_STOPS_MARK = "\u25CF";
 const CONDITION_MARK = "\u25C6";
 const LOG_MARK = "\u25B8";
-const NEVER_STOPS_MARK = "\u25CB";
+const INACTIVE_MARK = "\u25CB";
 
 /**
  * Describes the condition, the hit count and the log text of a breakpoint. Returns "" if the breakpoint has none of them.
@@ -40,8 +40,8 @@ export function describeBreakpoint(breakpoint) {
 export function breakpointMark(breakpoint, error) {
   const description = describeBreakpoint(breakpoint);
   if (error) return { mark: ALWAYS_STOPS_MARK, description: say.stopsAlwaysByError(description, error) };
-  if (!breakpoint.isOn) return { mark: NEVER_STOPS_MARK, description: say.breakpointIsOff(description) };
-  if (breakpoint.address < 0) return { mark: NEVER_STOPS_MARK, description: say.stopsLater(description) };
+  if (!breakpoint.isOn) return { mark: INACTIVE_MARK, description: say.breakpointIsOff(description) };
+  if (breakpoint.address < 0) return { mark: INACTIVE_MARK, description: say.stopsLater(description) };
   if (breakpoint.note.trim()) return { mark: LOG_MARK, description };
   return { mark: breakpoint.condition.trim() || breakpoint.from > 1 ? CONDITION_MARK : ALWAYS_STOPS_MARK, description };
 }

@@ -149,7 +149,7 @@ export function describeChangesWhileRunning(cell, map) {
 /**
  * Returns the status line of the heat map while the session runs.
  * @param {ChipHeat} heat
- * @param {boolean} countsAllCycles true if the worker counts the changes in all cycles, false if it counts samples
+ * @param {boolean} countsAllCycles true if the worker counts the changes in all cycles, false if only in some of them
  */
 export function describeHeatStatus({ chipCount }, countsAllCycles) {
   return say.heatCounted(chipCount, countsAllCycles);

@@ -10,7 +10,7 @@ import { ADDRESS_COUNT, MAX_LISTING_LINES } from "../bench/rom_bytes.js";
  *
  * The requested part of a listing. The first visible line is the first line at or after address `from`. If `anchor` is not null, a line
  * must start at that address.
- * @typedef {{ from: number, anchor: number | null }} Goal
+ * @typedef {{ from: number, anchor: number | null }} ListingGoal
  */
 
 /**
@@ -26,7 +26,7 @@ const MAX_TRIES = 4;
 
 /**
  * Returns the start addresses to try for a listing, best first. The last address is the anchor, if the goal has one.
- * @param {Goal} goal
+ * @param {ListingGoal} goal
  * @param {number} rows the number of visible lines
  */
 export function listingStarts({ from, anchor }, rows) {
@@ -40,7 +40,7 @@ export function listingStarts({ from, anchor }, rows) {
 /**
  * Returns the number of lines that a listing from `start` needs, at most MAX_LISTING_LINES.
  * @param {number} start
- * @param {Goal} goal
+ * @param {ListingGoal} goal
  * @param {number} rows
  */
 export function countLinesNeeded(start, { from, anchor }, rows) {
@@ -57,8 +57,8 @@ export function hasLineAt(lines, address) {
 }
 
 /**
- * Returns the lines that are visible: `rows` lines from the first line at or after address `from`. Starts earlier if fewer lines would
- * follow.
+ * Returns the lines that are visible: `rows` lines from the first line at or after address `from`. Starts earlier if fewer than `rows`
+ * lines would follow.
  * @param {ListingLine[]} lines
  * @param {number} from
  * @param {number} rows

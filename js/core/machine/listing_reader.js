@@ -6,7 +6,7 @@ import { listingStarts, hasLineAt, countLinesNeeded } from "./listing_range.js";
 
 /**
  * @typedef {import("../bench/answers.js").ListingLine} ListingLine
- * @typedef {import("./listing_range.js").Goal} Goal
+ * @typedef {import("./listing_range.js").ListingGoal} ListingGoal
  */
 
 export class ListingReader {
@@ -17,7 +17,7 @@ export class ListingReader {
 
   /**
    * Resolves to a listing in which a line starts at the anchor address of the goal. Usually the first query is sufficient.
-   * @param {Goal} goal
+   * @param {ListingGoal} goal
    * @param {number} rows the number of visible lines
    */
   async read(goal, rows) {

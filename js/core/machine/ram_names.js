@@ -1,4 +1,4 @@
-// Finds names for RAM nibbles: the names of watch expressions, and the names of those numbers that the source loads as SRC bytes.
+// Finds names for RAM nibbles: the names of watch expressions, and the names of the numbers that the source loads as SRC bytes.
 
 import { hex } from "../bench/numbers.js";
 import { PAIR, splitStatement } from "../text/assembly.js";

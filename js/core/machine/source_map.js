@@ -28,7 +28,7 @@ export class SourceMap {
     this.names = new Map();
     /** @type {Map<number, string[]>} the labels, by address */
     this.labels = new Map();
-    /** The line number of each byte in ROM, by address; 0 for none. */
+    /** The line number of each program byte, by address; 0 for none. */
     this.lines = new Uint16Array(ADDRESS_COUNT);
     this.sourceLines = text.split("\n");
     this.read(answers);

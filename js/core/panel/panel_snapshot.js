@@ -37,7 +37,7 @@ export class PanelSnapshot {
     /** @type {{ bank: number, name: string }[]} the RAM chips of the board; their names have the form `0.1` */
     this.chips = board.banks.flatMap(({ bank, chips }) => indices(chips).map((chip) => ({ bank, name: `${bank}.${chip}` })));
     this.hasDisplay = face.groups.some(({ kind }) => kind === "display");
-    this.text = new PerceivedText(face, board.lamps.length);
+    this.perceivedText = new PerceivedText(face, board.lamps.length);
     this.reader = new ListingReader(panel.ask);
     /** The number of commands in the session, as text. */
     this.commandCount = "0";
@@ -158,7 +158,7 @@ export class PanelSnapshot {
 
   /** The state of the displays and named lamps as text. */
   get display() {
-    const { displayText: text } = this.text;
-    return joinDisplayText(this.brightness ? this.text.readBrightness(this.brightness) : text.read(this.marks));
+    const { displayText } = this.perceivedText;
+    return joinDisplayText(this.brightness ? this.perceivedText.readBrightness(this.brightness) : displayText.read(this.marks));
   }
 }

@@ -7,7 +7,7 @@ const KEY_PATTERN = /\u001b(?:\[[0-9;?]*[A-Za-z~]|O[A-Za-z]|[^\u001b[O])?|[^]/gu
 const ARROWS = { "[C": "right", OC: "right", "[D": "left", OD: "left" };
 
 /**
- * A key that the user has typed. `text` is "left" or "right" for an arrow key; for any other key, it is the input of the key.
+ * A key that the user has typed. `text` is "left" or "right" for an arrow key, otherwise the characters that the terminal sent.
  * @typedef {{ kind: "arrow" | "sequence" | "escape" | "character", text: string }} TypedKey
  */
 

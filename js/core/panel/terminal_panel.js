@@ -21,7 +21,7 @@ import * as say from "../../words/panel.js";
  * @typedef {import("../bench/answers.js").Board} Board
  * @typedef {import("../board/face.js").Face} Face
  * @typedef {import("../board/key_place.js").Key} Key
- * @typedef {import("../engine/key_queue.js").Change} Change
+ * @typedef {import("../engine/key_queue.js").KeyChange} KeyChange
  * @typedef {import("../engine/key_queue.js").PlannedLine} PlannedLine
  * @typedef {import("../machine/source_map.js").SourceMap} SourceMap
  * @typedef {import("./terminal_keys.js").TypedKey} TypedKey
@@ -132,7 +132,7 @@ export class Panel {
   }
 
   /**
-   * Runs cycles, and presses and releases the queued keys when they are due. Ends early if a run pauses time, such as at a breakpoint.
+   * Runs cycles, and presses and releases the queued keys when they are due. Ends early if a run pauses time, for example at a breakpoint.
    * @param {number} cycles
    */
   async advance(cycles) {
@@ -155,7 +155,7 @@ export class Panel {
 
   /**
    * Presses or releases a key.
-   * @param {Change} change
+   * @param {KeyChange} change
    */
   async changeKey(change) {
     const { word, key } = change;
@@ -173,7 +173,7 @@ export class Panel {
     const querySources = this.printerCodes ? [this.printerCodes] : [];
     const allAnswers = await this.ask(linesWithQueries([plannedLine], querySources));
     const { answers: [answer], sourceAnswers } = splitAnswers([plannedLine], querySources, allAnswers);
-    if (this.printerCodes) this.printerCodes.take(sourceAnswers[0], this.cycles);
+    if (this.printerCodes) this.printerCodes.readCodes(sourceAnswers[0], this.cycles);
     const run = readRun(answer);
     this.cycles += run ? run.cycles : 0;
     this.reportRefusal(plannedLine.line, answer);
@@ -185,7 +185,7 @@ export class Panel {
   async step() {
     this.isPaused = true;
     this.pauseReason = "";
-    if (this.printerCodes) this.printerCodes.take([await this.ask(this.printerCodes.queries(STEP_CYCLES))], this.cycles);
+    if (this.printerCodes) this.printerCodes.readCodes([await this.ask(this.printerCodes.queries(STEP_CYCLES))], this.cycles);
     const run = readRun(await this.sendCommand("step"));
     this.cycles += run ? run.cycles : 0;
     if (run && run.end !== "end") this.pauseReason = REASONS[run.end];

@@ -40,7 +40,7 @@ export function parseAddress(text, { map }) {
 /**
  * Parses the location of an instruction. For a line without an instruction, returns the first instruction after the line, and fails if
  * there is none. Also fails if the text is not a location.
- * @param {string} text a line, a label or an address, optionally after a file name such as `demo.asm:`; or "" to get the next
+ * @param {string} text a line, a label or an address, optionally after a file name such as `demo.asm:`; or "" for the next
  *   instruction to run
  * @param {DebugSession} session
  * @returns {ProgramLocation}
@@ -82,7 +82,7 @@ export function parseCycles(text) {
 
 /**
  * Returns the text unchanged if it is a condition. Returns "" for a program location (a line, an address or a label), and for any other
- * text without blanks and comparison signs. Fails if the condition has an error.
+ * text without blanks or comparison signs. Fails if the condition has an error.
  * @param {string} text
  * @param {DebugSession} session
  */

@@ -12,7 +12,7 @@ import * as say from "../../words/prompt.js";
 
 /** Matches the arguments of `break`: the location, and optionally the number of the first hit that stops, a condition and a log text. */
 const BREAKPOINT_ARGUMENTS = /^(.*?)(?:\s*\bfrom\s+(\d{1,9}))?(?:\s*\bif\s+(.+?))?(?:\s*\blog\s+"([^"]*)")?$/;
-/** The word that means the number of the breakpoint that was set last, as in gdb. */
+/** The word for the number of the breakpoint that was set last, as in gdb. */
 export const LAST_BREAKPOINT = "$bpnum";
 /** Matches the name of a RAM nibble. The bench watches RAM nibbles. The command `continue` watches any other place. */
 const RAM_NIBBLE = /^ram\.[0-7]\.\w+$/i;

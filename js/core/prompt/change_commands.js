@@ -40,7 +40,7 @@ export class ChangeCommands {
 
   /**
    * Presses or releases keys; the machine stays paused.
-   * @param {"press" | "release"} word the bench word
+   * @param {"press" | "release"} word the command of the bench
    * @param {string} argumentText the keys
    * @param {string} command the prompt command, for messages
    */

@@ -84,7 +84,7 @@ export class Prompt {
     this.isEnded = false;
     /** The command line that an empty line repeats. */
     this.repeatedLine = "";
-    /** The cycle count at the start of the last line. */
+    /** The cycle count before the last line was executed. */
     this.startCycles = 0;
     /** True if the user interrupted the last line. */
     this.isInterrupted = false;

@@ -124,8 +124,8 @@ export class MoveCommands {
   }
 
   /**
-   * Presses and releases keys one after another while the machine runs. If the machine stops early, such as at a breakpoint, does not press
-   * the remaining keys.
+   * Presses and releases keys one after another while the machine runs. If the machine stops early, for example at a breakpoint, does not
+   * press the remaining keys.
    * @param {string} argumentText the names of the keys
    */
   async pressKeys(argumentText) {

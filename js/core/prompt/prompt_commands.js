@@ -31,7 +31,7 @@ export function findCommand(word) {
 
 /**
  * Returns the help for a command, or the list of all commands.
- * @param {string} word the command, or "" to get the list
+ * @param {string} word the command, or "" for the list
  */
 export function commandHelp(word) {
   if (word === "") return COMMANDS.map(({ usage, effect }) => `${usage.padEnd(25)} ${effect}`).join("\n");

@@ -31,7 +31,7 @@ export class SourceCommand {
   }
 
   /**
-   * Reports an error. For an error in a file, adds the file and the line.
+   * Prints an error message. For an error in a file, adds the file and the line.
    * @param {string} message
    */
   printError(message) {

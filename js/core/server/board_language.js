@@ -48,7 +48,7 @@ export class BoardLanguage {
   }
 
   /**
-   * Returns the help for a board key, or the description of the port line that a value names; null for any other position.
+   * Returns the help for a board key, or the description of the port line or chain bit that a value names; null for any other position.
    * @param {OpenText} openText
    * @param {Position} position
    */

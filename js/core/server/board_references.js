@@ -38,7 +38,7 @@ export class BoardReferences {
       return inner.map((element) => ({ ...element, key: name, entry }));
     }));
     /** @type {Map<Entry, number>} the index of each table among tables with the same name */
-    this.tableIndexes = new Map();
+    this.tableIndices = new Map();
     /** @type {Map<string, Entry>} the first table of each chip, by chip name (`rom 3`, `ram 0`) */
     this.chips = new Map();
     /** @type {Map<string, number>} the number of tables so far, by table name */
@@ -47,7 +47,7 @@ export class BoardReferences {
       const { table } = entry;
       const index = counts.get(table) || 0;
       const chip = `${table} ${getKeyValue(entry, NUMBER_KEYS[table])}`;
-      this.tableIndexes.set(entry, index);
+      this.tableIndices.set(entry, index);
       counts.set(table, index + 1);
       if (!this.chips.has(chip)) this.chips.set(chip, entry);
     }
@@ -95,12 +95,12 @@ export class BoardReferences {
     const number = NUMBER_KEYS[kind] && getKeyValue(entry, NUMBER_KEYS[kind]);
     if (number !== undefined) return `${kind} ${kind === "ram" ? "bank " : ""}${number}`;
     if (entry.table === "[keys]") return "keys";
-    return `${kind} ${this.tableIndexes.get(entry)}`;
+    return `${kind} ${this.tableIndices.get(entry)}`;
   }
 
   /**
    * Returns the hover text for a value that names a port line or a chain bit; "" for any other value. The text describes the line or the
-   * bit. It names the lamp that uses the line or the bit, and the line of the board text that defines the chip or chain.
+   * bit. It names the lamp that uses the line or the bit, and the text line in which the chip or chain is defined.
    * @param {KeyedValue} value
    * @param {import("../board/face.js").Face} face
    */

@@ -14,7 +14,7 @@ import { TOKEN_MODIFIERS, TOKEN_TYPES } from "./token_codes.js";
  *   folders: string[] }} Client
  */
 
-/** The protocol's number for a client that sends only the changed parts of a text. */
+/** The protocol's number for the mode in which a client sends only the changed parts of a text. */
 const INCREMENTAL_SYNC = 2;
 /** The name of the client's command that shows references. */
 export const SHOW_REFERENCES = "editor.action.showReferences";

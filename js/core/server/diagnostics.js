@@ -47,8 +47,8 @@ export function toDiagnostics(errors, isComplete) {
 }
 
 /**
- * Returns the error for a text that is too long to check; null for any other text. The range of the error is the rest of the line that
- * exceeds the maximum length.
+ * Returns the error for a text that is too long to check; null for any other text. The range of the error begins at the maximum length
+ * and ends at the end of that line.
  * @param {import("./open_text.js").OpenText} openText
  * @returns {TextError | null}
  */

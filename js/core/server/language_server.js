@@ -184,7 +184,7 @@ export class LanguageServer {
   }
 
   /**
-   * Removes a closed text and its diagnostics. Checks the texts that depend on it.
+   * Removes a closed text and its diagnostics. Checks the texts that depend on the closed text.
    * @param {any} params
    */
   didClose(params) {

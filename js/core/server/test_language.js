@@ -52,7 +52,7 @@ export class TestLanguage extends DependentLanguage {
   }
 
   /**
-   * Finds the errors in a test file. If the board or the program has an error, the result contains only a message about that.
+   * Finds the errors in a test file. If the board or the program is missing or has an error, the result contains only a message about this.
    * @param {OpenText} openText
    */
   async findErrors({ uri, lines, text }) {

@@ -3,7 +3,7 @@
 import { readBoard, parseRefusal } from "../bench/answers.js";
 import { readErrors, readWiring } from "../bench/text_check_answers.js";
 import { sentText } from "../text/sendable_text.js";
-import { ALL_ROMS, findSendingError, readProgram } from "../engine/program_check.js";
+import { ALL_ROMS, findSendingError, assembleText } from "../engine/program_check.js";
 
 /**
  * @typedef {import("../bench/answers.js").Refusal} Refusal
@@ -108,7 +108,7 @@ export class TextBench {
    * @returns {Program}
    */
   assemble(sentProgram) {
-    if (!this.program || this.program.text !== sentProgram) this.program = readProgram(this.engine, sentProgram);
+    if (!this.program || this.program.text !== sentProgram) this.program = assembleText(this.engine, sentProgram);
     return this.program;
   }
 }

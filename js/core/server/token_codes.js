@@ -28,7 +28,7 @@ export function colouredWords(lines, colours) {
 
 /**
  * Encodes each word as five numbers, and returns all numbers in one list:
- * - the number of lines between the previous word and this word;
+ * - the number of lines from the previous word to this word;
  * - the number of columns from the start of the previous word in the same line, or else from the start of the line;
  * - the length, the type and the modifiers.
  * @param {ColouredWord[]} words

@@ -6,7 +6,7 @@ const MAX_NAME_LENGTH = 60;
 const UNSAFE_CHARACTERS = /[\p{Cc}\p{Bidi_Control}\u200b\u2028\u2029\u2060\ufeff]/gu;
 
 /**
- * Returns a name without line ends and unsafe characters, shortened to the maximum length.
+ * Returns a name without line ends or unsafe characters, shortened to the maximum length.
  * @param {string} text
  */
 export function shortenName(text) {

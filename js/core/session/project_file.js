@@ -42,7 +42,7 @@ export class InvalidProject extends Error {}
 export class TextTooLong extends InvalidProject {}
 
 /**
- * Returns an error message if a text is too long for a project and for a link; "" if no text is too long.
+ * Returns an error message if a text is too long for a project or a link; "" if no text is too long.
  * @param {{ boardText: string, programText: string, testText?: string, propertiesText?: string }} texts
  */
 export function tooLongMessage({ boardText, programText, testText = "", propertiesText = "" }) {
@@ -140,8 +140,8 @@ export function isProject(bytes) {
   return /^\uFEFF?fethsaim project /.test(new TextDecoder("utf-8", { ignoreBOM: true }).decode(bytes.subarray(0, 40)));
 }
 
-/** The lines of a project file, and the index of the next line to read. */
-export class Lines {
+/** Reads the lines of a project file one after another. `index` is the index of the next line. */
+export class ProjectLineReader {
   /** @param {string} text */
   constructor(text) {
     this.lines = text.split("\n");
@@ -203,7 +203,7 @@ function checkEnvelope(text) {
 /**
  * Reads the lines before the first text: the name, the breakpoints and the watch expressions. In the result, `unendedWords` has the words
  * of the texts that do not end with a line feed. Throws InvalidProject if a line is invalid.
- * @param {Lines} lines
+ * @param {ProjectLineReader} lines
  */
 function readHead(lines) {
   let name = "";
@@ -227,7 +227,7 @@ function readHead(lines) {
 
 /**
  * Reads the next text of a project, and returns it. Throws InvalidProject if the next line is not `word`.
- * @param {Lines} lines
+ * @param {ProjectLineReader} lines
  * @param {Word} word
  * @param {Set<string>} unendedWords the words of the texts that do not end with a line feed
  */
@@ -239,7 +239,7 @@ function readText(lines, word, unendedWords) {
 /**
  * Reads and returns the name, the texts, the breakpoints and the watch expressions. Throws InvalidProject if a line is invalid, and
  * TextTooLong if a text is too long for the editors.
- * @param {Lines} lines
+ * @param {ProjectLineReader} lines
  * @param {boolean} [acceptsLongTexts] true to accept texts that are too long for the editors
  * @returns {TextsWithBreakpoints}
  */
@@ -257,7 +257,7 @@ export function readTexts(lines, acceptsLongTexts = false) {
 
 /**
  * Reads the bytes of the session file. Throws InvalidProject if a line is invalid.
- * @param {Lines} lines
+ * @param {ProjectLineReader} lines
  * @param {number} size the size of every session file in bytes
  */
 function readFile(lines, size) {
@@ -288,7 +288,7 @@ export function readProject(bytes, size, acceptsLongTexts = false) {
   if (bytes.includes(0)) throw new InvalidProject(say.CONTAINS_NUL);
   const text = decodeUtf8(bytes);
   checkEnvelope(text);
-  const lines = new Lines(text);
+  const lines = new ProjectLineReader(text);
   lines.takeLine();
   if (CHECKSUM_LINE.test(lines.nextLine)) lines.takeLine();
   const texts = readTexts(lines, acceptsLongTexts);

@@ -25,7 +25,7 @@ export class RomFiles {
     this.callbacks = callbacks;
   }
 
-  /** Resolves to the ROM numbers on the board. */
+  /** Resolves to the numbers of the ROMs on the board. */
   async readChips() {
     return readBoard(await this.callbacks.ask("board\n")).roms.map(({ chip }) => chip);
   }
@@ -34,7 +34,7 @@ export class RomFiles {
    * Pauses the machine and loads an image into ROM. Changes nothing else in the session. Resolves to a message about the loaded bytes, or
    * to "" if `execute` has reported an error. Throws MissingRom if the board lacks a ROM for the image.
    * @param {string} name the name of the image file
-   * @param {Int16Array} bytes the bytes by address, NO_BYTE where the image has none
+   * @param {Int16Array} bytes the bytes by address, NO_BYTE for an address without a byte
    */
   async load(name, bytes) {
     const chips = await this.readChips();

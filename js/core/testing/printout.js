@@ -35,7 +35,7 @@ export class Printout {
   readAnswers(answers, elapsed) {
     const from = answers.nextIndex;
     answers.takeTrace();
-    this.printerCodes.take([answers.answers.slice(from, answers.nextIndex)], elapsed);
+    this.printerCodes.readCodes([answers.answers.slice(from, answers.nextIndex)], elapsed);
   }
 
   /** All codes printed so far. */

@@ -16,7 +16,7 @@ const LOCATION_WIDTH = 22;
 /** @type {(value: string | number, width: number) => string} returns a right-aligned table cell */
 const formatCell = (value, width) => String(value).padStart(width);
 
-/** @type {(cycles: number) => string} returns the duration of some cycles in milliseconds, as text */
+/** @type {(cycles: number) => string} returns the duration of a number of cycles in milliseconds, as text */
 const formatMilliseconds = (cycles) => say.inMilliseconds(formatTenths(cycles * CYCLE_MS));
 
 /** @type {(ownCycles: number, total: number) => string} returns two table cells: the cycles, and their percentage of the total */

@@ -1,7 +1,7 @@
 // Computes coverage and a profile over the next cycles of a session.
 
 import { romCodes } from "../engine/rom_codes.js";
-import { sessionProgram } from "../engine/session_program.js";
+import { compareWithRom } from "../engine/session_program.js";
 import { copyWithoutStops } from "../engine/free_running_copy.js";
 import { ExecutionRecorder } from "./recorders.js";
 import { computeCoverage } from "./coverage.js";
@@ -20,9 +20,9 @@ import { TestSession } from "./test_session.js";
  * all cycles ran).
  * @typedef {{ coverage: Coverage, profile: Profile, elapsed: number, stop: string }} SessionCounts
  *
- * The result of `countSession`. If the program has errors (`errors`), or if a byte in ROM differs from the program (`otherByte`), the
+ * The result of `countSession`. If the program has errors (`errors`), or if a byte in ROM differs from the program (`difference`), the
  * session does not run, and `counts` is null.
- * @typedef {{ errors: ProjectTextError[], otherByte: ByteDifference | null, counts: SessionCounts | null }} SessionCount
+ * @typedef {{ errors: ProjectTextError[], difference: ByteDifference | null, counts: SessionCounts | null }} SessionCountResult
  */
 
 /**
@@ -32,17 +32,17 @@ import { TestSession } from "./test_session.js";
  * @param {string} programText
  * @param {number} cycles
  * @param {typeof ExecutionRecorder} [RecorderClass] the class of the recorder
- * @returns {Promise<SessionCount>}
+ * @returns {Promise<SessionCountResult>}
  */
 export async function countSession(engine, state, programText, cycles, RecorderClass = ExecutionRecorder) {
   const startState = copyWithoutStops(engine, state);
   const codes = romCodes(engine, startState);
-  const { errors, difference: otherByte, map } = sessionProgram(engine, codes, programText);
-  if (errors.length > 0 || otherByte) return { errors, otherByte, counts: null };
+  const { errors, difference, map } = compareWithRom(engine, codes, programText);
+  if (errors.length > 0 || difference) return { errors, difference, counts: null };
   const recorder = new RecorderClass(codes);
   const session = new TestSession(engine, startState, recorder, async () => {});
   const stop = await session.run(cycles);
   session.end();
   const counts = { coverage: computeCoverage(recorder, map), profile: computeProfile(recorder, map), elapsed: session.elapsed, stop };
-  return { errors: [], otherByte, counts };
+  return { errors: [], difference, counts };
 }

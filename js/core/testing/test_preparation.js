@@ -73,7 +73,7 @@ export function wireBoard(engine, text) {
  * @param {Texts} texts
  * @returns {{ file: Uint8Array, errors: ProjectTextError[] }}
  */
-export function newSession(engine, { boardText, programText }) {
+export function createSessionFile(engine, { boardText, programText }) {
   const file = engine.begin();
   const textErrors = [...findTextErrors("board", boardText), ...findTextErrors("program", programText)];
   if (textErrors.length > 0) return { file, errors: textErrors };
@@ -93,7 +93,7 @@ export function newSession(engine, { boardText, programText }) {
  * @returns {{ prepared: PreparedTests | null, errors: ProjectTextError[] }}
  */
 export function prepareTests(engine, { boardText, programText }) {
-  const { file, errors: sessionErrors } = newSession(engine, { boardText, programText });
+  const { file, errors: sessionErrors } = createSessionFile(engine, { boardText, programText });
   if (sessionErrors.length > 0) return { prepared: null, errors: sessionErrors };
   const program = sentText(programText, ";");
   const queries = `board\nmap\n${program}.\n`;

@@ -237,8 +237,8 @@ export class TestRun {
   }
 
   /**
-   * Presses keys, releases keys, or presses and then releases one key after another, as `kind` says. Resolves to the error message, or to
-   * "".
+   * Presses keys, releases keys, or presses and then releases one key after another, depending on `kind`. Resolves to the error message, or
+   * to "".
    * @param {TestSession} session
    * @param {(Key | ChosenKey)[]} keys
    * @param {"keys" | "press" | "release"} kind

@@ -194,8 +194,8 @@ export class TestSession {
   }
 
   /**
-   * Like `check`, for a condition that must be true at the end of the instruction, where `owed` is 0. An instruction has all its other
-   * effects in its first cycle.
+   * Checks, like `check`, a condition that must also be true at the end of the instruction, when `owed` is 0. All other effects of an
+   * instruction happen in its first cycle.
    * @param {Condition} condition
    */
   checkAtInstructionEnd(condition) {

@@ -56,7 +56,7 @@ export function parseTestedTexts(engine, texts) {
 }
 
 /**
- * Returns whether a step has a wanted action. Also searches the steps inside repetitions and shared steps.
+ * Returns whether any of the steps has a wanted action. Also searches the steps inside repetitions and shared steps.
  * @param {import("./test_text.js").Step[]} steps
  * @param {(action: Action) => boolean} isWanted
  * @returns {boolean}

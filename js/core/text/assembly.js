@@ -24,7 +24,7 @@ export const NAME = /^[A-Za-z_][A-Za-z0-9_]*$/;
 export const MAX_NAME_LENGTH = 16;
 
 /**
- * Returns the text between two indexes of a line as a word, without surrounding blanks; null if the text is blank.
+ * Returns the text between two indices of a line as a word, without surrounding blanks; null if the text is blank.
  * @param {string} line
  * @param {number} from
  * @param {number} to

@@ -212,7 +212,7 @@ class BoardErrorText {
 
   /**
    * Returns an error whose range is the complete line that the bench reports.
-   * @param {string} message the message
+   * @param {string} message
    * @returns {TextError}
    */
   createWholeLineError(message) {

@@ -40,7 +40,7 @@ const INTEGER = /^[+-]?(0|[1-9](_?\d)*)$|^0x[0-9A-Fa-f](_?[0-9A-Fa-f])*$|^0o[0-7
 class TomlSyntaxError extends Error {
   /**
    * @param {TomlWord} word
-   * @param {string} message the message
+   * @param {string} message
    */
   constructor(word, message) {
     super(message);

@@ -20,7 +20,7 @@ import * as say from "../../words/text.js";
  * @typedef {{ errors: TextError[], isComplete: boolean, generalRefusal: Refusal | null }} TextErrors
  */
 
-/** The refusal number for a program that does not fit into the ROMs of the board. */
+/** The refusal number for a program that needs a ROM that the board lacks. */
 export const MISSING_ROM = 42;
 
 /**
@@ -81,7 +81,7 @@ export async function findProgramErrors(program, instructions, messageFor, queri
  * Returns an error for each ROM that the program needs and the board lacks, at the first program line in that ROM.
  * @param {string[]} lines the program lines
  * @param {import("../machine/source_map.js").SourceMap} map the source map of the program
- * @param {Set<number>} roms the ROM numbers on the board
+ * @param {Set<number>} roms the numbers of the ROMs on the board
  * @returns {TextError[]}
  */
 export function findMissingRoms(lines, map, roms) {

@@ -158,8 +158,8 @@ export function findLengthError(lines) {
 /**
  * Returns the changes between two versions of a program, one per changed line. A change omits the common prefix and suffix of the old and
  * the new line.
- * @param {string[]} oldLines the old lines
- * @param {string[]} newLines the new lines; their number equals that of the old lines
+ * @param {string[]} oldLines
+ * @param {string[]} newLines as many lines as in `oldLines`
  * @returns {Change[]}
  */
 export function findLineChanges(oldLines, newLines) {

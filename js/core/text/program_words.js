@@ -18,8 +18,8 @@ import * as say from "../../words/text.js";
  */
 
 /**
- * The operand kinds, by the letters that the manual uses for them. `description` is the text for an operand of the kind. `maxValue` is its
- * maximum value; it is 0 for registers.
+ * The operand kinds, by the letters that the manual uses for them. `description` is the text for an operand of the kind. `maxValue` is the
+ * maximum value of such an operand; it is 0 for registers.
  * @type {Record<string, { description: string, maxValue: number }>}
  */
 const OPERAND_KINDS = {
@@ -86,7 +86,7 @@ function findNumberFixes(text) {
 /**
  * Creates an error, with replacements if there are any.
  * @param {Word | null} word the wrong word
- * @param {string} message the message
+ * @param {string} message
  * @param {string[]} quickFixTexts the replacements
  * @returns {WordError}
  */

@@ -18,7 +18,7 @@ import { findDefinedNames, splitStatement } from "./assembly.js";
 
 /** The statements after which a path does not continue with the next statement. */
 const PATH_ENDS = new Set(["BBL", "JIN", "JUN", "DB", "ORG"]);
-/** The instructions that can continue a path at their target. */
+/** The instructions after which a path can continue at their target. */
 const JUMPS = new Set(["JUN", "JCN", "ISZ"]);
 
 /** The routines of a program. */

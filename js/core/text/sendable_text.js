@@ -7,7 +7,7 @@ import * as say from "../../words/text.js";
 
 /**
  * A range of lines: the numbers of the first and the last line, from 1.
- * @typedef {{ from: number, to: number }} Lines
+ * @typedef {{ from: number, to: number }} LineRange
  *
  * An error in a text, such as a program or a board text. `number` is the refusal number (0 for none), `line` the line number from 1, and
  * `words` the message. `from` and `to` are the columns of the error. Each string in `quickFixTexts` fixes the error if it replaces the text
@@ -29,7 +29,7 @@ export const TEXT_TOO_LONG = 13;
  * Creates an error with a range.
  * @param {number} number the refusal number
  * @param {{ line: number, from: number, to: number }} range the line number from 1, and the columns
- * @param {string} message the message
+ * @param {string} message
  * @returns {TextError}
  */
 export function createErrorAt(number, { line, from, to }, message) {

@@ -22,7 +22,7 @@ import { toAsciiComments, findSendingErrors, sentText } from "./sendable_text.js
  * @property {(sentProgram: string) => Promise<Refusal | null>} findRefusal resolves to the refusal if the bench rejects a program for the
  *   current board; otherwise to null
  * @property {(sentProgram: string) => Promise<string[]>} readMap resolves to the `map` answers for a program
- * @property {() => Promise<Set<number>>} readRomNumbers resolves to the ROM numbers on the board
+ * @property {() => Promise<Set<number>>} readRomNumbers resolves to the numbers of the ROMs on the board
  */
 
 /** The highest refusal number for errors in board and program texts. Refusals with higher numbers have other causes. */

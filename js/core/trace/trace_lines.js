@@ -25,7 +25,7 @@ import * as say from "../../words/trace.js";
 /** The number of index registers in the main query, which also asks for the program counter, the accumulator and the carry. */
 const MAIN_REGISTER_COUNT = 13;
 const MAIN_PLACES = ["pc", "acc", "cy", ...indices(MAIN_REGISTER_COUNT).map((index) => `r${index}`)];
-/** The character indexes in a row of MAIN_PLACES, which has the form ` PPP A C R R ..`. */
+/** The character indices in a row of MAIN_PLACES, which has the form ` PPP A C R R ..`. */
 const ROW_INDICES = { pc: 1, acc: 5, cy: 7, registers: 9 };
 
 /**

@@ -44,7 +44,7 @@ function listChipPlaces(bank, chip, executes) {
 }
 
 /**
- * Returns a place for each ROM port that has output lines. The text of a value leaves out the input lines, because the program does not
+ * Returns a place for each ROM port that has output lines. The text of a value omits the input lines, because the program does not
  * change them.
  * @param {Board} board
  */

@@ -7,9 +7,9 @@ import * as say from "../../words/waves.js";
  * @typedef {import("../bench/answers.js").Board} Board
  * @typedef {import("./wave_lines.js").WaveLine} WaveLine
  *
- * A choice of lines. `lines` are all lines of a board, followed by the requested values. `chosenIndexes` are the indexes of the requested
+ * A choice of lines. `lines` are all lines of a board, followed by the requested values. `chosenIndices` are the indices of the requested
  * lines in `lines`, in the order of the request.
- * @typedef {{ lines: WaveLine[], chosenIndexes: number[] }} LineChoice
+ * @typedef {{ lines: WaveLine[], chosenIndices: number[] }} LineChoice
  */
 
 /** The error for a name that matches no line. */
@@ -41,11 +41,11 @@ function formatNumberedName({ group, places }, number) {
 }
 
 /**
- * Returns the indexes of the lines that a word requests: a single line, or all lines of a group; an empty list if there are none.
+ * Returns the indices of the lines that a word requests: a single line, or all lines of a group; an empty list if there are none.
  * @param {WaveLine[]} lines
  * @param {string} word
  */
-function findLineIndexes(lines, word) {
+function findLineIndices(lines, word) {
   const lamps = lines.findIndex(({ group }) => group === "lamps");
   const namedLine = lines.findIndex((line, index) => line.name === word || formatNumberedName(line, index - lamps) === word);
   if (namedLine >= 0) return [namedLine];
@@ -63,12 +63,12 @@ function findLineIndexes(lines, word) {
  */
 export function chooseLines(board, text, hasLabels, words) {
   const lines = createBoardLines(board, text, hasLabels);
-  const allIndexes = lines.map((_, index) => index);
-  if (words.length === 0) return { lines, chosenIndexes: allIndexes.filter((index) => isOneBitLine(lines[index])) };
+  const allIndices = lines.map((_, index) => index);
+  if (words.length === 0) return { lines, chosenIndices: allIndices.filter((index) => isOneBitLine(lines[index])) };
   /** @type {Set<number>} */
-  const chosenIndexes = new Set();
+  const chosenIndices = new Set();
   for (const word of words) {
-    let indices = findLineIndexes(lines, word);
+    let indices = findLineIndices(lines, word);
     const value = indices.length === 0 ? createValueLine(word, board) : null;
     if (value) {
       const knownLine = lines.findIndex(({ name }) => name === value.name);
@@ -76,9 +76,9 @@ export function chooseLines(board, text, hasLabels, words) {
     }
     if (indices.length === 0) throw new UnknownLineError(word === "label" ? say.LABEL_NEEDS_PROGRAM : say.noSuchLineMessage(word));
     for (const number of indices) {
-      if (chosenIndexes.has(number)) throw new UnknownLineError(say.lineTwice(lines[number].name));
-      chosenIndexes.add(number);
+      if (chosenIndices.has(number)) throw new UnknownLineError(say.lineTwice(lines[number].name));
+      chosenIndices.add(number);
     }
   }
-  return { lines, chosenIndexes: [...chosenIndexes] };
+  return { lines, chosenIndices: [...chosenIndices] };
 }

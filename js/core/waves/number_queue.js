@@ -4,7 +4,7 @@
 
 /** The minimum capacity of the array after the first number is added. */
 const FIRST_CAPACITY = 64;
-/** The queue moves its numbers to the start of the array only if at least this number of elements there are unused. */
+/** The queue moves its numbers to the start of the array only if at least this number of elements before them are unused. */
 const MIN_UNUSED = 4096;
 
 /**

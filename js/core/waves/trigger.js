@@ -11,7 +11,7 @@ import * as say from "../../words/waves.js";
  * @typedef {import("./wave_lines.js").WaveLine} WaveLine
  * @typedef {"rises" | "falls" | "changes"} Edge
  *
- * A trigger. For an edge, `edge` is its kind, and `members` are the indexes of the lines on which the edge can occur. For a condition,
+ * A trigger. For an edge, `edge` is its kind, and `members` are the indices of the lines on which the edge can occur. For a condition,
  * `places` are the `trace` places that the condition reads, and `holds` tests the condition on their values. If the condition depends only
  * on the program counter, `address` is the address that makes it true; otherwise -1.
  * @typedef {{ edge: Edge | "", members: number[], places: string[], address: number, holds: (values: string[]) => boolean }} Trigger

@@ -47,7 +47,7 @@ function formatVariableType({ lines }, line) {
 export class VcdText {
   /**
    * @param {Waves} waves
-   * @param {number[]} chosenLines the indexes of the lines, in file order
+   * @param {number[]} chosenLines the indices of the lines, in file order
    */
   constructor(waves, chosenLines) {
     this.waves = waves;
@@ -142,7 +142,7 @@ function sortChanges(waves, chosenLines) {
 /**
  * Yields the file of a complete recording in parts.
  * @param {Waves} waves
- * @param {number[]} chosenLines the indexes of the lines, in file order
+ * @param {number[]} chosenLines the indices of the lines, in file order
  */
 export function* vcdParts(waves, chosenLines) {
   const text = new VcdText(waves, chosenLines);

@@ -31,11 +31,11 @@ export function listRecordableLines(board, text) {
  * @param {Waves} waves
  */
 export function chooseFirstLines(waves) {
-  const lineIndexes = waves.lines.map((_, line) => line);
-  const bits = lineIndexes.filter((line) => !isDrawnAsBoxes(waves.lines[line]) && waves.lines[line].kind !== "value");
+  const lineIndices = waves.lines.map((_, line) => line);
+  const bits = lineIndices.filter((line) => !isDrawnAsBoxes(waves.lines[line]) && waves.lines[line].kind !== "value");
   const changingBits = bits.filter((line) => waves.changesOf(line).length > 0);
-  const names = lineIndexes.filter((line) => waves.lines[line].kind === "pc" || waves.lines[line].kind === "label");
-  const decoders = lineIndexes.filter((line) => isDecoder(waves.lines[line]) && waves.changesOf(line).length > 0);
+  const names = lineIndices.filter((line) => waves.lines[line].kind === "pc" || waves.lines[line].kind === "label");
+  const decoders = lineIndices.filter((line) => isDecoder(waves.lines[line]) && waves.changesOf(line).length > 0);
   return [...(changingBits.length > 0 ? changingBits : bits).slice(0, MAX_FIRST_LINES), ...decoders, ...names];
 }
 

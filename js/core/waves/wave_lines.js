@@ -19,7 +19,7 @@ import * as say from "../../words/waves.js";
  * The meaning of `places` depends on the kind. Level: the signal line of the board. Key: the row and column of the key. Value: the `trace`
  * places of its digits, highest digit first. Scan: the names of the keys, row by row.
  *
- * `members` are the indexes of the lines from which the value of a port or decoder is computed. Port: its lines, lowest first. Shift
+ * `members` are the indices of the lines from which the value of a port or decoder is computed. Port: its lines, lowest first. Shift
  * register: its clock, its data and its bits. Scan: the columns, then the rows, of the key matrix; `columns` is the number of columns.
  * @typedef {{ name: string, title: string, group: string, kind: WaveKind, places: string[], members: number[], width: number,
  *   columns: number }} WaveLine
@@ -126,12 +126,12 @@ function createPortLines(lines, face) {
  * @param {Face} face
  */
 function createDecoderLines({ chains, matrix }, lines, face) {
-  const indexesOf = (/** @type {string[]} */ places) => places.map((place) => lines.findIndex(({ name }) => name === place));
+  const indicesOf = (/** @type {string[]} */ places) => places.map((place) => lines.findIndex(({ name }) => name === place));
   const bitsOf = (/** @type {number} */ chain, /** @type {number} */ first, /** @type {number} */ count) => (
     indices(count).map((bit) => `chain${chain}.${first + bit}`));
   const decoders = chains.map(({ clock, data, chips }, index) => {
     const bits = bitsOf(index, 0, BITS_PER_CHIP * chips);
-    const members = indexesOf([clock, data, ...bits]);
+    const members = indicesOf([clock, data, ...bits]);
     return createLine(`shift.chain${index}`, "decoders", "shift", { title: say.shiftRegisterTitle(index), members, width: bits.length });
   });
   if (!matrix) return decoders;
@@ -140,7 +140,7 @@ function createDecoderLines({ chains, matrix }, lines, face) {
     const faceText = face.keys.get(`${row} ${column}`);
     return faceText ? faceText.text : `${row}.${column}`;
   }));
-  const members = indexesOf([...columns, ...bitsOf(chain, first, rows)]);
+  const members = indicesOf([...columns, ...bitsOf(chain, first, rows)]);
   return [...decoders, createLine("scan.keys", "decoders", "scan",
     { title: say.KEY_SCAN, places, members, width: members.length, columns: columns.length })];
 }

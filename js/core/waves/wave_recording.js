@@ -27,13 +27,13 @@ const DERIVED_KINDS = new Set(["pc", "label", "port", "shift", "scan"]);
  * @param {{ address: number }[]} labels the labels in ascending address order
  */
 function findLabelsBelow(labels) {
-  const labelIndexes = new Int16Array(ADDRESS_COUNT);
+  const labelIndices = new Int16Array(ADDRESS_COUNT);
   let [nextLabel, currentLabel] = [0, -1];
-  for (let address = 0; address < labelIndexes.length; address++) {
+  for (let address = 0; address < labelIndices.length; address++) {
     while (nextLabel < labels.length && labels[nextLabel].address <= address) currentLabel = nextLabel++;
-    labelIndexes[address] = currentLabel;
+    labelIndices[address] = currentLabel;
   }
-  return labelIndexes;
+  return labelIndices;
 }
 
 export class Waves {
@@ -53,7 +53,7 @@ export class Waves {
     this.listing = new Map(listing);
     this.program = program;
     this.sourceLines = program ? program.text.split("\n") : [];
-    this.labelIndexes = findLabelsBelow(program ? program.labels : []);
+    this.labelIndices = findLabelsBelow(program ? program.labels : []);
     /** @type {Map<number, Track>} the tracks computed so far, by line index */
     this.derivedTracks = new Map();
     /** @type {Map<number, number>} the moment of the last rising clock edge before the recording, by shift register line */
@@ -81,8 +81,8 @@ export class Waves {
     this.cycles = cycles;
     this.isStuck = isStuck;
     for (const [line, track] of this.derivedTracks) {
-      // The first moment of the new part is the last moment of the previous part, and can have a change in the new part, so it is computed
-      // again.
+      // The first moment of the new part is the last moment of the previous part. The new part can contain a change at this moment, so it
+      // is computed again.
       track.endAt(previousEnd - 1);
       this.extendTrack(line, track, previousEnd - 1);
     }
@@ -165,7 +165,7 @@ export class Waves {
       return members.reduce((sum, member, bit) => sum + this.tracks[member].valueAt(moment) * 2 ** bit, 0);
     }
     const counter = this.counterAt(moment);
-    return kind === "pc" ? counter : this.labelIndexes[counter] + 1;
+    return kind === "pc" ? counter : this.labelIndices[counter] + 1;
   }
 
   /**
@@ -185,7 +185,7 @@ export class Waves {
     if (kind !== "pc" && kind !== "label") return;
     const [moments, counters] = [this.moments.all, this.counters.all];
     for (let index = countUpTo(moments, computedUntil); index < moments.length; index++) {
-      track.set(kind === "pc" ? counters[index] : this.labelIndexes[counters[index]] + 1, moments[index]);
+      track.set(kind === "pc" ? counters[index] : this.labelIndices[counters[index]] + 1, moments[index]);
     }
   }
 
@@ -207,17 +207,17 @@ export class Waves {
    */
   extendPortTrack(members, track, computedUntil) {
     const moments = members.map((member) => member.moments.all);
-    const nextIndexes = moments.map((memberMoments) => countUpTo(memberMoments, computedUntil));
+    const nextIndices = moments.map((memberMoments) => countUpTo(memberMoments, computedUntil));
     for (;;) {
       let moment = Infinity;
       moments.forEach((memberMoments, bit) => {
-        if (nextIndexes[bit] < memberMoments.length) moment = Math.min(moment, memberMoments[nextIndexes[bit]]);
+        if (nextIndices[bit] < memberMoments.length) moment = Math.min(moment, memberMoments[nextIndices[bit]]);
       });
       if (moment === Infinity) return;
       let value = 0;
       for (let bit = members.length - 1; bit >= 0; bit--) {
-        if (moments[bit][nextIndexes[bit]] === moment) nextIndexes[bit] += 1;
-        value = 2 * value + members[bit].valueAfter(nextIndexes[bit]);
+        if (moments[bit][nextIndices[bit]] === moment) nextIndices[bit] += 1;
+        value = 2 * value + members[bit].valueAfter(nextIndices[bit]);
       }
       track.set(value, moment);
     }
@@ -261,7 +261,7 @@ export class Waves {
    * @param {number} moment
    */
   labelAt(moment) {
-    const label = this.labelIndexes[this.counterAt(moment)];
+    const label = this.labelIndices[this.counterAt(moment)];
     return this.program && label >= 0 ? this.program.labels[label].name : "";
   }
 

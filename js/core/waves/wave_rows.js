@@ -76,11 +76,11 @@ export class WaveRows {
   /**
    * Returns the rows of the visible lines.
    * @param {WaveLine[]} lines all lines of the recording
-   * @param {number[]} visibleIndexes the indexes of the visible lines
+   * @param {number[]} visibleIndices the indices of the visible lines
    * @returns {WaveRow[]}
    */
-  arrange(lines, visibleIndexes) {
-    const linesByName = new Map(visibleIndexes.map((line) => [lines[line].name, line]));
+  arrange(lines, visibleIndices) {
+    const linesByName = new Map(visibleIndices.map((line) => [lines[line].name, line]));
     /** @type {WaveRow[]} */
     const rows = [];
     let lastGroup = "";

@@ -1,6 +1,6 @@
 // `mcs4 import`: converts a program from the syntax of Intel's assembler or of AS to the bench's syntax.
 import { importProgram } from "../../core/import/program_import.js";
-import { readProgram } from "../../core/engine/program_check.js";
+import { assembleText } from "../../core/engine/program_check.js";
 import { findTextErrors } from "../../core/testing/test_preparation.js";
 import { sentText } from "../../core/text/sendable_text.js";
 import { checkArguments } from "../arguments.mjs";
@@ -19,7 +19,7 @@ const UTF8_MARK = /^\u00ef\u00bb\u00bf/;
 async function checkOnBench(name, source, text) {
   const engine = await startEngine();
   const textErrors = findTextErrors("program", text);
-  const { refusal } = textErrors.length > 0 ? { refusal: null } : readProgram(engine, sentText(text, ";"));
+  const { refusal } = textErrors.length > 0 ? { refusal: null } : assembleText(engine, sentText(text, ";"));
   if (!refusal && textErrors.length === 0) return;
   // Use the message of the refusal, because a message about the line would describe the bench's syntax.
   const { describeRefusal } = await import("../rejected_texts.mjs");

@@ -74,7 +74,7 @@ async function readTexts(session, name, texts) {
 }
 
 /**
- * Returns a message about the first front-panel line that is faulty or names a part that the board does not have; "" if there is no such line.
+ * Returns a message about the first front-panel line that has an error or names a part that the board does not have; "" if there is no such line.
  * @param {Awaited<ReturnType<typeof readTexts>>} panelTexts
  * @param {number} linesBefore the number of lines before the board's text in its file
  */

@@ -3,7 +3,7 @@ import { existsSync, realpathSync } from "node:fs";
 import { basename, join } from "node:path";
 import { MAX_PROJECT_BYTES, InvalidProject, projectText, readProject, tooLongMessage } from "../../core/session/project_file.js";
 import { PROJECT_FILE_NAMES, parseBreakpoints, splitProject, parseWatchLines } from "../../core/session/project_parts.js";
-import { newSession } from "../../core/testing/test_preparation.js";
+import { createSessionFile } from "../../core/testing/test_preparation.js";
 import * as say from "../../words/commands.js";
 import { checkArguments, loadProject } from "../arguments.mjs";
 import { MAX_TEXT_BYTES } from "../input_texts.mjs";
@@ -106,7 +106,7 @@ async function readSession(folder, paths, texts) {
     throw new CommandError(say.notASessionFileMessage(name));
   }
   const engine = await startEngine();
-  const { file, errors } = newSession(engine, texts);
+  const { file, errors } = createSessionFile(engine, texts);
   if (errors.length === 0) return engine.bytesOf(file);
   const makeText = (/** @type {string} */ textName, /** @type {string} */ text) => ({ name: textName, text, linesBefore: 0 });
   const board = makeText(paths.board, texts.boardText);

@@ -21,7 +21,7 @@ import { checkOutputFile, writeUserFile } from "../user_files.mjs";
  * @typedef {import("../input_texts.mjs").InputText} InputText
  * @typedef {import("./table.mjs").Values} Values
  *
- * An opened session. `state` is its state without breakpoints and watches. `boardText` is the text of its board; null if the user names
+ * An opened session. `state` is its state without breakpoints or watches. `boardText` is the text of its board; null if the user names
  * none. `program` is the program with its labels; null if the user names none.
  * @typedef {{ face: Face, state: Uint8Array, boardText: InputText | null, board: import("../../core/bench/answers.js").Board,
  *   engine: import("../../core/engine/engine_host.js").EngineHost,
@@ -109,12 +109,12 @@ function reportStop({ isStuck, cycles }, requestedCycles) {
 async function printVcd(openedSession, cycles, words) {
   const { engine, state, board, program } = openedSession;
   const choice = convertLineErrors(() => chooseLines(board, boardTextOf(openedSession), program !== null, words));
-  const { lines, chosenIndexes } = linesWithMembers(choice.lines, choice.chosenIndexes);
+  const { lines, chosenIndices } = linesWithMembers(choice.lines, choice.chosenIndices);
   /** @type {VcdText | null} */
   let vcdText = null;
   for await (const waves of recordPieces(engine, state, { lines, program, cycles }, yieldToMessages)) {
     if (!vcdText) {
-      vcdText = new VcdText(waves, chosenIndexes);
+      vcdText = new VcdText(waves, chosenIndices);
       print(vcdText.formatHead());
     }
     for (const part of vcdText.formatChanges()) print(part);
@@ -159,12 +159,12 @@ async function writeWav(openedSession, cycles, word, name) {
   const { engine, state, board } = openedSession;
   const line = findBuzzerLine(openedSession, word);
   const choice = convertLineErrors(() => chooseLines(board, "", false, [line]));
-  const { lines, chosenIndexes } = linesWithMembers(choice.lines, choice.chosenIndexes);
+  const { lines, chosenIndices } = linesWithMembers(choice.lines, choice.chosenIndices);
   const edges = [];
   let [level, recordedCycles] = [-1, 0];
   for await (const waves of recordPieces(engine, state, { lines, program: null, cycles }, yieldToMessages)) {
-    if (level < 0) level = waves.numberAt(chosenIndexes[0], 0);
-    for (const edge of waves.changesOf(chosenIndexes[0])) edges.push(edge);
+    if (level < 0) level = waves.numberAt(chosenIndices[0], 0);
+    for (const edge of waves.changesOf(chosenIndices[0])) edges.push(edge);
     recordedCycles = waves.cycles;
     if (recordedCycles < cycles && waves.isStuck) reportStop(waves, cycles);
   }

@@ -11,7 +11,7 @@ import { LAST_ADDRESS } from "../../core/bench/numbers.js";
 /**
  * @typedef {import("../../core/bench/answers.js").ListingLine} ListingLine
  * @typedef {import("../../core/machine/listing_names.js").NamedLine} NamedLine
- * @typedef {import("../../core/machine/listing_range.js").Goal} Goal
+ * @typedef {import("../../core/machine/listing_range.js").ListingGoal} ListingGoal
  * @typedef {import("../../core/machine/source_map.js").SourceMap} SourceMap
  */
 
@@ -184,7 +184,7 @@ export class ListingView {
 
   /**
    * Reads lines and shows them. Resolves to false if other lines were requested in the meantime.
-   * @param {Goal} goal
+   * @param {ListingGoal} goal
    * @param {boolean} isScrolled true if the user has scrolled to the lines; the scroll position then stays
    */
   async read(goal, isScrolled = false) {

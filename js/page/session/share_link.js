@@ -5,7 +5,7 @@
 import { fromBase64, toBase64 } from "../../core/session/base64.js";
 import { makeStream, readOutput } from "./byte_streams.js";
 import { checksum } from "../../core/session/checksum.js";
-import { Lines, TextTooLong, projectLines, readTexts } from "../../core/session/project_file.js";
+import { ProjectLineReader, TextTooLong, projectLines, readTexts } from "../../core/session/project_file.js";
 import * as say from "../../words/session.js";
 
 /** @typedef {import("../../core/session/project_file.js").Texts} Texts */
@@ -85,7 +85,7 @@ export async function readLink(link) {
   const body = text.slice(checksumText.length + 1);
   if (checksumText !== String(checksum(new TextEncoder().encode(body)))) throw new LinkError(say.DAMAGED);
   try {
-    return readTexts(new Lines(body));
+    return readTexts(new ProjectLineReader(body));
   } catch (error) {
     throw new LinkError(error instanceof TextTooLong ? error.message : say.DAMAGED);
   }
