@@ -210,7 +210,7 @@ export class Page {
     this.snapshotView.show(snapshot, isIntermediate, litShares);
     if (printed) {
       session.record.printed = printed;
-      this.snapshotView.printer.showPrinted(printed);
+      this.snapshotView.printer.showPrintout(printed);
     }
     this.sourceValues.updateFromSnapshot(total);
     this.heatView.handleSnapshot();

@@ -102,7 +102,7 @@ export function makeDrawingController(page) {
     redo: () => editor.undoOrRedo("redo"),
     describeRefusal: (number) => page.errorMessages.refusalMeaning(number),
     isInFront: () => tabs.shownName === "wiring",
-    putInFront: () => tabs.choose("wiring"),
+    bringToFront: () => tabs.choose("wiring"),
     applyBoard: async () => {
       await page.editors.applyBoard();
       return boardEditor.status.text;

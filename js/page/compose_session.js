@@ -137,7 +137,7 @@ export function makeGuide(page, manual) {
       else if (target === "ram") layout.showPanel("memory");
       else layout.showText("program");
     },
-    replace: (program, message) => page.textsController.replace("program", program, message),
+    replaceWithUndo: (program, message) => page.textsController.replace("program", program, message),
     storyCalls: makeStoryCalls(page),
     handleTourEnd: forgetStory,
     showRefusal: (reason) => page.notice.show(reason, "session"),

@@ -22,8 +22,8 @@ import * as say from "../words/page.js";
  * @typedef {import("./session/store.js").SessionStore} SessionStore
  * @typedef {import("./compose_commands.js").PageFrame} PageFrame
  * @typedef {import("../core/help/manual.js").ManualSection} ManualSection
- * @typedef {{ refusals: Record<string, string>, examples: Example[], manual: ManualSection[] }} Data The data that page/build embeds in the
- *   page.
+ * @typedef {{ refusals: Record<string, string>, examples: Example[], manual: ManualSection[] }} EmbeddedData the data that page/build
+ *   embeds in the page
  */
 
 /**
@@ -76,7 +76,7 @@ async function unpackEmbedded(id) {
 }
 
 /**
- * Resolves after the browser has handled the waiting events. Firefox loads a worker's script only while it handles events. A timer would
+ * Resolves after the browser has handled the pending events. Firefox loads a worker's script only while it handles events. A timer would
  * not help, because Firefox delays timers until the page has loaded.
  */
 function yieldToEvents() {
@@ -187,7 +187,7 @@ function beginLoading() {
  * @param {ErrorMessages} errorMessages
  * @param {Notice} notice
  * @param {PageFrame} pageFrame
- * @param {Data} data
+ * @param {EmbeddedData} data
  */
 async function startPage({ unpackingPromise, locksPromise, storePromise }, errorMessages, notice, pageFrame, { examples, manual }) {
   const makeBench = prepareBench(await unpackingPromise, examples);
@@ -223,7 +223,7 @@ async function main() {
     return;
   }
   const loading = beginLoading();
-  /** @type {Data} */
+  /** @type {EmbeddedData} */
   const data = JSON.parse(new TextDecoder().decode(await unpackEmbedded("data")));
   const errorMessages = new ErrorMessages(data.refusals);
   try {

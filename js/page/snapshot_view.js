@@ -27,7 +27,7 @@ import * as say from "../words/page.js";
 
 /**
  * The callbacks of SnapshotView.
- * @typedef {object} ViewCalls
+ * @typedef {object} SnapshotViewCalls
  * @property {(node: HTMLButtonElement, key: BoardKey) => void} connectKey Connects a button to its key.
  * @property {() => boolean} isRunning Returns true if time is running.
  * @property {() => boolean} isFast Returns true if the speed is too high for the disassembly to follow each instruction.
@@ -50,7 +50,7 @@ import * as say from "../words/page.js";
  * @property {(error: unknown) => void} reportFailure Reports an error that a call threw.
  */
 
-/** @typedef {import("./board/printer_view.js").PrinterCalls & ViewCalls} SnapshotCalls */
+/** @typedef {import("./board/printer_view.js").PrinterCalls & SnapshotViewCalls} SnapshotCalls */
 
 /**
  * A listener for changes of lamps and keys. `lamps` has one character per lamp, `*` if the lamp is on. `keyCount` is the number of keys

@@ -166,16 +166,16 @@ test("each property with a stopwatch is proved separately, and never with sets o
   assert.match(text, /^test never lamp lit on for 9\n {2}press WALK\n {2}run \d+\n {2}until not lamp lit on within 9\n$/);
 });
 
-test("a counterexample contains the lines after which one step breaks the property", async () => {
+test("a counterexample contains the lines after which one step violates the property", async () => {
   const { propertyVerdicts: [{ verdict }], engine } =
     await runProofs(() => LAMP_ON_ANSWER, { propertiesText: "test\nnever lamp lit on\n" });
-  const { counterexample: found } = verdict;
-  assert.ok(found.isTest && found.isAllowed);
+  const { counterexample } = verdict;
+  assert.ok(counterexample.isTest && counterexample.isAllowed);
   const file = engine.begin();
   const lampsAfter = (lines) => engine.ask(file, `${lines}lamps\n`).answers.slice(-1)[0];
   engine.serve(file, `wire\n${texts.boardText}.\nasm\n${texts.programText}.\n`, file);
-  assert.match(lampsAfter(found.linesBefore), /^lamps \.\.$/);
-  assert.match(lampsAfter(`${found.linesBefore}step\n`), /^lamps \*\.$/);
+  assert.match(lampsAfter(counterexample.linesBefore), /^lamps \.\.$/);
+  assert.match(lampsAfter(`${counterexample.linesBefore}step\n`), /^lamps \*\.$/);
 });
 
 test("an unconfirmed counterexample leaves a property undecided, and an unexpected answer is an error", async () => {

@@ -17,7 +17,7 @@ import * as say from "../../words/session.js";
  * The callbacks of the sessions dialog. The callbacks that open a session or a file resolve to false after a failure.
  * @typedef {object} SessionsCalls
  * @property {() => Promise<SessionRecord[]>} savedSessions Resolves to the saved sessions.
- * @property {(id: string) => boolean} isShown Returns true if the session with this id is the current session.
+ * @property {(id: string) => boolean} isCurrent Returns true if the session with this id is the current session.
  * @property {(id: string) => Promise<boolean>} open Opens the session with this id.
  * @property {(id: string) => Promise<boolean>} copy Copies the session with this id, and opens the copy.
  * @property {(records: SessionRecord[]) => Promise<void>} remove Deletes sessions. Deleted sessions can be restored.

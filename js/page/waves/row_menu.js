@@ -46,7 +46,7 @@ export class RowMenu {
    */
   makeGroupItems({ group }) {
     const { view } = this;
-    const memberNames = () => view.names.filter((name) => view.arrangement.groupOf(name) === group);
+    const memberNames = () => view.sortedNames.filter((name) => view.arrangement.groupOf(name) === group);
     return [
       { label: say.FOLD, key: "Enter", act: () => view.toggleFold(group) },
       { label: say.RENAME,
