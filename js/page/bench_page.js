@@ -49,7 +49,7 @@ export class Page {
     this.errorMessages = errorMessages;
     this.notice = notice;
     /** True if the computer's keyboard presses the board's keys. */
-    this.isTyping = true;
+    this.usesKeyboard = true;
     this.storedHistory = new StoredHistory();
     this.currentSession = makeCurrentSession(this);
     this.recovery = makeRecovery(this);

@@ -37,7 +37,7 @@ export function makeSessionsController(page, services) {
     },
     loadImage: async (name, bytes) => {
       const message = await page.romFiles.load(name, bytes);
-      if (message) page.notice.show(message, "file", { word: say.DISASSEMBLE_ROM, act: () => page.textsController.disassembleRom() });
+      if (message) page.notice.show(message, "file", { label: say.DISASSEMBLE_ROM, act: () => page.textsController.disassembleRom() });
     },
   });
 }

@@ -110,21 +110,21 @@ function listenToButtons(page) {
 /** @param {Page} page */
 function listenToSettings(page) {
   const speedSelect = byId("speed", HTMLSelectElement);
-  const typingField = field("typing");
+  const keyboardField = field("typing");
   const { preferences } = page.layout;
   const storedSpeed = SPEEDS.find(({ id }) => id === preferences.get("speed"));
   if (storedSpeed) page.runController.clock.setSpeed(storedSpeed);
   const showSettings = () => {
     speedSelect.value = page.runController.clock.speed.id;
-    typingField.checked = page.isTyping;
+    keyboardField.checked = page.usesKeyboard;
   };
   speedSelect.replaceChildren(...SPEEDS.map(({ id, label }) => element("option", { value: id }, label)));
   speedSelect.addEventListener("change", () => {
     preferences.set("speed", speedSelect.value);
     page.runController.setSpeed(findSpeed(speedSelect.value)).catch((error) => page.recovery.reportFailure(error));
   });
-  typingField.addEventListener("change", () => {
-    page.isTyping = typingField.checked;
+  keyboardField.addEventListener("change", () => {
+    page.usesKeyboard = keyboardField.checked;
   });
   showSettings();
   // When the user returns to the page, a browser may restore old values of the fields.

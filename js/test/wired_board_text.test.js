@@ -30,9 +30,9 @@ test("a text that the page reads differently is recognised as the wired text", (
 });
 
 test("the text of a board that was wired before is found again, and an unknown board has no text", () => {
-  const other = { text: "# title: Other\n", board: OTHER_BOARD_LINES.join("\n") };
-  const storedTexts = textsToStore(other, textsToStore(WIRED));
-  assert.deepEqual(storedTexts, [other, WIRED]);
+  const otherWiredText = { text: "# title: Other\n", board: OTHER_BOARD_LINES.join("\n") };
+  const storedTexts = textsToStore(otherWiredText, textsToStore(WIRED));
+  assert.deepEqual(storedTexts, [otherWiredText, WIRED]);
   assert.deepEqual(currentWiredText(BOARD_LINES, "", storedTexts), WIRED);
   assert.deepEqual(currentWiredText(["board"], ROM, storedTexts), { text: "", board: "board" });
   assert.deepEqual(textsToStore({ ...WIRED, text: ROM }, storedTexts).map(({ text }) => text), [ROM, "# title: Other\n"]);

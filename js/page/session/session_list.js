@@ -20,7 +20,7 @@ import * as say from "../../words/session.js";
  * @property {() => SessionRecord[]} deletedSessions Returns the sessions that can be restored.
  * @property {(records: SessionRecord[]) => Promise<void>} restoreSessions Restores deleted sessions.
  * @property {(action: () => Promise<boolean>) => void} runAndClose Executes `action`. Closes the dialog unless `action` resolves to false.
- * @property {(word: string, label: string, action: () => void) => HTMLButtonElement} makeButton Returns a button with a visible word, a
+ * @property {(text: string, label: string, action: () => void) => HTMLButtonElement} makeButton Returns a button with a visible text, a
  *   label for screen readers, and an action.
  */
 
@@ -73,8 +73,8 @@ export class SessionList {
   makeEntry(record) {
     const isCurrent = this.calls.isCurrent(record.id);
     const { name, id } = record;
-    const word = isCurrent ? say.SHOWN : say.OPEN;
-    const openButton = this.calls.makeButton(word, say.openNamed(name), () => this.calls.runAndClose(() => this.calls.open(id)));
+    const openText = isCurrent ? say.SHOWN : say.OPEN;
+    const openButton = this.calls.makeButton(openText, say.openNamed(name), () => this.calls.runAndClose(() => this.calls.open(id)));
     openButton.disabled = isCurrent;
     const copyButton = this.calls.makeButton(say.COPY, say.copyNamed(name), () => this.calls.runAndClose(() => this.calls.copy(id)));
     const deleteButton = this.calls.makeButton(say.DELETE, say.deleteNamed(name), () => this.remove([record]));

@@ -99,7 +99,7 @@ export class SessionManager {
    */
   async open(id) {
     const release = await this.locks.acquire(id);
-    if (!release) return this.rejectAction(say.IN_ANOTHER_TAB, { word: say.OPEN_A_COPY, act: () => this.copy(id) });
+    if (!release) return this.rejectAction(say.IN_ANOTHER_TAB, { label: say.OPEN_A_COPY, act: () => this.copy(id) });
     try {
       await this.calls.useSession(await this.readRecord(id), release, "");
       return true;

@@ -112,7 +112,7 @@ export class SessionsController {
    * @param {SessionRecord} record
    */
   offerReturn({ id, name }) {
-    this.notice.show(say.sessionLeft(name, this.store.isPersistent), "left", { word: say.REOPEN, act: () => this.open(id) });
+    this.notice.show(say.sessionLeft(name, this.store.isPersistent), "left", { label: say.REOPEN, act: () => this.open(id) });
   }
 
   /**
@@ -161,7 +161,7 @@ export class SessionsController {
     if (deletedRecords.length === 0) return;
     for (const { id } of deletedRecords) this.openingGuard.clearFlag(id);
     this.notice.show(say.sessionsDeleted(formatNames(deletedRecords)), "undo",
-      { word: say.UNDO, act: () => this.restoreSessions(deletedRecords) });
+      { label: say.UNDO, act: () => this.restoreSessions(deletedRecords) });
   }
 
   /** @param {SessionRecord[]} records */
@@ -223,8 +223,8 @@ export class SessionsController {
     if (!release) return;
     release();
     const message = say.notOpenedAutomaticallyMessage(shortenName(record.name));
-    const openAction = { word: say.OPEN_IT, act: () => this.open(record.id) };
-    const deleteAction = { word: say.DELETE_IT, act: () => this.remove([record]) };
+    const openAction = { label: say.OPEN_IT, act: () => this.open(record.id) };
+    const deleteAction = { label: say.DELETE_IT, act: () => this.remove([record]) };
     this.notice.show(message, "unopened", openAction, deleteAction);
   }
 

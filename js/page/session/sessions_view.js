@@ -63,7 +63,7 @@ export class SessionsView {
       runAndClose: (action) => this.runAndClose(action),
       remove: (records) => this.changeAndDraw(() => calls.remove(records)),
       restoreSessions: (records) => this.changeAndDraw(() => calls.restoreSessions(records)),
-      makeButton: (word, label, action) => this.makeButton(word, label, action),
+      makeButton: (text, label, action) => this.makeButton(text, label, action),
     });
     onClick(button("first-example"), () => this.openExamples());
     onClick(button("close-sessions"), () => this.close());
@@ -136,12 +136,12 @@ export class SessionsView {
   }
 
   /**
-   * @param {string} word
+   * @param {string} text
    * @param {string} label
    * @param {() => void} action
    */
-  makeButton(word, label, action) {
-    const node = element("button", { type: "button" }, word);
+  makeButton(text, label, action) {
+    const node = element("button", { type: "button" }, text);
     node.setAttribute("aria-label", label);
     node.addEventListener("click", (event) => {
       this.usedPointer = event.detail > 0;

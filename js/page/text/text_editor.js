@@ -55,7 +55,8 @@ export class TextEditor {
     /** The line, counted from 1, to reveal once the text can be measured; 0 if there is none. */
     this.pendingLine = 0;
     /**
-     * True if the Tab key moves the focus out of the editor: after Escape, and after Tab has moved the focus into the editor.
+     * True if the Tab key moves the focus out of the editor. This is so after Escape, and from the time when the editor receives the focus
+     * until the user types or clicks in it.
      */
     this.tabMovesFocus = true;
     /** True if the editor has had the focus since its text was loaded, so that the user may have placed the caret. */
@@ -150,8 +151,8 @@ export class TextEditor {
   }
 
   /**
-   * Handles a key event. Tab indents after the user has typed or clicked in the editor. After Escape, or if Tab moved the focus in, Tab
-   * moves the focus as usual. Returns true if the key is handled.
+   * Handles a key event. Tab indents after the user has typed or clicked in the editor. Before that, and after Escape, Tab moves the focus
+   * as usual. Returns true if the key is handled.
    * @param {KeyboardEvent} event
    */
   handleKey({ key, shiftKey, ctrlKey, altKey, metaKey }) {

@@ -279,7 +279,7 @@ export class TextEditorView {
     this.showErrors([]);
     this.status.set("");
     this.editor.open(sessionId, text);
-    this.updateSize();
+    this.scheduleSizeUpdate();
     this.meaning.set([], "");
   }
 
@@ -350,12 +350,12 @@ export class TextEditorView {
   /** @param {Edit[]} edits */
   handleEdits(edits) {
     this.status.set("");
-    this.updateSize();
+    this.scheduleSizeUpdate();
     this.calls.handleEdits(edits);
   }
 
-  /** Schedules the update of the text's size. The delay of REST_DELAY_MS keeps typing fast. */
-  updateSize() {
+  /** Schedules the update of the displayed size of the text. The delay of REST_DELAY_MS keeps typing fast. */
+  scheduleSizeUpdate() {
     clearTimeout(this.sizeTimer);
     this.sizeTimer = window.setTimeout(() => {
       const { isNeverSent } = this.language;

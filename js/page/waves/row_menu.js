@@ -82,7 +82,7 @@ export class RowMenu {
    * Asks the user for a name.
    * @param {string} label
    * @param {string} value
-   * @param {(word: string) => void} action
+   * @param {(name: string) => void} action receives the name
    */
   askName(label, value, action) {
     this.nameBar.open({ label, value, buttonLabel: say.NAME, act: (text) => {

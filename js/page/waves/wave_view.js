@@ -161,8 +161,8 @@ export class WaveView {
   }
 
   /**
-   * Shows the complete recording, unless the user has zoomed in or scrolled away from the end. Puts the cursors on the first two edges of
-   * the first row that has edges. A cursor without an edge goes to the beginning.
+   * Shows the complete recording, unless the user has zoomed in or scrolled away from the end. Unless the user has moved a cursor, puts the
+   * cursors on the first two edges of the first row that has edges. A cursor without an edge goes to the beginning.
    */
   fit() {
     const { waves, view, rows } = this;
