@@ -49,7 +49,7 @@ export class Page {
     this.errorMessages = errorMessages;
     this.notice = notice;
     /** True if the computer's keyboard presses the board's keys. */
-    this.isTyping = true;
+    this.usesKeyboard = true;
     this.storedHistory = new StoredHistory();
     this.currentSession = makeCurrentSession(this);
     this.recovery = makeRecovery(this);
@@ -210,7 +210,7 @@ export class Page {
     this.snapshotView.show(snapshot, isIntermediate, litShares);
     if (printed) {
       session.record.printed = printed;
-      this.snapshotView.printer.showPrinted(printed);
+      this.snapshotView.printer.showPrintout(printed);
     }
     this.sourceValues.updateFromSnapshot(total);
     this.heatView.handleSnapshot();

@@ -69,7 +69,7 @@ export function makeKeyPresser(page) {
       page.lineServer.serveLines(`${keyLine(word, key)}\n`);
     },
     keyForEvent: (event) => {
-      if (event.ctrlKey || event.metaKey || event.altKey || !page.isTyping || isDialogOpen()) return undefined;
+      if (event.ctrlKey || event.metaKey || event.altKey || !page.usesKeyboard || isDialogOpen()) return undefined;
       return handlesKey(event.target, event.key) ? undefined : findBoardKey(page.snapshotView.front.keys, event.key);
     },
   });
@@ -102,7 +102,7 @@ export function makeDrawingController(page) {
     redo: () => editor.undoOrRedo("redo"),
     describeRefusal: (number) => page.errorMessages.refusalMeaning(number),
     isInFront: () => tabs.shownName === "wiring",
-    putInFront: () => tabs.choose("wiring"),
+    bringToFront: () => tabs.choose("wiring"),
     applyBoard: async () => {
       await page.editors.applyBoard();
       return boardEditor.status.text;

@@ -197,7 +197,7 @@ export class Commands {
       },
       toggleCheckBox: (id) => field(id).click(),
       togglePanel: (id) => page.layout.panels.toggle(id),
-      toggleMaximizedPanel: (id) => page.layout.panels.toggleMaximized(id),
+      toggleMaximisedPanel: (id) => page.layout.panels.toggleMaximised(id),
       insertKeyScan: () => insertKeyScan(page, page.snapshotView.board),
       hasKeys: () => page.snapshotView.board.matrix !== null,
       resetLayout: () => page.layout.panels.reset(),

@@ -21,7 +21,7 @@ export function makeCurrentSession(page) {
     checkTestsAndProperties: () => page.checkTestsAndProperties(),
     run: () => page.runController.run(),
     showPaused: (reason) => page.runController.endRun(reason),
-    stopTime: () => page.runController.stopRun(),
+    pauseTime: () => page.runController.stopRun(),
     describeCounter: () => page.runController.counterText,
     handleSessionChange: () => page.sessionsController.handleSessionChange(),
     takeRuns: () => page.logView.takeRuns(),
@@ -63,7 +63,7 @@ export function makeRunController(page) {
       page.mistakesView.show(frame.tally.mistakes);
       page.heatView.handleFrame(frame);
       page.show(frame, true, frame.litShares);
-      page.breakpoints.count(frame.tally);
+      page.breakpoints.countHits(frame.tally);
     },
     drawSlowViews: () => page.snapshotView.showSlowViews(),
     drawListing: () => page.snapshotView.showListing(),
@@ -98,7 +98,7 @@ export function makeLineServer(page) {
     checkSource: () => page.checkSource(),
     save: () => currentSession.markChangedAndSave(),
     log: (entries, saveError) => page.logView.show(entries, saveError),
-    countHits: (tally) => page.breakpoints.count(tally),
+    countHits: (tally) => page.breakpoints.countHits(tally),
     isRunning: () => runController.clock.isRunning,
     forgetGoal: () => runController.forgetGoal(),
     describeStop: (stop) => runController.describeStop(stop, null),

@@ -69,7 +69,7 @@ export function makeTravel(page) {
     storeGoal: (goal) => runController.storeGoal(goal),
     change: (description, work) => page.lineServer.performWork(description, work),
     runTo: (goal) => runController.run(goal),
-    reportTally: (tally) => page.breakpoints.count(tally),
+    reportTally: (tally) => page.breakpoints.countHits(tally),
     reasonOf: (stop, goal) => runController.describeStop(stop, goal),
     describeCounter: () => runController.counterText,
     breakpoint: (id) => page.breakpoints.manager.list.get(id),

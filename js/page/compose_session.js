@@ -37,7 +37,7 @@ export function makeSessionsController(page, services) {
     },
     loadImage: async (name, bytes) => {
       const message = await page.romFiles.load(name, bytes);
-      if (message) page.notice.show(message, "file", { word: say.DISASSEMBLE_ROM, act: () => page.textsController.disassembleRom() });
+      if (message) page.notice.show(message, "file", { label: say.DISASSEMBLE_ROM, act: () => page.textsController.disassembleRom() });
     },
   });
 }
@@ -137,7 +137,7 @@ export function makeGuide(page, manual) {
       else if (target === "ram") layout.showPanel("memory");
       else layout.showText("program");
     },
-    replace: (program, message) => page.textsController.replace("program", program, message),
+    replaceWithUndo: (program, message) => page.textsController.replace("program", program, message),
     storyCalls: makeStoryCalls(page),
     handleTourEnd: forgetStory,
     showRefusal: (reason) => page.notice.show(reason, "session"),

@@ -67,7 +67,7 @@ function showUpdate(update) {
     button("test").textContent = `TEST ${update.test}`;
     button("test").setAttribute("aria-pressed", String(update.test === "1"));
   }
-  if (update.printed) printerView.showPrinted(update.printed);
+  if (update.printed) printerView.showPrintout(update.printed);
   if (update.keys) frontView.showKeys(update.keys);
   const marks = update.lamps ?? frontView.marks;
   if (update.litShares) frontView.showBrightness(marks, update.litShares, Infinity);

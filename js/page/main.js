@@ -22,8 +22,8 @@ import * as say from "../words/page.js";
  * @typedef {import("./session/store.js").SessionStore} SessionStore
  * @typedef {import("./compose_commands.js").PageFrame} PageFrame
  * @typedef {import("../core/help/manual.js").ManualSection} ManualSection
- * @typedef {{ refusals: Record<string, string>, examples: Example[], manual: ManualSection[] }} Data The data that page/build embeds in the
- *   page.
+ * @typedef {{ refusals: Record<string, string>, examples: Example[], manual: ManualSection[] }} EmbeddedData the data that page/build
+ *   embeds in the page
  */
 
 /**
@@ -76,7 +76,7 @@ async function unpackEmbedded(id) {
 }
 
 /**
- * Resolves after the browser has handled the waiting events. Firefox loads a worker's script only while it handles events. A timer would
+ * Resolves after the browser has handled the pending events. Firefox loads a worker's script only while it handles events. A timer would
  * not help, because Firefox delays timers until the page has loaded.
  */
 function yieldToEvents() {
@@ -110,21 +110,21 @@ function listenToButtons(page) {
 /** @param {Page} page */
 function listenToSettings(page) {
   const speedSelect = byId("speed", HTMLSelectElement);
-  const typingField = field("typing");
+  const keyboardField = field("typing");
   const { preferences } = page.layout;
   const storedSpeed = SPEEDS.find(({ id }) => id === preferences.get("speed"));
   if (storedSpeed) page.runController.clock.setSpeed(storedSpeed);
   const showSettings = () => {
     speedSelect.value = page.runController.clock.speed.id;
-    typingField.checked = page.isTyping;
+    keyboardField.checked = page.usesKeyboard;
   };
   speedSelect.replaceChildren(...SPEEDS.map(({ id, label }) => element("option", { value: id }, label)));
   speedSelect.addEventListener("change", () => {
     preferences.set("speed", speedSelect.value);
     page.runController.setSpeed(findSpeed(speedSelect.value)).catch((error) => page.recovery.reportFailure(error));
   });
-  typingField.addEventListener("change", () => {
-    page.isTyping = typingField.checked;
+  keyboardField.addEventListener("change", () => {
+    page.usesKeyboard = keyboardField.checked;
   });
   showSettings();
   // When the user returns to the page, a browser may restore old values of the fields.
@@ -187,7 +187,7 @@ function beginLoading() {
  * @param {ErrorMessages} errorMessages
  * @param {Notice} notice
  * @param {PageFrame} pageFrame
- * @param {Data} data
+ * @param {EmbeddedData} data
  */
 async function startPage({ unpackingPromise, locksPromise, storePromise }, errorMessages, notice, pageFrame, { examples, manual }) {
   const makeBench = prepareBench(await unpackingPromise, examples);
@@ -223,7 +223,7 @@ async function main() {
     return;
   }
   const loading = beginLoading();
-  /** @type {Data} */
+  /** @type {EmbeddedData} */
   const data = JSON.parse(new TextDecoder().decode(await unpackEmbedded("data")));
   const errorMessages = new ErrorMessages(data.refusals);
   try {

@@ -52,7 +52,7 @@ export class Recovery {
     if (!calls.session()) return;
     const isRunning = calls.isRunning();
     calls.showPaused(say.PAUSED);
-    // Save the cycles that ran before the error.
+    // Show the state that the run had reached before the error.
     if (isRunning) bench.call("halt", []).then(calls.showLastFrame).catch(() => {});
   }
 

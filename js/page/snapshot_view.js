@@ -27,7 +27,7 @@ import * as say from "../words/page.js";
 
 /**
  * The callbacks of SnapshotView.
- * @typedef {object} ViewCalls
+ * @typedef {object} SnapshotViewCalls
  * @property {(node: HTMLButtonElement, key: BoardKey) => void} connectKey Connects a button to its key.
  * @property {() => boolean} isRunning Returns true if time is running.
  * @property {() => boolean} isFast Returns true if the speed is too high for the disassembly to follow each instruction.
@@ -50,7 +50,7 @@ import * as say from "../words/page.js";
  * @property {(error: unknown) => void} reportFailure Reports an error that a call threw.
  */
 
-/** @typedef {import("./board/printer_view.js").PrinterCalls & ViewCalls} SnapshotCalls */
+/** @typedef {import("./board/printer_view.js").PrinterCalls & SnapshotViewCalls} SnapshotCalls */
 
 /**
  * A listener for changes of lamps and keys. `lamps` has one character per lamp, `*` if the lamp is on. `keyCount` is the number of keys
@@ -79,8 +79,8 @@ export class SnapshotView {
       showMessage: (message, cell) => this.message.show(message, cell),
     });
     this.registers = new RegistersView(this.changes, this.editor, calls.explain);
-    this.ram = new RamView(this.changes, this.editor, (bank, source, isSet, cell) => (
-      this.toggleWatch(isSet, `${bank} 0x${hex(source, 2)}`, cell)));
+    this.ram = new RamView(this.changes, this.editor, (bank, srcByte, isSet, cell) => (
+      this.toggleWatch(isSet, `${bank} 0x${hex(srcByte, 2)}`, cell)));
     this.ports = new PortsView(this.changes, this.editor, calls.explain);
     this.wiring = new WiringView(calls.isWiringShown);
     /** @type {Watcher | null} the tour's listener for changes of lamps and keys, or null if no tour is open */
@@ -93,7 +93,7 @@ export class SnapshotView {
     this.stack = new StackView(this.changes, calls.explain, calls.ask, (address) => this.goTo.show(address));
     this.sourceStatus = new Cell(block("source-status"));
     this.testText = new Cell(button("test"));
-    /** True if the TEST pin is at 1. */
+    /** On if the TEST pin is at 1. */
     this.testSwitch = new Switch((isOn) => button("test").setAttribute("aria-pressed", String(isOn)));
   }
 
@@ -109,8 +109,8 @@ export class SnapshotView {
   }
 
   /**
-   * Returns the error message for an answer that rejects a command, or "" for any other answer.
-   * @param {string | null} answer null if the call has failed
+   * Returns the error message for a rejected command or a failed call, or "" if the command was accepted.
+   * @param {string | null} answer the answer to the command; null if the call has failed
    */
   refusalMessage(answer) {
     if (answer === null) return say.NOT_DONE;

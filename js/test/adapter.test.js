@@ -213,7 +213,7 @@ test("a step out without an open call fails with a message for the user", async 
   assert.equal((await moveAndWait("stepIn")).reason, "step");
 });
 
-test("after a console line that changes the machine, the client gets the new location", async () => {
+test("after a console line that changes the machine, the client receives the new location", async () => {
   for (const supportsInvalidatedEvent of [false, true]) {
     const { startSession, request, getStops, messages } = startAdapter();
     await startSession({ ...LOCK, supportsInvalidatedEvent });

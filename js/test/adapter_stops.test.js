@@ -89,7 +89,7 @@ test("registers, ports and lamps can be watched; keys, names and the counter can
   assert.match(lastAnswer.message, /17 places; at most 16 are allowed/);
 });
 
-test("a data breakpoint stops if its condition holds after the change, and from its hit count on", async () => {
+test("a data breakpoint stops only if its condition is true after the change, and only from its hit count on", async () => {
   const changes = changesOf("acc", 400);
   const expected = changes.filter(({ after }) => parseInt(after, 16) >= 8);
   const client = startAdapter();
@@ -160,7 +160,7 @@ test("more RAM characters can be watched than the bench itself watches", async (
 const MISTAKES = " FIM P1, 0\n SRC P1\nturn: INC R0\n RDR\n JUN turn\n";
 const LATE_MISTAKES = ` FIM P2, 0\n FIM P3, 0\nwait: ISZ R4, wait\n ISZ R5, wait\n ISZ R6, wait\n ISZ R7, wait\n${MISTAKES}`;
 
-test("a common mistake stops the machine if its condition holds", async () => {
+test("a common mistake stops the machine if its condition is true", async () => {
   const client = startAdapter({ ...FILES, "/lock/m.asm": MISTAKES, "/lock/far.asm": LATE_MISTAKES });
   const { startSession, request, moveAndWait, evaluate, getOutput } = client;
   await startSession({ program: "/lock/m.asm", board: "/lock/board.toml" });

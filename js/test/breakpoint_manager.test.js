@@ -50,7 +50,7 @@ test("opening a session without breakpoints sends no request to the bench", asyn
   assert.deepEqual([log.setCalls, log.editCount, log.failures], [[], 0, []]);
 });
 
-test("breakpoints that the bench reports are adopted, and get lines once the source is known", async () => {
+test("breakpoints that the bench reports are adopted, and are assigned to lines once the source is known", async () => {
   const { manager, log } = createManager(undefined, ["000", "7FF"]);
   assert.deepEqual(linesAndAddressesOf(manager), [[0, 0], [0, 0x7FF]]);
   manager.setSourceMap(MAP, "");
@@ -136,7 +136,7 @@ test("a change is sent before the previous one is answered, and the last change 
   assert.equal(manager.isApplying, false);
 });
 
-test("a condition is stored as it is typed, and the bench gets it once it is entered", async () => {
+test("a condition is stored while the user types it, and is sent to the bench once the user enters it", async () => {
   const { manager, log } = createManager([{ line: 2, address: 0, isOn: true, condition: "", from: 1, note: "" }, { line: 4, address: 2 }]);
   manager.setSourceMap(MAP, "");
   await manager.sendingEnd;
@@ -247,7 +247,7 @@ for (const [length, otherText] of Object.entries(OTHER_PROGRAMS)) {
   });
 }
 
-test("the bench gets the breakpoints of a restored text, even before the source is checked", async () => {
+test("the breakpoints of a restored text are sent to the bench, even before the source is checked", async () => {
   const { manager, bench } = createManager([{ line: 4, address: 2 }], ["002"]);
   manager.setSourceMap(MAP, "");
   manager.applyTextEdits(createReplacementEdits(TEXT, OTHER_PROGRAMS.short));

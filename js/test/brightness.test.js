@@ -78,7 +78,7 @@ function findLampChanges(calls, cycles) {
   });
 }
 
-test("the lit times and the changes of lamps are reported exactly", async () => {
+test("the number of cycles for which each lamp is on, and the changes of lamps, are reported exactly", async () => {
   const calls = await openSession(PULSE_EXAMPLE);
   for (const cycles of [1, 7, FRAME_CYCLES, 2000, 11]) {
     const [expected, expectedChanges] = [countLitCycles(calls, cycles), findLampChanges(calls, cycles)];
@@ -89,7 +89,7 @@ test("the lit times and the changes of lamps are reported exactly", async () => 
   }
 });
 
-test("the perceived brightness is the share of lit cycles in the trace, within 2 %", async () => {
+test("the perceived duty cycle of a lamp is its duty cycle in the trace, within 2 %", async () => {
   const calls = await openSession(PULSE_EXAMPLE);
   const expectedShares = countLitCycles(calls, 3800).map((litCycles) => litCycles / 3800);
   const brightness = new Brightness(new Face(PULSE_EXAMPLE.board), 4);
@@ -101,7 +101,7 @@ test("the perceived brightness is the share of lit cycles in the trace, within 2
   }
 });
 
-test("a scanned lamp is lit while both of its lines are 1, exactly", async () => {
+test("a scanned lamp is on in exactly those cycles in which both of its lines are 1", async () => {
   const calls = await openSession(SCANNED_EXAMPLE);
   calls.advance(100);
   for (const cycles of [1, 26, FRAME_CYCLES, 333]) {
@@ -117,7 +117,7 @@ test("a scanned lamp is lit while both of its lines are 1, exactly", async () =>
   group.forEach((share, index) => assert.ok(Math.abs(share - [5, 0, 5, 0, 10, 0][index] / loopCycles) < 0.02, String(group)));
 });
 
-test("each multiplexed digit shows the pattern that it has longest while it is lit", () => {
+test("each multiplexed digit shows the pattern that it has longest while it is on", () => {
   const face = new Face("# display 0: 3 digits of 7 segments with points scanned by 8\n# lamp 11: minus\n");
   const text = new DisplayText(face.groups, [{ lamp: 11, text: "minus" }]);
   const formatMarks = (segments, digits, minus) => segments.padEnd(8, ".") + digits + minus;
@@ -186,7 +186,7 @@ test("the brightness of a flickering lamp rises, and falls, by 63 % within the p
   assert.deepEqual([0, 0.25, 1, 2].map(perceivedBrightness), [0, 0.53, 1, 1]);
 });
 
-test("a steady lamp has full brightness at once, and fades when it goes out; a short flash is visible, but not on", () => {
+test("a steady lamp has full brightness at once, and fades when it goes out; a lamp that only flashes is visible, but not on", () => {
   const { brightness, simulate } = createLamp();
   simulate(0.3, FRAME_MS, { first: 70, longest: 0, rest: 30 });
   assert.deepEqual([brightness.lampDuties, brightness.isOn], [[1], [true]]);

@@ -68,7 +68,7 @@ test("the clock is ahead while cycles have been simulated early", async () => {
   assert.ok(Math.abs(clock.simulatedTime - 10 - 1000 / 60) < 0.01, `${clock.simulatedTime}`);
 });
 
-test("during a call, the caller must send the key, and the cycles follow at the end of the call", async () => {
+test("a key press during a call is left to the caller, and the due cycles are simulated when the call ends", async () => {
   const { clock, bench, calls, setTime, advanceTo } = startClock();
   let endCall = () => {};
   bench.pendingCall = new Promise((resolve) => { endCall = resolve; });
@@ -106,7 +106,7 @@ test("if the clock stops during a call, no cycles follow, and none are due after
   assert.deepEqual(calls.slice(callCount), [[925]]);
 });
 
-test("no cycles are simulated early while paused, at full speed or in slow motion", async () => {
+test("no cycles are simulated early while time is paused, at full speed or in slow motion", async () => {
   for (const { id } of SPEEDS.filter((speed) => speed.id !== "real")) {
     const { clock, calls, setTime } = startClock(id);
     calls.length = 0;

@@ -98,7 +98,7 @@ test("a mistake is reported once in each run", () => {
   assert.equal(findMistakes(program, 5, benchDebugger).length, 1);
 });
 
-test("after a while only samples are checked, and all cycles again after a key press", () => {
+test("after a while, only samples of the cycles are checked; after a key press, all cycles are checked again", () => {
   const benchDebugger = openDebugger("turn: JUN turn\n");
   const countChecks = () => {
     let count = 0;

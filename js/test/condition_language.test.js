@@ -230,7 +230,7 @@ test("A names the accumulator unless the user has defined A", () => {
   assert.deepEqual(compileCondition("A = 10", namesWithLabel).condition.places, []);
 });
 
-test("an error in a condition is the same in each place of use; a breakpoint with it stops every time", async () => {
+test("an invalid condition has the same error wherever it is used; a breakpoint with this condition stops every time", async () => {
   for (const [use, evaluate] of Object.entries(USES)) {
     assert.match(String(await evaluate("accu = 10")), /accu: no such place; the accumulator is acc/, use);
   }
@@ -299,7 +299,7 @@ test("searches back and forward find the instructions at which a condition becam
   }
 });
 
-test("conditions that no trace shows are rejected in traced conditions", () => {
+test("conditions about keys and the TEST pin are rejected where the values come from a trace", () => {
   for (const [text] of INPUT_CONDITIONS) {
     assert.match(compileTracedCondition(text, names).error, /^no run changes .*: ask for it at a breakpoint$/);
   }
@@ -346,7 +346,7 @@ test("random texts are parsed in limited time, and errors have a column in the t
     }
   }
   assert.ok(acceptedCount > 200, String(acceptedCount));
-  // The same parser also reads conditions in other contexts. Its error messages name the column.
+  // Tests, properties, watch expressions and log messages use the same parser. The columns in their error messages are within the text.
   for (let round = 0; round < 1500; round++) {
     const text = Array.from({ length: randomBelow(random, 12) }, () => pieces[randomBelow(random, pieces.length)]).join(" ");
     const prefixes = ["while ", "once ", "after press A, ", "after press A within 5 ms, ", "never ", "always ", ""];

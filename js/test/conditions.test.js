@@ -66,7 +66,7 @@ test("conditions are evaluated with the values that the bench reports", async ()
   }
 });
 
-test("a condition that does not hold is explained as by mcs4 test", async () => {
+test("a condition that is false is explained as by mcs4 test", async () => {
   const { calls } = await openBench("run 19\n");
   const explain = (text) => compile(text).explain(readValues(calls, compile(text)));
   assert.equal(explain("acc 2"), "acc is 1, but must be 2");

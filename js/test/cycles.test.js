@@ -8,12 +8,12 @@ import { parsePlace } from "../core/conditions/places.js";
 import { SourceMap } from "../core/machine/source_map.js";
 import { describeUserPause, runningToGoal, addressWithName, pauseMessage } from "../words/stops.js";
 
-test("cycles in words: 10.8 microseconds each", () => {
+test("a number of cycles is formatted with its time, 10.8 microseconds for each cycle", () => {
   assert.deepEqual([1, 926, 92593, 1000000].map(formatCycles),
     ["1 cycle, 0.011 ms", "926 cycles, 10.001 ms", "92,593 cycles, 1.000 s", "1,000,000 cycles, 10.800 s"]);
 });
 
-test("accepted commands, their cycles, and resets", () => {
+test("accepted commands are found with their cycles, and a reset restarts the count since the last reset", () => {
   const inputs = readInputs("run 5\nfoo\nregs\nwire\n[[rom]]\n.\nreset\nstep\n");
   const acceptedCommands = findAcceptedCommands(inputs,
     [["ok 1 ran 5 end"], ["no 10"], ["acc 0"], ["no 22"], ["ok 2"], ["ok 3 ran 2 end"]]);
@@ -37,7 +37,7 @@ test("at a stop, the count since the last stop is that of the last run", () => {
   assert.deepEqual(new Cycles(cycles.storedCounts).counts, cycles.counts);
 });
 
-test("markers: cycles since the first marker, then between two markers, then since a new marker", () => {
+test("cycles are counted since the first marker, then between two markers, then since a new marker", () => {
   const cycles = new Cycles({ total: 10, reset: 0, from: 0, marks: [] });
   assert.equal(cycles.counts.marked, null);
   cycles.addMark();
@@ -75,7 +75,7 @@ test("places are parsed, and read from trace values", () => {
   assert.deepEqual(invalidPlaces.map(parsePlace), invalidPlaces.map(() => null));
 });
 
-test("messages about pauses", () => {
+test("messages about pauses report the address, the reason and the cycles", () => {
   const goalStop = { cycles: 538, reason: "goal", endsAtReturn: false };
   assert.equal(pauseMessage({ kind: "over" }, { ...goalStop, endsAtReturn: true }, "009"), "Returned to 009, after 538 cycles, 5.810 ms.");
   assert.equal(pauseMessage({ kind: "over" }, { ...goalStop, cycles: 1 }, "00D"), "At 00D, after 1 cycle, 0.011 ms.");

@@ -205,7 +205,7 @@ testOnBothHosts("tests, coverage and profile of examples", async (engine) => {
 });
 
 if (!nativeEngine) {
-  test("the native program", { skip: `${program} does not start here; MCS4 names another one` }, () => {});
+  test("the native program", { skip: `${program} does not start here; MCS4 can name another one` }, () => {});
 } else {
   test("a missing program, a wrong program and a program that ends are errors with a message", () => {
     const folder = mkdtempSync(join(tmpdir(), "engine_hosts-"));

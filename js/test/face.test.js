@@ -68,7 +68,7 @@ test("only the first of many errors are reported", () => {
 
 /**
  * Returns the lamp marks for a row of digits. Each digit has four lamps, the highest bit first. With `width` 5, a fifth lamp is the decimal
- * point, which is lit only in the digit with the index `point`.
+ * point, which is on only in the digit with the index `point`.
  */
 const lampsOf = (digits, width, point = -1) => digits.map((digit, index) => (
   digit.toString(2).padStart(4, "0").replace(/0/g, ".").replace(/1/g, "*") + (width === 5 ? (index === point ? "*" : ".") : ""))).join("");

@@ -14,7 +14,7 @@ line = "ram0.0.1"
 
 const kindsOf = ({ shapes }) => shapes.map((shape) => shape.kind);
 
-test("lamps have their colours and keys their legends; one lamp of each colour is lit", () => {
+test("lamps have their colours and keys their legends; one lamp of each colour is on", () => {
   const picture = galleryPicture(BOARD);
   assert.deepEqual(kindsOf(picture), ["lamp", "lamp", "key", "key"]);
   assert.deepEqual(picture.shapes.slice(0, 2).map(({ colour, isLit }) => [colour, isLit]), [["red", true], ["green", true]]);

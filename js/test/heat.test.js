@@ -96,7 +96,7 @@ test("past changes are counted exactly, and the session stays unchanged", async 
   assert.deepEqual(calls.ask(ALL_QUERIES), answersBefore);
 });
 
-test("a short period is counted alone, and a long period as far back as the past is remembered", async () => {
+test("only changes in the requested period are counted, at most as far back as the past is recorded", async () => {
   const calls = await openSessionAfter(SETUP_CYCLES + 20 * LOOP_CYCLES);
   for (const [requestedCycles, reportedCycles, count] of [
     [LOOP_CYCLES, LOOP_CYCLES, 1], [5, 5, 0], [3 * LOOP_CYCLES + 3, 3 * LOOP_CYCLES + 3, 3], [1e7, SETUP_CYCLES + 20 * LOOP_CYCLES, 20],
@@ -142,7 +142,7 @@ const HEAT = {
   ],
 };
 
-test("five heat levels, and the descriptions of changes", () => {
+test("cells have one of five heat levels, and their changes are described", () => {
   assert.deepEqual([...heatLevels(HEAT, "often").values()], [1, 5, 3]);
   assert.deepEqual([...heatLevels(HEAT, "lately").values()], [1, 5, 3]);
   assert.deepEqual([...heatLevels({ cycles: 5, cells: [{ ...HEAT.cells[0], cyclesAgo: 0 }] }, "often").values()], [5]);

@@ -115,7 +115,7 @@ test("a mouse presses at once, and with Shift the key stays down", () => {
   assert.deepEqual([...downKeys], ["0 1"]);
 });
 
-test("while paused, a tap toggles a key", () => {
+test("while time is paused, a tap toggles a key", () => {
   const { lines, buttons } = createPresser(false);
   for (let tap = 0; tap < 2; tap++) {
     buttons[0].fire("pointerdown");

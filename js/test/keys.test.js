@@ -63,7 +63,7 @@ test("the pressed keys are determined from an answer and the level of TEST", () 
     [true, false, false]);
 });
 
-test("the hint below the keys", () => {
+test("the hint below the keys reports a board without keys, or shows how to declare legends", () => {
   assert.equal(keyHint([]), "This board has no keys.");
   assert.match(keyHint(boardKeys({ rows: 1, columns: 1 }, new Face(""))), /# row 0: 7 8 9/);
   assert.doesNotMatch(keyHint(boardKeys({ rows: 1, columns: 1 }, new Face("# row 0: 7"))), /# row 0/);

@@ -48,7 +48,7 @@ test("random lines are rejected with the same number as by the bench", () => {
   }
 });
 
-test("the limits of ranges", () => {
+test("numbers at the limits of their ranges are accepted or rejected as by the bench", () => {
   const lines = [
     "list 0 0", "list 0 1", "list 4095 256", "list 0 257", "list 4096 1", "count 0", "count 1", "count 100000", "count 100001",
     "run 0", "run 4294967295", "run 4294967296", "test 1", "test 2", "break 4095", "break 4096", "ram 7", "ram 8", "watch 7 255",
@@ -59,7 +59,7 @@ test("the limits of ranges", () => {
   for (const line of lines) assert.equal(pageRefusalOf(line), benchRefusalOf(line), line);
 });
 
-test("length and characters", () => {
+test("lines that are too long or have invalid characters are rejected as by the bench", () => {
   const lines = ["", "  \t", " ".repeat(256), `seq${" ".repeat(252)}`, `seq${" ".repeat(253)}`, "seq\x01", "seq é", "seq ; \x7f", " seq "];
   for (const line of lines) {
     assert.equal(pageRefusalOf(line), benchRefusalOf(line), JSON.stringify(line));

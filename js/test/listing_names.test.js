@@ -30,18 +30,18 @@ test("only jump targets are replaced by labels", () => {
   assert.equal(addLineNames(listingLine("000 14 02 JCN 4, 0x002"), MAP).instruction, "JCN 4, put");
 });
 
-test("the width of the labels", () => {
+test("the column of the labels is as wide as the longest labels of an address", () => {
   assert.equal(labelsWidth(MAP), "put: out:".length);
   assert.equal(labelsWidth(null), 0);
 });
 
-test("go to: names, hexadecimal and decimal addresses", () => {
+test("names, and hexadecimal and decimal addresses, are accepted as destinations", () => {
   const addresses = ["put", " on ", "PUT", "put + 7", "put+0x07", "01E", "01e", "0x1E", "0x01e", "30", "100", "4095", "0", "0xFFF", "0030"];
   assert.deepEqual(addresses.map((text) => parseGoToTarget(text, MAP)), [2, 12, 2, 9, 9, 30, 30, 30, 30, 30, 256, 4095, 0, 4095, 30]
     .map((address) => ({ address, message: "" })));
 });
 
-test("go to: invalid addresses are rejected with a reason", () => {
+test("invalid destinations are rejected with a reason", () => {
   for (const [text, words] of [["4096", /^4096 is not an address: the last one is FFF/], ["0x1000", /the last one/],
     ["put2", /^put2 is neither/], ["put + 4095", /^put \+ 4095 is neither/],
     ["", /^Enter where to go/], ["1E", /^1E is neither/], ["-1", /neither/], ["01E0", /neither/]]) {

@@ -33,7 +33,7 @@ test("the buffer for answers grows if necessary", async () => {
   assert.equal(answers.length, 400 * 256);
 });
 
-test("lines with other than ASCII characters, and more lines than the initial buffer can hold", async () => {
+test("lines with non-ASCII characters are answered, and so are more lines than the initial buffer can hold", async () => {
   const engine = await Engine.load(module);
   const file = engine.begin();
   assert.deepEqual(engine.ask(file, "caf\u00e9\n").answers, ["no 14"]);
@@ -87,7 +87,7 @@ test("a breakpoint ends a frame early", async () => {
   assert.ok(frame.cycles < 100);
 });
 
-test("a session with an example's board and program gets the example's texts, and another session gets those of the bench", async () => {
+test("a session with an example's board and program has the example's texts; another session has texts from the bench", async () => {
   const { calls } = await openExample(calculator);
   const texts = calls.recoverTexts(calls.createFile(calculator));
   const { board, program, tests = "", properties = "" } = calculator;

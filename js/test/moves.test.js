@@ -45,7 +45,7 @@ test("a step out without an open call does nothing, even if a stale return addre
   }
 });
 
-test("runs to an address, for a number of instructions, and to a change", async () => {
+test("a run ends at an address, after a number of instructions, or at a change", async () => {
   const calls = await openExample("three lamps");
   await calls.runToGoal({ kind: "here", address: 0x14 });
   assert.equal(readCounter(calls), "014");
@@ -58,7 +58,7 @@ test("runs to an address, for a number of instructions, and to a change", async 
   assert.equal((await newCalls.runToGoal({ kind: "change", place: "r4" })).searchResult.cycles, 5);
 });
 
-test("a run to a distant address, even if all breakpoints are in use", async () => {
+test("a run reaches a distant address, even if all breakpoints are in use", async () => {
   const loops = "far: ISZ R0, far\nISZ R1, far\nISZ R2, far\nISZ R3, far\nend: JUN end\n";
   const setup = `wire\n[[rom]]\nchip = 0\nport = "0000"\n.\nasm\n${loops}.\n`;
   const calls = await openExample("empty bench", setup);
@@ -177,7 +177,7 @@ test("with key presses, a goal stops the run at the cycle in which it is reached
   assert.deepEqual(secondCalls.ask("state\n")[0].replace(/seq \d+/, ""), calls.ask("state\n")[0].replace(/seq \d+/, ""));
 });
 
-test("a reset ends a move, and the machine can run on", async () => {
+test("a reset ends a move, and the machine can continue", async () => {
   const calls = await createBench("end: JUN end\n");
   assert.equal((await calls.runToGoal({ kind: "change", place: "r4" })).searchResult.end, "bound");
   assert.equal(calls.bench.debugger.isMoving, true);

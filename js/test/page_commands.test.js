@@ -132,7 +132,7 @@ test("the palette finds entries by words in any order, and ranks matches at the 
   assert.ok(rankEntry(createEntry("Step over"), ["step"]) < rankEntry(createEntry("Show a step"), ["step"]));
 });
 
-test("places: texts, labels, typed addresses and lines, projects, examples", () => {
+test("the palette's destinations are texts, labels, typed addresses and lines, projects and examples", () => {
   const visits = [];
   const recordVisit = (kind) => (value) => visits.push(`${kind} ${value}`);
   const names = new Map([["loop", { name: "loop", value: 0x12, isLabel: true }], ["ten", { name: "ten", value: 10, isLabel: false }]]);
@@ -141,9 +141,9 @@ test("places: texts, labels, typed addresses and lines, projects, examples", () 
     showLine: recordVisit("line"), showAddress: recordVisit("address"), openExample: recordVisit("example"),
       openProject: recordVisit("project") };
   const openFirst = (query) => {
-    const [place] = searchEntries(listDestinations(query, calls), query);
-    place.act();
-    return [place.label, place.hint, visits.pop()];
+    const [entry] = searchEntries(listDestinations(query, calls), query);
+    entry.act();
+    return [entry.label, entry.hint, visits.pop()];
   };
   assert.deepEqual(openFirst(":12"), ["Line 12 of Source", "", "line 12"]);
   assert.deepEqual(openFirst("0x20"), ["Address 020", "", "address 32"]);

@@ -145,7 +145,7 @@ test("a session at a breakpoint is paused; Enter runs one instruction; Tab toggl
   assert.match(getScreenText(), /> 000/);
 });
 
-test("while paused, typing a key toggles it; a key that was down before stays down at the end", async () => {
+test("while time is paused, typing a key toggles it; a key that was down before stays down at the end", async () => {
   const { typeKeys, getScreenText, panel, ask } = await openPanel(COUNTER, { lines: "press 0 1\n", isPaused: true });
   await typeKeys("a");
   assert.match(getScreenText(), /\[a\] {3}\[CE:c\]/);
@@ -186,7 +186,7 @@ test("with a source, the listing has source lines, and the next line is above it
   assert.match(getScreenText(), / {2}00A 00 {4}NOP\n/);
 });
 
-test("lamps have levels of brightness while running, and the state of an instant while paused", async () => {
+test("lamps have levels of brightness while time is running, and their state at an instant while it is paused", async () => {
   const board = `# lamp 0: seldom mostly always never\n[[rom]]\nchip = 0\nport = "0000"\n${
     [0, 1, 2, 3].map((line) => `[[lamp]]\nline = "rom0.${line}"\n`).join("")}`;
   const program = "FIM P0, 0\nSRC P0\nloop: LDM 5\nWRR\nNOP\nLDM 6\nWRR\nFIM P1, 0\nwait: ISZ R2, wait\nJUN loop\n";

@@ -49,7 +49,7 @@ test("a project's files must be in its folder", () => {
   }
 });
 
-test("a project on the disk", (context) => {
+test("a project on the disk is read; missing files, folders and links out of the project are rejected", (context) => {
   const folder = mkdtempSync(join(tmpdir(), "project_folder."));
   context.after(() => rmSync(folder, { recursive: true }));
   assert.throws(() => readProjectFolder(folder), /mcs4\.toml: there is no such file/);

@@ -73,10 +73,14 @@ class RecordingEngine extends Engine {
   }
 }
 
-async function runProofs(answer, { most: maximum = 50000, answerMistakes, answerSets, answerTimes, ...others } = {}) {
+/**
+ * Proves the properties of `texts` with a stand-in for the prover. `changedTexts` replace those of `texts`. Resolves to the verdicts, the
+ * errors in the texts, and the numbers of states that were reported.
+ */
+async function runProofs(answer, { maxStates = 50000, answerMistakes, answerSets, answerTimes, ...changedTexts } = {}) {
   const engine = new RecordingEngine(answer, answerMistakes, answerSets, answerTimes);
   const stateCounts = [];
-  const { judge, errors } = beginProving(engine, { ...texts, ...others }, maximum, {
+  const { judge, errors } = beginProving(engine, { ...texts, ...changedTexts }, maxStates, {
     reportStates: async (states) => {
       stateCounts.push(states);
     },
@@ -156,7 +160,7 @@ test("sets of states prove the absence of mistakes, and properties that the sear
 
 test("each property with a stopwatch is proved separately, and never with sets of states", async () => {
   const propertiesText = "test\nnever lamp 1 on\nnever lamp lit on for 9\nevery 1 ms @look\n@look to @put within 5\n";
-  const { propertyVerdicts, engine } = await runProofs(() => "holds 3\n", { propertiesText, most: 20000, answerSets: () => "holds 5\n",
+  const { propertyVerdicts, engine } = await runProofs(() => "holds 3\n", { propertiesText, maxStates: 20000, answerSets: () => "holds 5\n",
     answerTimes: (within) => ({ 9: "may fail 0 0 0\n", 93: "holds 7\n", 5: "too many\n" })[within] });
   assert.deepEqual(engine.timeLimits, [9, 93, 5, 5]);
   assert.deepEqual(engine.propertyQuestions, [[10000, 1]]);
@@ -166,16 +170,16 @@ test("each property with a stopwatch is proved separately, and never with sets o
   assert.match(text, /^test never lamp lit on for 9\n {2}press WALK\n {2}run \d+\n {2}until not lamp lit on within 9\n$/);
 });
 
-test("a counterexample contains the lines after which one step breaks the property", async () => {
+test("a counterexample contains the lines after which one step violates the property", async () => {
   const { propertyVerdicts: [{ verdict }], engine } =
     await runProofs(() => LAMP_ON_ANSWER, { propertiesText: "test\nnever lamp lit on\n" });
-  const { counterexample: found } = verdict;
-  assert.ok(found.isTest && found.isAllowed);
+  const { counterexample } = verdict;
+  assert.ok(counterexample.isTest && counterexample.isAllowed);
   const file = engine.begin();
   const lampsAfter = (lines) => engine.ask(file, `${lines}lamps\n`).answers.slice(-1)[0];
   engine.serve(file, `wire\n${texts.boardText}.\nasm\n${texts.programText}.\n`, file);
-  assert.match(lampsAfter(found.linesBefore), /^lamps \.\.$/);
-  assert.match(lampsAfter(`${found.linesBefore}step\n`), /^lamps \*\.$/);
+  assert.match(lampsAfter(counterexample.linesBefore), /^lamps \.\.$/);
+  assert.match(lampsAfter(`${counterexample.linesBefore}step\n`), /^lamps \*\.$/);
 });
 
 test("an unconfirmed counterexample leaves a property undecided, and an unexpected answer is an error", async () => {
@@ -274,9 +278,9 @@ test("cancelling ends the worker at once; a silent worker is not ended", async (
 });
 
 test("verdicts are described", () => {
-  const found = { steps: 2, cycles: 1204, isAllowed: true, isTest: true, text: "", linesBefore: "" };
+  const counterexample = { steps: 2, cycles: 1204, isAllowed: true, isTest: true, text: "", linesBefore: "" };
   const proved = { kind: "proved", states: 96937, bySets: false, limits: [], leftOut: '"once"' };
-  const verdicts = [{ ...proved, states: 1, bySets: true, limits: [], leftOut: "" }, proved, { kind: "found", counterexample: found },
+  const verdicts = [{ ...proved, states: 1, bySets: true, limits: [], leftOut: "" }, proved, { kind: "found", counterexample },
     { kind: "open", reason: "why" }];
   const propertyVerdicts = verdicts.map((verdict, index) => ({ text: `p${index}`, line: index + 1, isGoal: false, verdict }));
   const goals = propertyVerdicts.map((propertyVerdict) => ({ ...propertyVerdict, isGoal: true }));

@@ -24,7 +24,7 @@ test("a byte that looks like a JMS does not count if the program has none there"
   assert.deepEqual(findLiveReturns([0x102, 0, 0], ["5F", "00", "00"], MAP), [true, false, false]);
 });
 
-test("the address of the call before a return address, also across the end of ROM", () => {
+test("the address of the call is two bytes before the return address, also across the end of ROM", () => {
   assert.deepEqual([2, 1, 0].map(callAddress), [0, 0xFFF, 0xFFE]);
 });
 

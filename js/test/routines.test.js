@@ -39,7 +39,7 @@ test("the called routines and the callers of a routine are found", () => {
   assert.deepEqual(describeCalls(routines.findCallers(routines.getByName("unused"))), []);
 });
 
-test("the routine at a line, and the number of references to labels", () => {
+test("the routine at a line is found, and references to labels are counted", () => {
   assert.equal(routines.routineAt(13).name, "read");
   assert.equal(routines.routineAt(4).name, "");
   assert.equal(routines.routineAt(10), null);
@@ -50,7 +50,7 @@ test("the routine at a line, and the number of references to labels", () => {
     [{ calls: 2, otherUses: 0 }, { calls: 0, otherUses: 1 }, { calls: 0, otherUses: 0 }, false]);
 });
 
-test("texts without statements or with one instruction", () => {
+test("a text without statements has no routine, and a single instruction is a routine", () => {
   assert.deepEqual(new Routines([""]).routines, []);
   assert.deepEqual(new Routines(["a: JMS a"]).routines.map(({ name }) => name), ["a"]);
   assert.deepEqual(describeCalls(new Routines(["a: JMS a"]).findCallers(new Routines(["a: JMS a"]).routines[0])), ["a 0"]);

@@ -69,7 +69,7 @@ test("messages in one chunk with `initialize`, or with `shutdown`, are served in
   assert.equal(getExitStatus(), 0);
 });
 
-test("a text is edited, also with ranges outside of it", () => {
+test("a text is edited, also with ranges outside it", () => {
   const openText = new OpenText("file:///a.asm", "asm", "one\r\ntwo\rthree", 1);
   assert.deepEqual(openText.lines, ["one", "two", "three"]);
   const range = (...numbers) => ({ start: { line: numbers[0], character: numbers[1] }, end: { line: numbers[2], character: numbers[3] } });
@@ -83,7 +83,7 @@ test("a text is edited, also with ranges outside of it", () => {
   assert.deepEqual(openText.lines, [""]);
 });
 
-test("boards and programs are recognized", () => {
+test("boards and programs are recognised", () => {
   const createText = (uri, text, language = "toml") => new OpenText(uri, language, text, 1);
   assert.equal(isBoard(createText("file:///a/board.toml", "")), true);
   assert.equal(isBoard(createText("file:///a/x.toml", "lamp = [{ line = \"ram0.0.0\" }]")), true);

@@ -33,7 +33,7 @@ function applyEdits(text, edits) {
   return lines.join("\n");
 }
 
-test("a text or a range is formatted, and a second time without change", async () => {
+test("a text or a range is formatted, and a second formatting changes nothing", async () => {
   const text = "start:JMP start\nLDM 5;five\n\nloop: JUN loop\n";
   const { request, getResponse, openText } = await startServerWithText(text);
   const options = { tabSize: 4, insertSpaces: true };
@@ -79,7 +79,7 @@ test("workspace symbols include texts that are not open", async () => {
   assert.ok((await serverWithFolder.request("workspace/symbol", { query: "enter" })).length > 0, "a folder that is open");
 });
 
-test("a call hierarchy", async () => {
+test("a call hierarchy has the callers of a routine and the routines that it calls", async () => {
   const { request, positionIn } = await startServerWithText("begin: JMS show\n JMS show\n JUN begin\nshow: JMS key\n BBL 0\nkey: BBL 1\n");
   const [item] = await request("textDocument/prepareCallHierarchy", positionIn(uri, 0, 13));
   assert.deepEqual([item.name, item.detail, item.range.end.line], ["show", "show: address 0x006, line 4", 4]);

@@ -11,7 +11,7 @@ const EMPTY = "state seq 0 acc 0 cy 0 pc 000 owed 0 dcl 0 test 1 r 0000000000000
   + "keys - lamps - breaks - watches -";
 const RAM = ["ram 0 chips 1", "0.0.0 2000000000000000 0000", "0.0 out 1"];
 
-test("the queries for a board, and the changes in each snapshot", () => {
+test("a board has a query for each bank of RAM, and a snapshot has only the changed values", () => {
   const queries = snapshotQueries({ banks: [{ bank: 0, chips: 1 }] });
   assert.deepEqual(queries, ["state", "ram 0"]);
   const inputs = readInputs(joinLines(queries));

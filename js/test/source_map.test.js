@@ -36,7 +36,7 @@ test("an address is named by its label, or by the nearest one below it", () => {
   assert.deepEqual([0, 2].map((address) => map.labelsAt(address)), [["go"], []]);
 });
 
-test("bytes without a label do not get a name from an earlier block of bytes", () => {
+test("bytes without a label have no name from an earlier block of bytes", () => {
   const text = "one: NOP\ntwo:\nmore: NOP\n ORG 0x10\n NOP\n ORG 0xFFF\n NOP\nend:\n";
   const map = new SourceMap(["map lines 8 names 4", "line 1 000 1", "line 2 001 0", "line 3 001 1", "line 4 002 0", "line 5 010 1",
     "line 6 011 0", "line 7 FFF 1", "line 8 1000 0", "name one 000", "name two 001", "name more 001", "name far 010"], text);

@@ -28,7 +28,7 @@ function createSync(text, checkResult) {
   return { sync, log, current };
 }
 
-test("if ROM matches the source, the next line is shown while paused", async () => {
+test("if ROM matches the source, the next line is shown while time is paused", async () => {
   const { sync, log } = createSync(TEXT, MATCHING_CHECK);
   await sync.check();
   assert.deepEqual(log.changes, [[true, ""]]);
@@ -47,7 +47,7 @@ test("the line of an address is scrolled into view", async () => {
   assert.deepEqual(log.revealedLines, [4, 2]);
 });
 
-test("after the editor gets another text, the marks are shown again, even for the same text", async () => {
+test("after a text was put into the editor, the marks are shown again, even if it is the same text", async () => {
   const { sync, log } = createSync(TEXT, MATCHING_CHECK);
   await sync.check();
   sync.showNext(0, false);

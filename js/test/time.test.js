@@ -7,7 +7,7 @@ import { formatDuration } from "../core/bench/error_messages.js";
 import { PLACES_HINT } from "../words/conditions.js";
 import { cannotSearchForMessage } from "../words/time.js";
 
-test("cycles of the 4004: eight periods of a clock of 740,740.7 Hz", () => {
+test("a cycle of the 4004 takes eight periods of a clock of 740,740.7 Hz", () => {
   const countCycles = (seconds) => (seconds * (5185185.185 / 7)) / 8;
   assert.ok(Math.abs(CYCLE_US * countCycles(1) - 1e6) < 0.001);
   const roundedCycles = [1, 0.03, 0.001, 0.02].map((time) => Math.round(countCycles(time)));
@@ -15,7 +15,7 @@ test("cycles of the 4004: eight periods of a clock of 740,740.7 Hz", () => {
   assert.equal(FRAME_CYCLES, Math.floor(countCycles(FRAME_MS / 1000)));
 });
 
-test("a second of frames is 92,593 cycles, whatever their length", () => {
+test("the frames of a second have 92,593 cycles, whatever the length of a frame", () => {
   for (const frameMs of [1000 / 60, 1000 / 144, 7, 100]) {
     const realTime = new RealTime(0, 0);
     let totalCycles = 0;
@@ -25,7 +25,7 @@ test("a second of frames is 92,593 cycles, whatever their length", () => {
   }
 });
 
-test("the cycles of a slow frame are limited, and a clock that goes back gives no cycles", () => {
+test("the cycles of a slow frame are limited, and no cycles are due if the clock goes back", () => {
   const realTime = new RealTime(0, 0);
   assert.equal(realTime.takeDueCycles(900), MAX_CYCLES_PER_FRAME);
   assert.equal(realTime.takeDueCycles(900), 0);

@@ -8,7 +8,7 @@ const beginStep = (stepIndex) => {
   return progress;
 };
 
-test("the lamp step is done when the first lamp is lit", () => {
+test("the lamp step is done when the first lamp is on", () => {
   const progress = beginStep(0);
   progress.recordLamps("....");
   progress.recordLamps(".*..");
@@ -27,7 +27,7 @@ test("the count step is done after four different numbers", () => {
   assert.equal(progress.isDone, true);
 });
 
-test("the key step is done when a lamp is lit while a key is down", () => {
+test("the key step is done when a lamp is on while a key is down", () => {
   const progress = beginStep(2);
   progress.recordLamps("..*.");
   assert.equal(progress.isDone, false);

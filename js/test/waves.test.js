@@ -276,7 +276,7 @@ test("the first sample can be the second cycle of an instruction", () => {
   assert.deepEqual([wavesOf(builder).instructionAt(0).isSecond, wavesOf(builder).instructionAt(1).isSecond], [true, false]);
 });
 
-test("a VCD file: a cycle is 108 units of 100 ns, lines in the order of the choice", () => {
+test("a VCD file has 108 units of 100 ns for each cycle, and the lines in the chosen order", () => {
   const waves = wavesOf(recordProgram(100));
   const text = textOf(waves, ["lamp2", "rom0.1", "pc"].map((name) => lineIndexOf(waves.lines, name)));
   const port = textOf(waves, [lineIndexOf(waves.lines, "rom0[3:0]")]);
@@ -316,7 +316,7 @@ test("a VCD file ends with the end of the recording", () => {
   assert.match(text, /#0\n\$dumpvars\n1A\n\$end\n#324\n$/);
 });
 
-test("the short names of lines in the file differ", () => {
+test("each line has its own short name in a VCD file", () => {
   const waves = wavesOf(recordProgram(3));
   const allLines = waves.lines.map((_, line) => line);
   const codes = textOf(waves, allLines).split("\n").filter((line) => line.startsWith("$var")).map((line) => line.split(" ")[3]);
@@ -324,6 +324,6 @@ test("the short names of lines in the file differ", () => {
   assert.deepEqual([codes[0], codes[21], codes[22], codes[43], codes[44]], ["A", "Y", "AA", "AY", "CA"]);
 });
 
-test("counts how many sorted numbers are at most a limit", () => {
+test("sorted numbers up to a limit are counted", () => {
   assert.deepEqual([0, 1, 2, 5, 9].map((limit) => countUpTo([1, 2, 5], limit)), [0, 1, 2, 3, 3]);
 });

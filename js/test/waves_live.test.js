@@ -57,7 +57,7 @@ test("the session is the same with and without a recording", async () => {
   assert.deepEqual(plainSession.calls.bench.session.file, recordingSession.calls.bench.session.file);
 });
 
-test("only the last cycles are kept, without changes", async () => {
+test("only the last cycles are kept, and they equal a recording of the past", async () => {
   const { calls, texts } = await openSession("stopwatch", "test 0\n");
   const { liveWaves, addPart } = startRecording(calls, texts, { maxCycles: 5000 });
   liveWaves.waves.changesOf(lineIndexOf(liveWaves.waves, "rom0[3:0]"));

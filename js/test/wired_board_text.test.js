@@ -22,17 +22,17 @@ test("a text with other comments still describes the wired board", () => {
   assert.deepEqual(currentWiredText(BOARD_LINES, renamedText, [WIRED]), { ...WIRED, text: renamedText });
 });
 
-test("a text that the page reads differently is recognized as the wired text", () => {
+test("a text that the page reads differently is recognised as the wired text", () => {
   const dottedWiredText = { text: "# title: Dotted\nx.y = 1\n", board: BOARD_LINES.join("\n") };
   assert.deepEqual(currentWiredText(BOARD_LINES, "", [dottedWiredText]), dottedWiredText);
   assert.equal(describesBoard("# title: Again\nx.y = 1\n", dottedWiredText), true);
   assert.equal(describesBoard("x.y = 2\n", dottedWiredText), false);
 });
 
-test("a board that was wired before gets its text again, and an unknown board has no text", () => {
-  const other = { text: "# title: Other\n", board: OTHER_BOARD_LINES.join("\n") };
-  const storedTexts = textsToStore(other, textsToStore(WIRED));
-  assert.deepEqual(storedTexts, [other, WIRED]);
+test("the text of a board that was wired before is found again, and an unknown board has no text", () => {
+  const otherWiredText = { text: "# title: Other\n", board: OTHER_BOARD_LINES.join("\n") };
+  const storedTexts = textsToStore(otherWiredText, textsToStore(WIRED));
+  assert.deepEqual(storedTexts, [otherWiredText, WIRED]);
   assert.deepEqual(currentWiredText(BOARD_LINES, "", storedTexts), WIRED);
   assert.deepEqual(currentWiredText(["board"], ROM, storedTexts), { text: "", board: "board" });
   assert.deepEqual(textsToStore({ ...WIRED, text: ROM }, storedTexts).map(({ text }) => text), [ROM, "# title: Other\n"]);

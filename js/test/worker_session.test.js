@@ -101,7 +101,7 @@ test("at full speed, batches are reported together once the page has accepted th
   assert.match(fullSpeed.takeReport().end, /break$/);
 });
 
-test("a hidden page gets a report once a second, and after key presses at once", () => {
+test("a hidden page receives a report once a second, and after key presses at once", () => {
   const { session } = startWorkerSession();
   const machine = new Debugger(session);
   const fullSpeed = new FullSpeed();

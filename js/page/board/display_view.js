@@ -167,10 +167,10 @@ export class DisplayView {
    * @param {import("../../core/board/brightness.js").Brightness} brightness
    * @param {number} lamp
    */
-  showSignBrightness({ lampDuties: lamps, isOn, lampSteadiness }, lamp) {
+  showSignBrightness({ lampDuties, isOn, lampSteadiness }, lamp) {
     const litPattern = isOn[lamp] ? MINUS_PATTERN : 0;
     if (lampSteadiness[lamp].isSteady) this.signDigit.set(litPattern);
-    else this.signDigit.showDutyCycles(litPattern, SEGMENT_PATHS.map((_, index) => (1 << index === MINUS_PATTERN ? lamps[lamp] : 0)));
+    else this.signDigit.showDutyCycles(litPattern, SEGMENT_PATHS.map((_, index) => (1 << index === MINUS_PATTERN ? lampDuties[lamp] : 0)));
   }
 
   /** @param {{ number: string, names: string }} content the displayed number, and the names of the lamps that are on */

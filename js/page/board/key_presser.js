@@ -10,7 +10,7 @@ import { formatKey } from "../../core/board/key_place.js";
 /**
  * The callbacks of KeyPresser.
  * @typedef {object} KeyPresserCalls
- * @property {() => boolean} isRunning Returns true if time is running, unless it is so slow that each press toggles the key.
+ * @property {() => boolean} isRunning Returns true if time is running and is not very slow. Otherwise, each press toggles the key.
  * @property {(key: Key) => boolean} isDown Returns true if a key will be down after all queued presses and releases.
  * @property {(key: Key) => void} press Queues a press of a key.
  * @property {(key: Key) => void} release Queues a release of a key.
@@ -169,7 +169,7 @@ export class KeyPresser {
     for (const { key } of [...this.heldKeys.values()]) this.endPress(key);
   }
 
-  /** Lets the computer's keyboard press the board's keys, unless another element handles the key. */
+  /** Lets the computer's keyboard press the board's keys. `keyForEvent` excludes the keys that another element handles. */
   listenToKeyboard() {
     /** @type {Map<string, Key>} */
     const keysByCode = new Map();

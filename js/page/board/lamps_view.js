@@ -121,7 +121,7 @@ export class LampsView {
   }
 
   /**
-   * @param {number} index the index of the board's lamp whose colour the new element gets
+   * @param {number} index the index of the board's lamp that determines the colour of the new element
    * @param {LampReader} reader
    * @param {string} name
    * @param {string} lineNames

@@ -53,7 +53,7 @@ export class PrinterView {
     const { printer: oldPrinter } = this;
     this.printer = findPrinter(board, face);
     this.root.hidden = this.printer === null;
-    if (!oldPrinter || !this.isPrinter(oldPrinter)) this.codes = [];
+    if (!oldPrinter || !this.isCurrentPrinter(oldPrinter)) this.codes = [];
     this.calls.setPrinter(this.printer && { strobe: this.printer.strobe, port: this.printer.port });
     this.show();
   }
@@ -72,14 +72,17 @@ export class PrinterView {
    * Returns true if the current printer has this strobe line and port.
    * @param {{ strobe: string, port: string }} lines
    */
-  isPrinter({ strobe, port }) {
+  isCurrentPrinter({ strobe, port }) {
     return this.printer !== null && this.printer.strobe === strobe && this.printer.port === port;
   }
 
-  /** @param {PrintoutData} printed */
-  showPrinted(printed) {
-    if (!this.isPrinter(printed)) return;
-    this.codes = printed.codes.map(([, code]) => code);
+  /**
+   * Shows a printout, unless it belongs to another printer than the current one.
+   * @param {PrintoutData} printout
+   */
+  showPrintout(printout) {
+    if (!this.isCurrentPrinter(printout)) return;
+    this.codes = printout.codes.map(([, code]) => code);
     this.show();
   }
 

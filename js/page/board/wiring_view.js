@@ -25,7 +25,7 @@ const PIN_CLICK_RADIUS = 9;
 const LEG_LENGTH = 7;
 /** Half the width of the notch in a chip's outline, in SVG units. */
 const NOTCH_RADIUS = 6;
-/** The minimum size of the picture in SVG units. A small board leaves empty space, onto which the user can drop parts. */
+/** The minimum size of the picture in SVG units. A small board leaves empty space where the user can drop parts. */
 const MIN_WIDTH = 560;
 const MIN_HEIGHT = 240;
 

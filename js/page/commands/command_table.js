@@ -64,7 +64,7 @@ import * as say from "../../words/page_commands.js";
  * @property {() => void} insertKeyScan Inserts a key scan routine into the source.
  * @property {() => boolean} hasKeys Returns true if the board has a key matrix.
  * @property {(id: string) => void} togglePanel Shows or hides a panel by its id.
- * @property {(id: string) => void} toggleMaximizedPanel Maximises a panel, or restores its size.
+ * @property {(id: string) => void} toggleMaximisedPanel Maximises a panel, or restores its size.
  * @property {() => void} resetLayout Restores the initial layout of the page.
  * @property {() => void} toggleHelp Closes the help, or opens it at the word at the caret.
  * @property {() => void} openExamples Opens the list of examples.
@@ -298,7 +298,7 @@ const PANEL_COMMANDS = [...Object.entries(say.TEXTS), ...Object.entries(say.PANE
 const LAYOUT_COMMANDS = [
   ...Object.entries(PANELS).flatMap(([id, name]) => [
     labelledCommand(`panel.${id}`, say.togglePanel(name), "show", (calls) => calls.togglePanel(id)),
-    labelledCommand(`full.${id}`, say.fullPanel(name), "show", (calls) => calls.toggleMaximizedPanel(id)),
+    labelledCommand(`full.${id}`, say.fullPanel(name), "show", (calls) => calls.toggleMaximisedPanel(id)),
   ]),
   labelledCommand("layout.reset", RESET_LAYOUT, "show", (calls) => calls.resetLayout()),
 ];

@@ -18,10 +18,10 @@ import { PictureZoom } from "./picture_zoom.js";
 
 /**
  * The callbacks through which the controller acts on the page.
- * @typedef {object} PageCalls
+ * @typedef {object} DrawingPageCalls
  * @property {() => boolean} isInFront Returns true if the Wiring tab is in front. Otherwise the picture is drawn when the user brings the
  *   tab to the front.
- * @property {() => void} putInFront Brings the Wiring tab to the front.
+ * @property {() => void} bringToFront Brings the Wiring tab to the front.
  * @property {() => Promise<string>} applyBoard Applies the board's text. Resolves to the message about the result.
  * @property {(board: Board) => void} insertKeyScan Inserts a key scan routine for a board into the source.
  * @property {(part: string) => void} showPartLines Shows the lines of a part in the board's text. The part is named as in the picture, for
@@ -32,7 +32,7 @@ import { PictureZoom } from "./picture_zoom.js";
  * @property {(error: unknown) => void} reportFailure Reports an error that a call threw.
  */
 
-/** @typedef {DrawingCallbacks & PageCalls} PictureCalls */
+/** @typedef {DrawingCallbacks & DrawingPageCalls} PictureCalls */
 
 /** The delay in milliseconds between the last edit and the update of the picture. */
 const DRAW_DELAY = 300;
@@ -51,7 +51,7 @@ export class DrawingController {
     this.view.movedParts = this.drawing.movedParts.positions;
     this.input = this.makeInput();
     this.zoom = new PictureZoom(picture.root);
-    onClick(button("first-drawing"), calls.putInFront);
+    onClick(button("first-drawing"), calls.bringToFront);
     addEventListener("keydown", (event) => this.handleKey(event));
   }
 
@@ -79,7 +79,7 @@ export class DrawingController {
       },
       movePart: (part, point) => this.movePart(part, point),
       handleDrop: () => {
-        this.view.lastDrawn = "";
+        this.view.lastDrawnInput = "";
         this.view.showPicture();
         this.storePositions();
       },
@@ -99,7 +99,10 @@ export class DrawingController {
     if (this.input.handleControlKey(event)) event.preventDefault();
   }
 
-  /** @param {Promise<void>} work */
+  /**
+   * Reports the error if some work fails.
+   * @param {Promise<void>} work
+   */
   reportFailure(work) {
     work.catch(this.calls.reportFailure);
   }

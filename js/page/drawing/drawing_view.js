@@ -18,7 +18,7 @@ import * as say from "../../words/drawing.js";
 
 /**
  * The callbacks of the shelf, the buttons and the fields.
- * @typedef {object} ViewCalls
+ * @typedef {object} DrawingViewCalls
  * @property {(action: DrawingAction) => void} performAction Applies an action to the board's text. If the bench rejects the new text, the
  *   old text stays.
  * @property {(direction: "undo" | "redo") => void} undoOrRedo Undoes or redoes the last edit.
@@ -39,7 +39,7 @@ const LINE_PARTS = new Set(["lamp", "buzzer"]);
 export class DrawingView {
   /**
    * @param {WiringView} picture
-   * @param {ViewCalls} calls
+   * @param {DrawingViewCalls} calls
    */
   constructor(picture, calls) {
     this.picture = picture;
@@ -49,7 +49,7 @@ export class DrawingView {
     /** @type {Map<ShelfPart, HTMLButtonElement>} */
     this.shelf = new Map();
     /** The data from which the picture was last drawn, as JSON, to detect changes. */
-    this.lastDrawn = "";
+    this.lastDrawnInput = "";
     /** @type {import("../../core/board/wiring.js").Positions} the positions of the parts that the user has moved */
     this.movedParts = new Map();
     /** @type {DrawingState | null} */
@@ -59,7 +59,7 @@ export class DrawingView {
     /** @type {(HTMLInputElement | HTMLSelectElement)[]} */
     this.fields = [];
     /** @type {WeakMap<HTMLElement, string>} the value that each field last showed */
-    this.values = new WeakMap();
+    this.shownValues = new WeakMap();
     this.makeShelf();
     onClick(button("drawing-undo"), () => calls.undoOrRedo("undo"));
     onClick(button("drawing-redo"), () => calls.undoOrRedo("redo"));
@@ -135,8 +135,8 @@ export class DrawingView {
     const names = lampLabels(face, count);
     const appearance = { names, colours: lampColours(face, count), test: face.test, buzzer: findBuzzer(board, face) };
     const drawnInput = JSON.stringify([board, appearance, isWired, [...movedParts]]);
-    if (drawnInput !== this.lastDrawn) this.picture.draw(board, appearance, { moved: movedParts, isWired });
-    this.lastDrawn = drawnInput;
+    if (drawnInput !== this.lastDrawnInput) this.picture.draw(board, appearance, { moved: movedParts, isWired });
+    this.lastDrawnInput = drawnInput;
     this.picture.showSelection(selected, wireStart, ends);
   }
 
@@ -166,9 +166,9 @@ export class DrawingView {
    * @param {string} value
    */
   setValue(node, value) {
-    const isTyped = node instanceof HTMLInputElement && node === document.activeElement && this.values.get(node) === value;
+    const isTyped = node instanceof HTMLInputElement && node === document.activeElement && this.shownValues.get(node) === value;
     if (!isTyped && node.value !== value) node.value = value;
-    this.values.set(node, value);
+    this.shownValues.set(node, value);
   }
 
   /**

@@ -12,7 +12,7 @@
 
 /**
  * The callbacks of the picture's input. Parts and pins are identified by their names in the picture.
- * @typedef {object} InputCalls
+ * @typedef {object} PictureInputCalls
  * @property {(name: string) => void} pressItem Handles a click on a part or a pin.
  * @property {(from: string, to: string) => void} drawWire Draws a wire that was dragged from one pin to another.
  * @property {(part: string, point: Point) => void} movePart Moves a part to a point in the picture's units.
@@ -32,7 +32,7 @@ const ARROW_DIRECTIONS = { ArrowLeft: { x: -1, y: 0 }, ArrowRight: { x: 1, y: 0 
 export class PictureInput {
   /**
    * @param {WiringView} view
-   * @param {InputCalls} calls
+   * @param {PictureInputCalls} calls
    */
   constructor(view, calls) {
     this.view = view;

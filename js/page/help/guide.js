@@ -19,7 +19,7 @@ import * as say from "../../words/help.js";
 
 /**
  * The callbacks through which the guide acts on the page.
- * @typedef {object} PageCalls
+ * @typedef {object} GuidePageCalls
  * @property {(example: Example) => Promise<boolean>} openExample Opens a new session from an example. Resolves to true if the session was
  *   created.
  * @property {() => void} showSource Brings the source to the front.
@@ -27,13 +27,14 @@ import * as say from "../../words/help.js";
  * @property {(program: string) => void} replaceSource Replaces the source with a program, as one edit.
  * @property {(target: import("../../core/help/tour.js").Target) => void} reveal Brings the text or panel that contains the target of a tour
  *   step to the front.
- * @property {(program: string, message: string) => void} replace Replaces the source with a program, and shows a message that offers undo.
+ * @property {(program: string, message: string) => void} replaceWithUndo Replaces the source with a program, and shows a message that
+ *   offers undo.
  * @property {import("../../core/help/story_actions.js").ActionCallbacks} storyCalls The callbacks for links in stories.
  * @property {() => void} handleTourEnd Handles the end of the tour or of a story.
  * @property {(reason: string) => void} showRefusal Shows the reason why a story cannot be opened.
  */
 
-/** @typedef {Omit<LinesCalls, "openHelp"> & PageCalls} GuideCalls */
+/** @typedef {Omit<LinesCalls, "openHelp"> & GuidePageCalls} GuideCalls */
 
 export class Guide {
   /**
@@ -88,11 +89,14 @@ export class Guide {
     if (this.tour.isOn && this.tour.isStory) this.tour.close();
   }
 
-  /** @param {string} program */
+  /**
+   * Shows the source and replaces it with a program. If the old source is not a text of the tour, a message offers undo.
+   * @param {string} program
+   */
   putProgram(program) {
     const { calls } = this;
     calls.showSource();
     if (isTourText(calls.program())) calls.replaceSource(program);
-    else calls.replace(program, say.PROGRAM_IN_SOURCE);
+    else calls.replaceWithUndo(program, say.PROGRAM_IN_SOURCE);
   }
 }

@@ -83,8 +83,7 @@ export class BreakpointForm {
   }
 
   /**
-   * Opens the form for a breakpoint, with the caret in one of its fields. If the form is open for another breakpoint, first applies its
-   * fields.
+   * Opens the form for a breakpoint, with the caret in one of its fields. If the form is already open, first applies its fields.
    * @param {Breakpoint} breakpoint
    * @param {string} error the error in the breakpoint's condition or log message; "" if there is none
    * @param {BreakpointField} fieldName the field that receives the caret

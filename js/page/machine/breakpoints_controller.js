@@ -216,8 +216,11 @@ export class BreakpointsController {
     await this.manager.sendingEnd;
   }
 
-  /** @param {Tally} tally the new hit counts and log messages */
-  count(tally) {
+  /**
+   * Updates the hit counts, and appends log messages to the log below the breakpoints.
+   * @param {Tally} tally the new hit counts and log messages
+   */
+  countHits(tally) {
     this.manager.count(tally);
     this.view.log(tally, this.manager);
   }

@@ -34,8 +34,8 @@ import * as say from "../../words/machine.js";
  */
 
 /**
- * Returns a breakpoint's location as text: its address and name if there is a source map, otherwise its source line. If there is neither a
- * source map nor a line, returns only the address.
+ * Returns a breakpoint's location as text: its address and name if it has an address and there is a source map, otherwise its source line.
+ * If it has no line, returns only the address.
  * @param {Breakpoint} breakpoint
  * @param {SourceMap | null} map
  */

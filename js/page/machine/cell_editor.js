@@ -12,7 +12,7 @@ import * as say from "../../words/machine.js";
 
 /**
  * The callbacks of the cell editor.
- * @typedef {object} EditorCalls
+ * @typedef {object} CellEditorCalls
  * @property {(place: string, value: string) => Promise<string>} poke Sets a register or memory cell to a value. `place` and `value` have
  *   the syntax of the `poke` command. Resolves to "", or to the reason why the bench rejects the value.
  * @property {(message: string, cell: HTMLElement) => void} showMessage Shows a message at a cell that cannot be edited now.
@@ -29,7 +29,7 @@ export function parseHexValue(text) {
 }
 
 export class CellEditor {
-  /** @param {EditorCalls} calls */
+  /** @param {CellEditorCalls} calls */
   constructor(calls) {
     this.calls = calls;
     /** @type {WeakMap<HTMLElement, EditableCell>} */

@@ -108,7 +108,7 @@ export class HeatView {
    */
   handleFrame({ chipHeat, cycles }) {
     if (this.kindSelect.value === "") return;
-    // The message about the recorded past does not apply while time is running. A board without RAM has no other message.
+    // On a board without RAM, no new message replaces the message about the recorded past, which does not apply while time is running.
     if (!chipHeat) this.showStatus("");
     const maxCycles = parseCount(this.cyclesField.value, MAX_CYCLES);
     if (!chipHeat || maxCycles === 0) return;

@@ -205,7 +205,7 @@ export class ListingView {
   /** @param {number} address */
   handleScroll(address) {
     this.fixFirstAddress(Math.max(0, Math.min(address, LAST_ADDRESS)));
-    // If the address is near the visible lines, continue from the start of one of their instructions.
+    // Near the visible lines, use the start of one of their instructions as the anchor, so that the lines stay aligned.
     const nearLine = this.lines.find((line) => line.address >= this.firstAddress);
     const isNear = nearLine && Math.abs(this.lines[0].address - this.firstAddress) <= this.rows.count;
     this.read({ from: this.firstAddress, anchor: nearLine && isNear ? nearLine.address : null }, true);

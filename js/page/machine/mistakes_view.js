@@ -1,5 +1,5 @@
-// The list of common mistakes that the bench has reported since time last started. Each row has the line of the mistake, and a check box
-// that makes time stop at the next mistake of this kind.
+// The list of common mistakes that the bench has reported since time last resumed. Each row has the line of the mistake, and a check box
+// that makes the bench pause time at the next mistake of this kind.
 
 import { block, element, onClick } from "../ui/dom.js";
 import { KINDS } from "../../words/debug.js";
@@ -33,7 +33,7 @@ export class MistakesView {
   }
 
   /**
-   * Clears the list when time starts or another session is opened. Sends the chosen kinds to the bench again, because its worker may have
+   * Clears the list when time resumes or another session is opened. Sends the chosen kinds to the bench again, because its worker may have
    * been replaced.
    */
   clear() {

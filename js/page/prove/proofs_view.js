@@ -11,7 +11,7 @@ import { lineReference } from "../../words/stops.js";
  * @typedef {import("../../core/prove/bounded_proof.js").PropertyVerdict} PropertyVerdict
  *
  * The callbacks of the proof results.
- * @typedef {object} ProofCalls
+ * @typedef {object} VerdictCalls
  * @property {(propertyVerdict: PropertyVerdict) => void} goTo Shows the line of a property in the properties text.
  * @property {(verdict: PropertyVerdict, counterexample: Counterexample) => void} openCounterexample Opens a new session
  *   in the state before the counterexample's last step.
@@ -22,7 +22,7 @@ import { lineReference } from "../../words/stops.js";
 class VerdictRow {
   /**
    * @param {PropertyVerdict} propertyVerdict
-   * @param {ProofCalls} calls
+   * @param {VerdictCalls} calls
    */
   constructor(propertyVerdict, calls) {
     this.propertyVerdict = propertyVerdict;
@@ -43,7 +43,7 @@ class VerdictRow {
   /**
    * @param {boolean} isGoal
    * @param {Counterexample} counterexample
-   * @param {ProofCalls} calls
+   * @param {VerdictCalls} calls
    */
   makeCounterexampleNodes(isGoal, counterexample, calls) {
     const { isTest, text } = counterexample;
@@ -68,7 +68,7 @@ class VerdictRow {
 }
 
 export class ProofsView {
-  /** @param {ProofCalls} calls */
+  /** @param {VerdictCalls} calls */
   constructor(calls) {
     this.calls = calls;
     this.block = block("proof-results");

@@ -22,14 +22,14 @@ import * as say from "../../words/session.js";
 
 /**
  * The callbacks of CurrentSession.
- * @typedef {object} CurrentCalls
+ * @typedef {object} CurrentSessionCalls
  * @property {(record: SessionRecord) => void} showSession Shows another session: the texts and the settings in its record.
  * @property {(state: PageState) => void} show Shows the current state of the session.
  * @property {() => Promise<void>} checkSource Compares the source with ROM. Resolves when the page shows the program's names.
  * @property {() => void} checkTestsAndProperties Checks the tests and the properties of the session.
  * @property {() => void} run Resumes time in a session that the user left while time was running.
  * @property {(reason: string) => void} showPaused Shows that time is paused, and the reason.
- * @property {() => Promise<void>} stopTime Pauses time. Resolves when the worker has stopped the run.
+ * @property {() => Promise<void>} pauseTime Pauses time. Resolves when the worker has stopped the run.
  * @property {() => string} describeCounter Returns the program counter with its name and its source line, as text.
  * @property {() => void} handleSessionChange Called when the user changes the session.
  * @property {() => RunEntry[]} takeRuns Removes and returns the log entries of the runs since the last call.
@@ -46,7 +46,7 @@ export class CurrentSession {
   /**
    * @param {Bench} bench
    * @param {SessionStore} store
-   * @param {CurrentCalls} calls
+   * @param {CurrentSessionCalls} calls
    * @param {StoredHistory} storedHistory
    */
   constructor(bench, store, calls, storedHistory) {
@@ -112,7 +112,7 @@ export class CurrentSession {
 
   /** Stops and saves the session that the user leaves. The record says whether time was running, so that time can resume on return. */
   async leaveSession() {
-    await this.calls.stopTime();
+    await this.calls.pauseTime();
     await this.save();
   }
 

@@ -84,13 +84,13 @@ export class LinkSharing {
 
   /** @param {string} size the length of the link, formatted for the user */
   async offerFile(size) {
-    const isSaved = await this.confirmDialog.ask({
+    const isAccepted = await this.confirmDialog.ask({
       title: say.TOO_LONG_FOR_LINK,
       paragraphs: [say.linkTooLongMessage(size, MAX_LINK_LENGTH.toLocaleString("en"))],
       acceptLabel: say.SAVE_PROJECT,
       declineLabel: say.LEAVE_IT,
     });
-    if (isSaved) this.calls.save();
+    if (isAccepted) this.calls.save();
   }
 
   /**

@@ -24,7 +24,7 @@ export class OfferedLines {
     this.setLines(lines);
     if (!hasUserText) return;
     this.notice.show(say.OTHER_LINES, "undo",
-      { word: say.UNDO, act: () => this.setLines(userText) });
+      { label: say.UNDO, act: () => this.setLines(userText) });
   }
 
   /** @param {string} lines */

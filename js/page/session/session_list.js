@@ -11,8 +11,8 @@ import * as say from "../../words/session.js";
 
 /**
  * The callbacks of the list. Sessions are identified by id.
- * @typedef {object} ListCalls
- * @property {(id: string) => boolean} isShown Returns true if a session is the current session.
+ * @typedef {object} SessionListCalls
+ * @property {(id: string) => boolean} isCurrent Returns true if a session is the current session.
  * @property {(id: string) => Promise<boolean>} open Opens a session. Resolves to false after a failure. The failure has already been
  *   reported.
  * @property {(id: string) => Promise<boolean>} copy Copies a session and opens the copy. Resolves to false after a failure.
@@ -20,12 +20,12 @@ import * as say from "../../words/session.js";
  * @property {() => SessionRecord[]} deletedSessions Returns the sessions that can be restored.
  * @property {(records: SessionRecord[]) => Promise<void>} restoreSessions Restores deleted sessions.
  * @property {(action: () => Promise<boolean>) => void} runAndClose Executes `action`. Closes the dialog unless `action` resolves to false.
- * @property {(word: string, label: string, action: () => void) => HTMLButtonElement} makeButton Returns a button with a visible word, a
+ * @property {(text: string, label: string, action: () => void) => HTMLButtonElement} makeButton Returns a button with a visible text, a
  *   label for screen readers, and an action.
  */
 
 export class SessionList {
-  /** @param {ListCalls} calls */
+  /** @param {SessionListCalls} calls */
   constructor(calls) {
     this.calls = calls;
     this.listBlock = block("kept");
@@ -40,7 +40,7 @@ export class SessionList {
 
   /** The sessions that can be deleted: all except the current session. */
   get removableSessions() {
-    return this.records.filter((record) => !this.calls.isShown(record.id));
+    return this.records.filter((record) => !this.calls.isCurrent(record.id));
   }
 
   /** @param {SessionRecord[]} records */
@@ -71,10 +71,10 @@ export class SessionList {
 
   /** @param {SessionRecord} record */
   makeEntry(record) {
-    const isCurrent = this.calls.isShown(record.id);
+    const isCurrent = this.calls.isCurrent(record.id);
     const { name, id } = record;
-    const word = isCurrent ? say.SHOWN : say.OPEN;
-    const openButton = this.calls.makeButton(word, say.openNamed(name), () => this.calls.runAndClose(() => this.calls.open(id)));
+    const openText = isCurrent ? say.SHOWN : say.OPEN;
+    const openButton = this.calls.makeButton(openText, say.openNamed(name), () => this.calls.runAndClose(() => this.calls.open(id)));
     openButton.disabled = isCurrent;
     const copyButton = this.calls.makeButton(say.COPY, say.copyNamed(name), () => this.calls.runAndClose(() => this.calls.copy(id)));
     const deleteButton = this.calls.makeButton(say.DELETE, say.deleteNamed(name), () => this.remove([record]));

@@ -25,7 +25,7 @@ import * as say from "../../words/session.js";
 
 /**
  * The callbacks of SessionManager.
- * @typedef {object} ManagerCalls
+ * @typedef {object} SessionManagerCalls
  * @property {() => OpenSession | null} session Returns the current session, or null if there is none.
  * @property {() => Promise<string>} save Saves the session. Resolves to the reason why it could not be saved, or to "".
  * @property {(message: string, ...actions: NoticeAction[]) => void} showNotice Shows a message, with buttons for actions.
@@ -46,7 +46,7 @@ export class SessionManager {
    * @param {SessionStore} store
    * @param {Locks} locks
    * @param {ErrorMessages} errorMessages
-   * @param {ManagerCalls} calls
+   * @param {SessionManagerCalls} calls
    */
   constructor(bench, store, locks, errorMessages, calls) {
     this.bench = bench;
@@ -99,7 +99,7 @@ export class SessionManager {
    */
   async open(id) {
     const release = await this.locks.acquire(id);
-    if (!release) return this.rejectAction(say.IN_ANOTHER_TAB, { word: say.OPEN_A_COPY, act: () => this.copy(id) });
+    if (!release) return this.rejectAction(say.IN_ANOTHER_TAB, { label: say.OPEN_A_COPY, act: () => this.copy(id) });
     try {
       await this.calls.useSession(await this.readRecord(id), release, "");
       return true;

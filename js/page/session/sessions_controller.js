@@ -23,7 +23,7 @@ import * as say from "../../words/session.js";
 
 /**
  * The callbacks of SessionsController.
- * @typedef {object} ControllerCalls
+ * @typedef {object} SessionsControllerCalls
  * @property {() => OpenSession | null} session Returns the current session, or null if there is none.
  * @property {() => Promise<string>} save Saves the session. Resolves to the reason why it could not be saved, or to "".
  * @property {(name: string) => void} rename Renames the current session.
@@ -41,7 +41,7 @@ import * as say from "../../words/session.js";
 export class SessionsController {
   /**
    * @param {SessionServices} services
-   * @param {ControllerCalls} calls
+   * @param {SessionsControllerCalls} calls
    */
   constructor({ bench, store, locks, errorMessages, notice, examples }, calls) {
     this.calls = calls;
@@ -78,7 +78,7 @@ export class SessionsController {
     const { manager, trash, calls } = this;
     return new SessionsView(this.examples, this.notice, {
       savedSessions: () => manager.savedSessions(),
-      isShown: (id) => this.isShown(id),
+      isCurrent: (id) => this.isCurrent(id),
       open: (id) => this.open(id),
       copy: (id) => manager.copy(id),
       remove: (records) => this.remove(records),
@@ -101,7 +101,7 @@ export class SessionsController {
   }
 
   /** @param {string} id */
-  isShown(id) {
+  isCurrent(id) {
     const session = this.calls.session();
     return session !== null && session.record.id === id;
   }
@@ -112,7 +112,7 @@ export class SessionsController {
    * @param {SessionRecord} record
    */
   offerReturn({ id, name }) {
-    this.notice.show(say.sessionLeft(name, this.store.isPersistent), "left", { word: say.REOPEN, act: () => this.open(id) });
+    this.notice.show(say.sessionLeft(name, this.store.isPersistent), "left", { label: say.REOPEN, act: () => this.open(id) });
   }
 
   /**
@@ -161,7 +161,7 @@ export class SessionsController {
     if (deletedRecords.length === 0) return;
     for (const { id } of deletedRecords) this.openingGuard.clearFlag(id);
     this.notice.show(say.sessionsDeleted(formatNames(deletedRecords)), "undo",
-      { word: say.UNDO, act: () => this.restoreSessions(deletedRecords) });
+      { label: say.UNDO, act: () => this.restoreSessions(deletedRecords) });
   }
 
   /** @param {SessionRecord[]} records */
@@ -172,7 +172,8 @@ export class SessionsController {
 
   /**
    * Opens the first session of the page. It is the session or example that the address names, or the example whose story is requested.
-   * Otherwise it is the last used session that is not open in another tab, or the first example. A link is opened after that.
+   * If there is none or it cannot be opened, it is the last used session that can be opened, or the first example. Sessions that may make
+   * the page hang are skipped. A link is opened after that.
    * @param {string} story the name of the example whose story is requested, or "" if the address requests none
    */
   async openFirst(story) {
@@ -222,8 +223,8 @@ export class SessionsController {
     if (!release) return;
     release();
     const message = say.notOpenedAutomaticallyMessage(shortenName(record.name));
-    const openAction = { word: say.OPEN_IT, act: () => this.open(record.id) };
-    const deleteAction = { word: say.DELETE_IT, act: () => this.remove([record]) };
+    const openAction = { label: say.OPEN_IT, act: () => this.open(record.id) };
+    const deleteAction = { label: say.DELETE_IT, act: () => this.remove([record]) };
     this.notice.show(message, "unopened", openAction, deleteAction);
   }
 
@@ -234,7 +235,7 @@ export class SessionsController {
     if (!session) return;
     if (kind === "") this.reportUnknownAddress(location.hash);
     else if (kind === "link") await this.calls.openLink(value);
-    else if (kind === "session" && !this.isShown(value)) await this.open(value);
+    else if (kind === "session" && !this.isCurrent(value)) await this.open(value);
     else if (kind === "example" && session.example !== value) await this.openExampleByName(value);
   }
 }

@@ -17,7 +17,7 @@ import * as say from "../../words/session.js";
  * The callbacks of the sessions dialog. The callbacks that open a session or a file resolve to false after a failure.
  * @typedef {object} SessionsCalls
  * @property {() => Promise<SessionRecord[]>} savedSessions Resolves to the saved sessions.
- * @property {(id: string) => boolean} isShown Returns true if the session with this id is the current session.
+ * @property {(id: string) => boolean} isCurrent Returns true if the session with this id is the current session.
  * @property {(id: string) => Promise<boolean>} open Opens the session with this id.
  * @property {(id: string) => Promise<boolean>} copy Copies the session with this id, and opens the copy.
  * @property {(records: SessionRecord[]) => Promise<void>} remove Deletes sessions. Deleted sessions can be restored.
@@ -63,7 +63,7 @@ export class SessionsView {
       runAndClose: (action) => this.runAndClose(action),
       remove: (records) => this.changeAndDraw(() => calls.remove(records)),
       restoreSessions: (records) => this.changeAndDraw(() => calls.restoreSessions(records)),
-      makeButton: (word, label, action) => this.makeButton(word, label, action),
+      makeButton: (text, label, action) => this.makeButton(text, label, action),
     });
     onClick(button("first-example"), () => this.openExamples());
     onClick(button("close-sessions"), () => this.close());
@@ -136,12 +136,12 @@ export class SessionsView {
   }
 
   /**
-   * @param {string} word
+   * @param {string} text
    * @param {string} label
    * @param {() => void} action
    */
-  makeButton(word, label, action) {
-    const node = element("button", { type: "button" }, word);
+  makeButton(text, label, action) {
+    const node = element("button", { type: "button" }, text);
     node.setAttribute("aria-label", label);
     node.addEventListener("click", (event) => {
       this.usedPointer = event.detail > 0;

@@ -112,7 +112,7 @@ export class TextsController {
     const title = say.replaceByProbableNonProgram(name);
     const question = { title, paragraphs: [say.eachLineWrong(name)], acceptLabel: say.REPLACE_IT, declineLabel: say.LEAVE_AS_IS };
     if (isSuspicious && !(await this.confirmDialog.ask(question))) return;
-    if (session && this.isShown(session)) this.loadTexts(name, texts);
+    if (session && this.isCurrent(session)) this.loadTexts(name, texts);
   }
 
   /**
@@ -165,7 +165,7 @@ export class TextsController {
       if (disassembly === oldText) {
         this.notice.show(say.SAME_AS_ROM, "refusal");
       } else if (oldText.trim() === "" || (await this.confirmReplacing(oldText, disassembly))) {
-        if (this.isShown(session)) this.replace("program", disassembly, say.DISASSEMBLED);
+        if (this.isCurrent(session)) this.replace("program", disassembly, say.DISASSEMBLED);
       }
     } catch (error) {
       this.calls.reportFailure(error);
@@ -186,7 +186,7 @@ export class TextsController {
   }
 
   /** @param {OpenSession} session */
-  isShown(session) {
+  isCurrent(session) {
     const currentSession = this.calls.session();
     return currentSession !== null && currentSession.record.id === session.record.id;
   }
@@ -237,7 +237,7 @@ export class TextsController {
    * @param {string} message
    */
   offerUndo(session, replacedTexts, message) {
-    this.notice.show(message, "undo", { word: say.UNDO, act: () => this.restoreTexts(session, replacedTexts, message) });
+    this.notice.show(message, "undo", { label: say.UNDO, act: () => this.restoreTexts(session, replacedTexts, message) });
   }
 
   /**
@@ -248,7 +248,7 @@ export class TextsController {
    * @param {string} message the text of the notice that offered to restore the texts
    */
   restoreTexts(session, replacedTexts, message) {
-    if (!this.isShown(session)) {
+    if (!this.isCurrent(session)) {
       this.offerUndo(session, replacedTexts, message);
       this.notice.show(say.inOtherSession(session.record.name), "refusal");
       return;

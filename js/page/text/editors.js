@@ -184,7 +184,7 @@ export class Editors {
     this.calls.showErrorCount(name, shownErrors.length);
   }
 
-  /** Loads the program into ROM, clears the ROM bytes that other programs have left, resets the processor and starts the machine. */
+  /** Loads the program into ROM, clears the ROM bytes that other programs have left, resets the processor and resumes time. */
   async assembleAndRun() {
     if (!(await this.hasNoErrors("program"))) return;
     await this.calls.pauseTime();

@@ -25,12 +25,12 @@ import { findDescendant } from "../ui/dom.js";
  * shows line numbers. `indent` is the indentation of a new line, by default that of the previous line. `keys` are additional key bindings,
  * and `extensions` are further CodeMirror extensions. `isInFront` returns true if no tab hides the editor.
  * @typedef {{ container: HTMLElement, label: string, description: string, colours: import("./line_colours.js").Colours, gutters: string[],
- *   indent?: string, keys: KeyMap, extensions: Extension[], isInFront: () => boolean, calls: EditorCalls }} EditorOptions
+ *   indent?: string, keys: KeyMap, extensions: Extension[], isInFront: () => boolean, calls: LineEditorCalls }} EditorOptions
  */
 
 /**
  * The callbacks of the line editor.
- * @typedef {object} EditorCalls
+ * @typedef {object} LineEditorCalls
  * @property {(edits: Edit[]) => void} handleEdits Handles edits of the text, in the order in which they apply.
  * @property {() => void} handleCaretMove Handles a caret move.
  * @property {(line: number) => void} handleGutterClick Handles a click on a gutter. Lines count from 0.

@@ -17,15 +17,16 @@ import * as say from "../../words/text.js";
  * the error gutter. `indent` is the indentation of a new line, by default that of the previous line. `folds` has the patterns of the
  * foldable parts of its text. `keys` are its additional key bindings. `isInFront` returns true if no tab hides the editor.
  * @typedef {{ container: HTMLElement, label: string, colours: import("./line_colours.js").Colours, gutters: string[], indent?: string,
- *   folds?: import("../../core/text/folding.js").FoldPatterns, keys: KeyMap, isInFront: () => boolean, calls: TextCalls }} TextOptions
+ *   folds?: import("../../core/text/folding.js").FoldPatterns, keys: KeyMap, isInFront: () => boolean,
+ *   calls: TextEditorCalls }} TextOptions
  *
  * The state of a text that is not visible, and its scroll position in pixels.
- * @typedef {{ state: import("@codemirror/state").EditorState, top: number }} StoredText
+ * @typedef {{ state: import("@codemirror/state").EditorState, scrollTop: number }} StoredText
  */
 
 /**
  * The callbacks of a text editor.
- * @typedef {object} TextCalls
+ * @typedef {object} TextEditorCalls
  * @property {(edits: Edit[]) => void} handleEdits Handles edits of the text, in the order in which they apply.
  * @property {() => void} handleCaretMove Handles a caret move.
  * @property {(line: number) => void} handleGutterClick Handles a click on a gutter. Lines count from 1.
@@ -48,13 +49,14 @@ export class TextEditor {
     /** @type {(line: number) => void} the listener for caret moves, which receives the line from 1 */
     this.onCaretMove = () => {};
     /** The scroll position in pixels. */
-    this.top = 0;
+    this.scrollTop = 0;
     /** @type {number | null} the scroll position to restore once the text can be measured; null if there is none */
     this.pendingScrollTop = null;
     /** The line, counted from 1, to reveal once the text can be measured; 0 if there is none. */
     this.pendingLine = 0;
     /**
-     * True if the Tab key moves the focus out of the editor: after Escape, and after Tab has moved the focus into the editor.
+     * True if the Tab key moves the focus out of the editor. This is so after Escape, and from the time when the editor receives the focus
+     * until the user types or clicks in it.
      */
     this.tabMovesFocus = true;
     /** True if the editor has had the focus since its text was loaded, so that the user may have placed the caret. */
@@ -71,13 +73,13 @@ export class TextEditor {
       gutters: ["faults", ...gutters],
       extensions: [...(folds ? [makeFolding(folds)] : []), this.makeEventHandlers()], calls: this.makeEditorCalls() });
     this.lineEditor.onScroll(() => {
-      if (this.pendingScrollTop === null && container.offsetHeight > 0) this.top = this.lineEditor.getScrollInfo().top;
+      if (this.pendingScrollTop === null && container.offsetHeight > 0) this.scrollTop = this.lineEditor.getScrollInfo().top;
     });
     // A hidden editor cannot be measured, so its scroll position is restored when it appears.
     new ResizeObserver(() => this.handleResize()).observe(container);
   }
 
-  /** @returns {import("./line_editor.js").EditorCalls} */
+  /** @returns {import("./line_editor.js").LineEditorCalls} */
   makeEditorCalls() {
     const { calls } = this;
     return {
@@ -125,7 +127,7 @@ export class TextEditor {
   /** Restores the scroll position when a hidden text appears again, because the browser may have changed the position. */
   handleResize() {
     if (this.container.offsetHeight > 0) this.lineEditor.prepare();
-    if (this.container.offsetHeight === 0) this.scheduleScroll(this.pendingScrollTop === null ? this.top : this.pendingScrollTop);
+    if (this.container.offsetHeight === 0) this.scheduleScroll(this.pendingScrollTop === null ? this.scrollTop : this.pendingScrollTop);
     else if (this.pendingScrollTop === null) this.lineEditor.refresh();
     else this.lineEditor.callAfterLayout(() => this.applyScroll());
   }
@@ -149,8 +151,8 @@ export class TextEditor {
   }
 
   /**
-   * Handles a key event. Tab indents after the user has typed or clicked in the editor. After Escape, or if Tab moved the focus in, Tab
-   * moves the focus as usual. Returns true if the key is handled.
+   * Handles a key event. Tab indents after the user has typed or clicked in the editor. Before that, and after Escape, Tab moves the focus
+   * as usual. Returns true if the key is handled.
    * @param {KeyboardEvent} event
    */
   handleKey({ key, shiftKey, ctrlKey, altKey, metaKey }) {
@@ -172,15 +174,15 @@ export class TextEditor {
    */
   open(sessionId, text) {
     const { lineEditor, storedTexts, sessionId: previousId } = this;
-    const top = this.pendingScrollTop === null ? this.top : this.pendingScrollTop;
+    const scrollTop = this.pendingScrollTop === null ? this.scrollTop : this.pendingScrollTop;
     const storedText = storedTexts.get(sessionId);
     storedTexts.delete(sessionId);
     const isUnchanged = storedText !== undefined && storedText.state.doc.toString() === text;
     const state = lineEditor.swapState(isUnchanged ? storedText.state : lineEditor.makeState(text));
-    if (previousId) storedTexts.set(previousId, { state, top });
+    if (previousId) storedTexts.set(previousId, { state, scrollTop });
     this.pendingLine = 0;
     this.hasCaret = false;
-    this.scheduleScroll(isUnchanged ? storedText.top : 0);
+    this.scheduleScroll(isUnchanged ? storedText.scrollTop : 0);
     this.sessionId = sessionId;
     this.cachedText = null;
     for (const oldestId of [...storedTexts.keys()].slice(0, -MAX_STORED_TEXTS)) storedTexts.delete(oldestId);

@@ -47,7 +47,7 @@ import * as say from "../../words/text.js";
 
 /**
  * The callbacks of the view of a text. Lines count from 1.
- * @typedef {object} EditorCalls
+ * @typedef {object} TextEditorViewCalls
  * @property {(edits: Edit[]) => void} handleEdits Handles edits of the text, in the order in which they apply.
  * @property {() => void} send Sends the text to the bench.
  * @property {() => void} [prove] Proves the properties in the text. Missing for texts of other kinds.
@@ -65,7 +65,7 @@ export class TextEditorView {
   /**
    * @param {string} id
    * @param {Language} language
-   * @param {EditorCalls} calls
+   * @param {TextEditorViewCalls} calls
    */
   constructor(id, language, calls) {
     this.language = language;
@@ -163,7 +163,7 @@ export class TextEditorView {
     if (editBreakpoint) editBreakpoint(this.editor.lineEditor.getCursor().line + 1, fieldName);
   }
 
-  /** @returns {import("./text_editor.js").TextCalls} */
+  /** @returns {import("./text_editor.js").TextEditorCalls} */
   makeTextCalls() {
     return {
       handleEdits: (edits) => this.handleEdits(edits),
@@ -279,7 +279,7 @@ export class TextEditorView {
     this.showErrors([]);
     this.status.set("");
     this.editor.open(sessionId, text);
-    this.updateSize();
+    this.scheduleSizeUpdate();
     this.meaning.set([], "");
   }
 
@@ -350,12 +350,12 @@ export class TextEditorView {
   /** @param {Edit[]} edits */
   handleEdits(edits) {
     this.status.set("");
-    this.updateSize();
+    this.scheduleSizeUpdate();
     this.calls.handleEdits(edits);
   }
 
-  /** Schedules the update of the text's size. The delay of REST_DELAY_MS keeps typing fast. */
-  updateSize() {
+  /** Schedules the update of the displayed size of the text. The delay of REST_DELAY_MS keeps typing fast. */
+  scheduleSizeUpdate() {
     clearTimeout(this.sizeTimer);
     this.sizeTimer = window.setTimeout(() => {
       const { isNeverSent } = this.language;

@@ -25,7 +25,7 @@ import { COLOURS } from "../../core/text/test_colours.js";
 
 /**
  * The callbacks that the editors of tests and properties share.
- * @typedef {object} TextCalls
+ * @typedef {object} SharedTextCalls
  * @property {() => { boardText: string }} texts Returns an object with the board's text.
  * @property {() => string[]} labels Returns the labels of the program in ROM.
  * @property {() => void} handleEdit Handles an edit of the text.
@@ -47,7 +47,7 @@ const MAX_LISTED_ERRORS = 20;
 export class TextTab {
   /**
    * @param {TextKind<Forms>} kind
-   * @param {TextCalls} calls
+   * @param {SharedTextCalls} calls
    * @param {TabCalls} tabCalls
    */
   constructor(kind, calls, tabCalls) {

@@ -62,7 +62,7 @@ export class RunController {
     this.calls = calls;
     /** @type {(reason: string) => void} called with the reason when a run has ended without a request by the user */
     this.onRunEnd = () => {};
-    /** @type {(isRunning: boolean) => void} called when time starts or pauses */
+    /** @type {(isRunning: boolean) => void} called when time resumes or pauses */
     this.showRunning = () => {};
     /** @type {Goal | null} the goal of the run, or null if it has none */
     this.goal = null;
@@ -225,7 +225,7 @@ export class RunController {
     calls.handleRunEnd();
   }
 
-  /** Stops the clock and the worker, and handles the last frame. */
+  /** Stops the clock and the worker's run, and handles the last frame. */
   async stopRun() {
     if (!this.clock.isRunning) return;
     this.clock.stop();
@@ -256,7 +256,7 @@ export class RunController {
   }
 
   /**
-   * Shows a frame from the worker. Ends the run if time has stopped. Saves the session when a save is due.
+   * Shows a frame from the worker. Ends the run if the frame has a stop. Saves the session when a save is due.
    * @param {Frame} frame
    */
   handleFrame(frame) {

@@ -28,11 +28,11 @@ export class ConfirmDialog {
   }
 
   /**
-   * @param {string} word
+   * @param {string} text
    * @param {string} value the dialog's return value
    */
-  makeButton(word, value) {
-    const node = element("button", { type: "button" }, word);
+  makeButton(text, value) {
+    const node = element("button", { type: "button" }, text);
     node.addEventListener("click", () => this.dialog.close(value));
     return node;
   }

@@ -16,7 +16,7 @@ import * as say from "../../words/page.js";
  * - `undo`: an action that can be undone;
  * - "": any other error.
  * @typedef {"" | "saveError" | "session" | "store" | "refusal" | "share" | "file" | "left" | "unopened" | "undo"} NoticeKind
- * @typedef {{ word: string, act: () => void }} NoticeAction a button in the notice
+ * @typedef {{ label: string, act: () => void }} NoticeAction a button in the notice
  * @typedef {{ kind: NoticeKind, text: string, node: HTMLElement, message: import("./notice_list.js").Message, timer: number }} Row
  */
 
@@ -78,7 +78,7 @@ export class Notice {
     this.list.add(message);
     const row = { kind, text, node: element("div", { className: "notice", role: "alert" }, element("p", {}, text)), message, timer: 0 };
     row.node.append(...actions.map((action) => (
-      this.makeButton(action.word, say.noticeText(action.word, text), () => this.executeAction(message, action)))));
+      this.makeButton(action.label, say.noticeText(action.label, text), () => this.executeAction(message, action)))));
     row.node.append(this.makeButton(say.DISMISS, say.DISMISS_NOTICE, () => this.dismiss(row), "dismiss"));
     this.rows.unshift(row);
     this.block.prepend(row.node);
@@ -141,13 +141,13 @@ export class Notice {
   }
 
   /**
-   * @param {string} word
+   * @param {string} text
    * @param {string} label
    * @param {() => void} action
    * @param {string} className
    */
-  makeButton(word, label, action, className = "") {
-    const node = element("button", { type: "button", className }, word);
+  makeButton(text, label, action, className = "") {
+    const node = element("button", { type: "button", className }, text);
     node.setAttribute("aria-label", label);
     node.addEventListener("click", (event) => {
       // After a click with the pointer, the board must receive the keys again.

@@ -39,10 +39,10 @@ export class NoticeList {
   /** @param {Message} message */
   makeRow(message) {
     const time = message.time.toLocaleTimeString([], { hour: "2-digit", minute: "2-digit" });
-    const buttons = message.actions.map((action) => makeButton(action.word, () => {
+    const buttons = message.actions.map((action) => makeButton(action.label, () => {
       this.dialog.close();
       this.act(message, action);
-    }, { "aria-label": say.noticeText(action.word, message.text) }));
+    }, { "aria-label": say.noticeText(action.label, message.text) }));
     return element("li", {}, element("small", {}, time), element("span", { className: "grow" }, message.text), ...buttons);
   }
 }

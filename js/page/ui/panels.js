@@ -10,7 +10,7 @@ import * as say from "../../words/workbench.js";
  */
 
 /** The key of the stored preference for the maximised panel. */
-const MAXIMIZED_KEY = "full";
+const MAXIMISED_KEY = "full";
 
 /**
  * Returns the row at the top of a panel: the panel's row of tabs, or a new row that contains its heading. Returns the panel itself if it
@@ -42,11 +42,11 @@ export class Panels {
     });
     this.panels = Object.entries(say.PANELS).map(([id, name]) => this.makePanel(id, name));
     /** The id of the maximised panel, or "" if there is none. */
-    this.maximizedId = "";
+    this.maximisedId = "";
     this.menu.append(element("ul", {}, ...this.panels.map((panel) => this.makeMenuItem(panel))),
       makeButton(say.RESET_LAYOUT, () => this.reset()));
     this.addListeners();
-    this.setMaximized(preferences.get(MAXIMIZED_KEY));
+    this.setMaximised(preferences.get(MAXIMISED_KEY));
     this.updateColumns();
   }
 
@@ -62,9 +62,9 @@ export class Panels {
     openSwitch.set(this.preferences.get(`panel.${id}`) !== "closed");
     checkBox.checked = openSwitch.isOn;
     checkBox.addEventListener("change", () => this.open(id, checkBox.checked));
-    const [maximizeTitle, closeTitle] = [say.fullSizeLabel(name), say.closeLabel(name)];
+    const [maximiseTitle, closeTitle] = [say.fullSizeLabel(name), say.closeLabel(name)];
     const tools = element("span", { className: "panel-tools" },
-      makeButton("\u25A1", () => this.toggleMaximized(id), { "title": maximizeTitle, "aria-label": maximizeTitle, "tabIndex": -1 }),
+      makeButton("\u25A1", () => this.toggleMaximised(id), { "title": maximiseTitle, "aria-label": maximiseTitle, "tabIndex": -1 }),
       makeButton("\u00D7", () => this.open(id, false), { "title": closeTitle, "aria-label": closeTitle, "tabIndex": -1 }));
     prepareHead(node).append(tools);
     return { id, name, node, openSwitch, checkBox };
@@ -72,12 +72,12 @@ export class Panels {
 
   /** @param {Panel} panel */
   makeMenuItem({ id, name, checkBox }) {
-    const maximizeButton = makeButton(say.FULL_SIZE, () => {
+    const maximiseButton = makeButton(say.FULL_SIZE, () => {
       this.menuSwitch.set(false);
       this.open(id, true);
-      this.setMaximized(id);
+      this.setMaximised(id);
     }, { "aria-label": say.fullSizeLabel(name) });
-    return element("li", {}, element("label", { className: "check" }, checkBox, ` ${name}`), maximizeButton);
+    return element("li", {}, element("label", { className: "check" }, checkBox, ` ${name}`), maximiseButton);
   }
 
   addListeners() {
@@ -107,7 +107,7 @@ export class Panels {
   open(id, isOpen) {
     const panel = this.find(id);
     if (!panel) return;
-    if (!isOpen && this.maximizedId === id) this.setMaximized("");
+    if (!isOpen && this.maximisedId === id) this.setMaximised("");
     panel.openSwitch.set(isOpen);
     panel.checkBox.checked = isOpen;
     this.preferences.set(`panel.${id}`, isOpen ? "" : "closed");
@@ -129,25 +129,25 @@ export class Panels {
   }
 
   /** @param {string} id */
-  toggleMaximized(id) {
-    this.setMaximized(this.maximizedId === id ? "" : id);
+  toggleMaximised(id) {
+    this.setMaximised(this.maximisedId === id ? "" : id);
   }
 
   /**
    * Maximises a panel to the size of the window, above all other panels.
    * @param {string} id the panel's id; "" restores the size of the maximised panel
    */
-  setMaximized(id) {
-    this.maximizedId = this.find(id) ? id : "";
-    this.preferences.set(MAXIMIZED_KEY, this.maximizedId);
-    for (const panel of this.panels) panel.node.classList.toggle("full", panel.id === this.maximizedId);
-    document.body.classList.toggle("has-full", this.maximizedId !== "");
+  setMaximised(id) {
+    this.maximisedId = this.find(id) ? id : "";
+    this.preferences.set(MAXIMISED_KEY, this.maximisedId);
+    for (const panel of this.panels) panel.node.classList.toggle("full", panel.id === this.maximisedId);
+    document.body.classList.toggle("has-full", this.maximisedId !== "");
   }
 
   /** Restores the initial layout. */
   reset() {
     this.menuSwitch.set(false);
-    this.setMaximized("");
+    this.setMaximised("");
     for (const { id } of this.panels) this.open(id, true);
     this.resetOtherParts();
   }

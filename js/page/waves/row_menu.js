@@ -46,7 +46,7 @@ export class RowMenu {
    */
   makeGroupItems({ group }) {
     const { view } = this;
-    const memberNames = () => view.names.filter((name) => view.arrangement.groupOf(name) === group);
+    const memberNames = () => view.sortedNames.filter((name) => view.arrangement.groupOf(name) === group);
     return [
       { label: say.FOLD, key: "Enter", act: () => view.toggleFold(group) },
       { label: say.RENAME,
@@ -82,7 +82,7 @@ export class RowMenu {
    * Asks the user for a name.
    * @param {string} label
    * @param {string} value
-   * @param {(word: string) => void} action
+   * @param {(name: string) => void} action receives the name
    */
   askName(label, value, action) {
     this.nameBar.open({ label, value, buttonLabel: say.NAME, act: (text) => {

@@ -286,11 +286,11 @@ export class Scope {
    * @param {boolean} isForward
    */
   find(isForward) {
-    const { waves, line, view } = this.view;
+    const { waves, selectedLine, view } = this.view;
     if (!waves) return;
     this.searchStatus.set("");
     const query = field("wave-search").value;
-    const { search, error } = readSearch(query, waves, line);
+    const { search, error } = readSearch(query, waves, selectedLine);
     field("wave-search").setAttribute("aria-invalid", String(error !== ""));
     if (!search) {
       this.searchStatus.set(error);
@@ -317,19 +317,19 @@ export class Scope {
   }
 
   /**
-   * The recording to save, or null if there is no recording or no row is visible. If there is a recording but no visible row, shows a
+   * The recording to save, or null if there is no recording or no line is chosen. If there is a recording but no chosen line, shows a
    * message.
    * @returns {Waves | null}
    */
   get wavesToSave() {
-    const { waves, lines } = this.view;
-    if (waves && lines.length === 0) this.status.set(say.NO_LINE_CHOSEN);
-    return lines.length === 0 ? null : waves;
+    const { waves, chosenLines } = this.view;
+    if (waves && chosenLines.length === 0) this.status.set(say.NO_LINE_CHOSEN);
+    return chosenLines.length === 0 ? null : waves;
   }
 
   save() {
     const { wavesToSave: waves } = this;
-    if (waves) download(this.calls.name(), ".vcd", new Blob([...vcdParts(waves, this.view.lines)], { type: "text/plain" }));
+    if (waves) download(this.calls.name(), ".vcd", new Blob([...vcdParts(waves, this.view.sortedLines)], { type: "text/plain" }));
   }
 
   savePng() {

@@ -9,7 +9,7 @@ export class WaveValues {
   constructor(onToggle) {
     this.node = byId("wave-values", HTMLDetailsElement);
     /** @type {number[]} the index of each row's line in the recording */
-    this.rows = [];
+    this.rowLines = [];
     /** @type {Cell[][]} */
     this.cells = [];
     this.node.addEventListener("toggle", onToggle);
@@ -20,7 +20,7 @@ export class WaveValues {
    * @param {import("../../core/waves/wave_rows.js").WaveRow[]} rows
    */
   draw({ lines }, rows) {
-    this.rows = rows.map(({ line }) => line);
+    this.rowLines = rows.map(({ line }) => line);
     this.cells = rows.map(() => [new Cell(element("td")), new Cell(element("td"))]);
     const rowNodes = rows.map(({ line, title }, index) => element("tr", {}, element("th", { scope: "row" }, title || lines[line].name),
       ...this.cells[index].map((cell) => cell.node)));
@@ -33,6 +33,6 @@ export class WaveValues {
    */
   show(waves, cursors) {
     if (!this.node.open) return;
-    this.cells.forEach((cells, row) => cells.forEach((cell, index) => cell.set(waves.valueAt(this.rows[row], cursors[index]))));
+    this.cells.forEach((cells, row) => cells.forEach((cell, index) => cell.set(waves.valueAt(this.rowLines[row], cursors[index]))));
   }
 }

@@ -124,21 +124,21 @@ export class WaveView {
   }
 
   /** The index of the selected row's line, or -1 if there is none. */
-  get line() {
+  get selectedLine() {
     return this.selectedIndex < 0 ? -1 : this.rows[this.selectedIndex].line;
   }
 
-  /** The names of the visible lines, in row order. */
-  get names() {
+  /** The names of the chosen lines, in row order. Includes the lines of folded groups. */
+  get sortedNames() {
     const { waves, arrangement, chosenLines } = this;
     return waves ? arrangement.sortNames(chosenLines.map((line) => waves.lines[line].name)) : [];
   }
 
-  /** The indices of the visible lines, in row order. */
-  get lines() {
-    const { waves, names, chosenLines } = this;
+  /** The indices of the chosen lines, in row order. Includes the lines of folded groups. */
+  get sortedLines() {
+    const { waves, sortedNames, chosenLines } = this;
     const linesByName = new Map(waves ? chosenLines.map((line) => [waves.lines[line].name, line]) : []);
-    return names.map((name) => linesByName.get(name) || 0);
+    return sortedNames.map((name) => linesByName.get(name) || 0);
   }
 
   /** @param {Waves} waves the recording to show */
@@ -161,8 +161,8 @@ export class WaveView {
   }
 
   /**
-   * Shows the complete recording, unless the user has zoomed in or scrolled away from the end. Puts the cursors on the first two edges of
-   * the first row that has edges. A cursor without an edge goes to the beginning.
+   * Shows the complete recording, unless the user has zoomed in or scrolled away from the end. Unless the user has moved a cursor, puts the
+   * cursors on the first two edges of the first row that has edges. A cursor without an edge goes to the beginning.
    */
   fit() {
     const { waves, view, rows } = this;
@@ -245,10 +245,10 @@ export class WaveView {
    * @param {number} newIndex
    */
   moveRow(index, newIndex) {
-    const { names, rows } = this;
+    const { sortedNames, rows } = this;
     if (!rows[index] || !rows[newIndex]) return;
     this.selectRow(index);
-    this.rearrange(() => this.arrangement.move(rows, names, index, newIndex));
+    this.rearrange(() => this.arrangement.move(rows, sortedNames, index, newIndex));
     this.selectRow(this.selectedIndex);
   }
 
@@ -361,9 +361,9 @@ export class WaveView {
    * @param {boolean} isForward
    */
   moveToEdge(isForward) {
-    if (!this.waves || this.line < 0) return;
+    if (!this.waves || this.selectedLine < 0) return;
     const { moment } = this.view;
-    const edge = isForward ? this.waves.changeAfter(this.line, moment) : this.waves.changeBefore(this.line, moment);
+    const edge = isForward ? this.waves.changeAfter(this.selectedLine, moment) : this.waves.changeBefore(this.selectedLine, moment);
     if (edge !== undefined) this.moveCursor(edge);
   }
 
@@ -409,7 +409,7 @@ export class WaveView {
     if (this.rows[row] && this.rows[row].line < 0) this.toggleFold(this.rows[row].group);
     if (x < this.gutter) return;
     if (isOtherCursor) this.view.activeCursor = 1 - this.view.activeCursor;
-    this.moveCursor(this.view.momentAt(x - this.gutter, this.waves, y >= AXIS_HEIGHT ? this.line : -1));
+    this.moveCursor(this.view.momentAt(x - this.gutter, this.waves, y >= AXIS_HEIGHT ? this.selectedLine : -1));
   }
 
   /** @param {KeyboardEvent} event */
@@ -466,7 +466,8 @@ export class WaveView {
     this.canvas.setAttribute("aria-valuemax", String(view.end));
     this.canvas.setAttribute("aria-valuenow", String(view.moment));
     const { line = 0, title = "" } = this.rows[this.selectedIndex] || {};
-    this.canvas.setAttribute("aria-valuetext", (line < 0 ? say.groupPrefix(title) : "") + screenReaderText(view.moment, waves, this.line));
+    const heading = line < 0 ? say.groupPrefix(title) : "";
+    this.canvas.setAttribute("aria-valuetext", heading + screenReaderText(view.moment, waves, this.selectedLine));
     this.values.show(waves, view.cursors);
   }
 

@@ -71,7 +71,7 @@ class BenchWorker {
     this.scope.postMessage(message, transfer);
   }
 
-  /** Resolves after the worker has handled the messages that are waiting. */
+  /** Resolves after the worker has handled the pending messages. */
   yieldToMessages() {
     return new Promise((resolve) => {
       this.resume = () => resolve(undefined);
