@@ -97,7 +97,7 @@ def drag(browser, from_selector, target, kind="mouse"):
     end = browser.script(GET_CENTRE, target) if isinstance(target, str) else [start[0] + target[0], start[1] + target[1]]
     places = [[round(start[axis] + fraction * (end[axis] - start[axis])) for axis in (0, 1)] for fraction in (0, 0.5, 1)]
     first_move, *other_moves = [{"type": "pointerMove", "duration": 80, "x": x, "y": y} for x, y in places]
-    browser.actions({"type": "pointer", "id": f"drawing {kind}", "parameters": {"pointerType": kind}, "actions": [
+    browser.perform_actions({"type": "pointer", "id": f"drawing {kind}", "parameters": {"pointerType": kind}, "actions": [
         first_move, {"type": "pointerDown", "button": 0}, *other_moves, {"type": "pointerUp", "button": 0}]})
 
 
@@ -139,7 +139,7 @@ def check_drawing_by_mouse(browser):
     browser.script("window.seen = new Set(); new MutationObserver(() => window.seen.add([...document.querySelectorAll('#front .bulb')]"
                    ".map((bulb) => (bulb.classList.contains('lit') ? '*' : '.')).join(''))).observe(document.getElementById('lamps'),"
                    " { subtree: true, attributes: true })")
-    browser.keys(["3"], 400)
+    browser.type_keys(["3"], 400)
     eventually(browser, "a key turns its lamp on", "return [...window.seen].join(' ')", re.compile(r"\.\.\*\."))
 
 
@@ -189,21 +189,21 @@ def check_buzzer(browser):
     eventually(browser, "dragging draws a wire to the buzzer", GET_DRAWING_STATUS, "Line rom0.3 is wired to the buzzer.")
     eventually(browser, "the picture has the wire to the buzzer", GET_WIRING_LINES, re.compile("buzzer sounds the edges of rom0.3"))
     browser.script("const name = document.querySelector('#chosen [aria-label=name]'); name.focus(); name.select()")
-    browser.keys([*"the horn", ENTER], 10, 10)
+    browser.type_keys([*"the horn", ENTER], 10, 10)
     eventually(browser, "the buzzer has a new name", GET_DRAWING_STATUS, "The buzzer is called the horn.")
     verdict("the comment of the buzzer has the new name", text_of(browser).split("\n")[0], "# buzzer rom0.3: the horn")
     browser.click("#drawing-wire")
     eventually(browser, "the sound button of the applied board", GET_SOUND_LABEL, "Sound of the horn")
-    browser.until(GET_DRAWING_STATUS, "Board applied.")
+    browser.wait_until(GET_DRAWING_STATUS, "Board applied.")
     browser.script("document.querySelector('#wiring-picture .of-buzzer').focus()")
-    browser.keys([DELETE])
+    browser.type_keys([DELETE])
     eventually(browser, "the Delete key deletes the buzzer", GET_DRAWING_STATUS, "The buzzer was deleted.")
     browser.press_chord(CONTROL, "z")
     eventually(browser, "Ctrl+Z restores the buzzer", GET_WIRING_LINES, re.compile("the horn sounds the edges of rom0.3"))
     browser.script("document.querySelector(arguments[0]).focus()", pin_selector("Buzzer, the horn"))
-    browser.keys([ENTER])
+    browser.type_keys([ENTER])
     eventually(browser, "Enter begins a wire at the buzzer", GET_DRAWING_STATUS, "Wire from the buzzer: it can end at 3 pins.")
-    browser.keys([UP, ENTER])
+    browser.type_keys([UP, ENTER])
     eventually(browser, "Enter ends the wire at another line", GET_DRAWING_STATUS, "Line rom0.2 is wired to the buzzer.")
     if browser.can_multitouch:
         browser.touch_together([f"{pin_selector('ROM 0 · 4001, out 1')} circle"], 60)
@@ -238,7 +238,7 @@ def check_chain_keeps_its_place(browser):
     eventually(browser, "Shift and the Down arrow move the second chain", f"{chain_positions_script}[1] > {second_position}", True)
     _, moved_position = browser.script(chain_positions_script)
     browser.script("document.querySelector('#wiring-picture .of-chain').focus()")
-    browser.keys([DELETE])
+    browser.type_keys([DELETE])
     eventually(browser, "the first chain is deleted", GET_DRAWING_STATUS, re.compile("^Chain 0 was deleted"))
     eventually(browser, "the second chain keeps its position", chain_positions_script, [moved_position])
     browser.click("#drawing-undo")
@@ -251,30 +251,30 @@ def check_drawing_by_keyboard(browser):
     browser.script("document.getElementById('wiring-tab').click(); document.getElementById('wiring-tab').focus()")
     text_before = text_of(browser)
     verdict("the Tab key reaches the shelf", move_focus_until(browser, TAB, "e.id === 'shelf-lamp'", 14), True)
-    browser.keys([ENTER])
+    browser.type_keys([ENTER])
     eventually(browser, "Enter adds a lamp", GET_DRAWING_STATUS, "Lamp 3 was added.")
     verdict("the Tab key reaches the picture", move_focus_until(browser, TAB, "e.closest('#wiring-picture') !== null", 20), True)
     eventually(browser, "the focus is at the new lamp", GET_FOCUSED_LABEL, re.compile("^Lamps · 4, lamp 3"))
-    browser.keys([UP, UP, UP, UP])
+    browser.type_keys([UP, UP, UP, UP])
     eventually(browser, "the Up arrow moves the focus from the pin to the part", GET_FOCUSED_LABEL, re.compile("^Lamps · 4: locked is at"))
-    browser.keys([LEFT, LEFT, LEFT])
+    browser.type_keys([LEFT, LEFT, LEFT])
     eventually(browser, "the Left arrow moves the focus from part to part", GET_FOCUSED_LABEL, re.compile("^RAM 0.0 · 4002: line"))
-    browser.keys([RIGHT])
+    browser.type_keys([RIGHT])
     eventually(browser, "the Right arrow moves the focus back", GET_FOCUSED_LABEL, re.compile("^Chain 0"))
-    browser.keys([DOWN])
+    browser.type_keys([DOWN])
     eventually(browser, "the Down arrow moves the focus to the clock", GET_FOCUSED_LABEL, re.compile("clock, at rom0.0$"))
-    browser.keys([ENTER])
+    browser.type_keys([ENTER])
     eventually(browser, "Enter begins a wire", GET_DRAWING_STATUS, re.compile("^Wire from the clock of chain 0: it can end at 8 pins"))
-    browser.keys([UP])
+    browser.type_keys([UP])
     eventually(browser, "the Up arrow moves the focus to the next pin at which the wire can end", GET_FOCUSED_LABEL, "RAM 0.0 · 4002, out 3, wired to lamp 3")
-    browser.keys([ENTER])
+    browser.type_keys([ENTER])
     eventually(browser, "Enter ends the wire", GET_DRAWING_STATUS, "Line ram0.0.3 is wired to the clock of chain 0.")
     eventually(browser, "the pin keeps the focus", GET_FOCUSED_LABEL, "RAM 0.0 · 4002, out 3, wired to clock 0 and lamp 3")
-    browser.keys([ENTER])
+    browser.type_keys([ENTER])
     eventually(browser, "Enter begins another wire", GET_DRAWING_STATUS, re.compile("^Wire from"))
-    browser.keys([ESCAPE])
+    browser.type_keys([ESCAPE])
     eventually(browser, "Escape cancels the wire", GET_DRAWING_STATUS, "No wire was drawn.")
-    browser.keys([DELETE])
+    browser.type_keys([DELETE])
     eventually(browser, "a line cannot be deleted without its chip", GET_DRAWING_STATUS, re.compile("is deleted only with its chip"))
     browser.press_chord(CONTROL, "z")
     eventually(browser, "Ctrl+Z removes the wire", GET_DRAWING_STATUS, "Undone.")
@@ -282,7 +282,7 @@ def check_drawing_by_keyboard(browser):
     eventually(browser, "Ctrl+Z removes the lamp", GET_WIRING_LINES, re.compile("Lamps · 3"))
     verdict("the text is the same as before", text_of(browser), text_before)
     browser.script("document.querySelector('#wiring-picture .of-chain').focus()")
-    browser.keys([DELETE])
+    browser.type_keys([DELETE])
     eventually(browser, "deleting a chain also deletes the keys that need it", GET_DRAWING_STATUS, "Chain 0 was deleted, and with it the keys.")
     browser.press_chord(CONTROL, "z")
     eventually(browser, "Ctrl+Z also restores the keys", GET_WIRING_LINES, re.compile("Keys · 4 × 3"))
@@ -324,26 +324,26 @@ def check_zoom(browser):
     browser.click("#picture-fit")
     verdict("Fit restores the width of the picture", browser.script(GET_WIDTH), width_before)
     browser.script("document.querySelector('#wiring-picture .of-rom').focus()")
-    browser.keys("--")
+    browser.type_keys("--")
     verdict("two presses of - reduce the picture", abs(browser.script(GET_WIDTH) - width_before / 1.25 ** 2) <= 1, True)
     drag(browser, f"{pin_selector('RAM 0.0 · 4002, out 3')} circle", f"{pin_selector('Lamps · 3, alarm')} circle")
     eventually(browser, "a wire can be drawn in the smaller picture", GET_DRAWING_STATUS, "Line ram0.0.3 is wired to lamp 2.")
     browser.click("#drawing-undo")
     eventually(browser, "the wire is undone", GET_DRAWING_STATUS, "Undone.")
     browser.script("document.querySelector('#wiring-picture .of-rom').focus()")
-    browser.keys("-" * 20, 2, 2)
+    browser.type_keys("-" * 20, 2, 2)
     smallest_width = browser.script(GET_WIDTH)
-    browser.keys("-", 2, 2)
+    browser.type_keys("-", 2, 2)
     verdict("the picture has a minimum size, at which the button is disabled", (browser.script(GET_WIDTH), browser.script(GET_ZOOM_BOUNDS)), (smallest_width, ["true", "false"]))
     verdict("the smallest picture is completely visible, and readable", (browser.script(IS_WHOLE_PICTURE_IN_VIEW), smallest_width >= width_before / 3), (True, True))
     browser.script("document.getElementById('picture-smaller').focus()")
-    browser.keys([ENTER])
+    browser.type_keys([ENTER])
     verdict("the disabled button does not change the picture, and keeps the focus", (browser.script(GET_WIDTH), browser.script("return document.activeElement.id")),
             (smallest_width, "picture-smaller"))
     browser.script("document.querySelector('#wiring-picture .of-rom').focus()")
-    browser.keys("+" * 20, 2, 2)
+    browser.type_keys("+" * 20, 2, 2)
     verdict("+ enlarges the picture to the maximum size", browser.script(GET_WIDTH), largest_width)
-    browser.keys("0")
+    browser.type_keys("0")
     verdict("0 restores the width of the picture", browser.script(GET_WIDTH), width_before)
     browser.script("document.getElementById('picture-fit').click()")
     part_under_pointer = browser.script(GET_PART_AT_POINT, 50, 40)
@@ -386,7 +386,7 @@ def drag_from_shelf(browser, part, target, kind="mouse", key=""):
     pause = {"type": "pause", "duration": 60}
     keys = [{"type": "key", "id": "while dragged", "actions": [
         *[pause] * 5, {"type": "keyDown", "value": key}, {"type": "keyUp", "value": key}]}] if key else []
-    browser.actions({"type": "pointer", "id": f"shelf {kind}", "parameters": {"pointerType": kind}, "actions": [
+    browser.perform_actions({"type": "pointer", "id": f"shelf {kind}", "parameters": {"pointerType": kind}, "actions": [
         first_move, {"type": "pointerDown", "button": 0}, *other_moves, *[pause] * (4 if key else 0), {"type": "pointerUp", "button": 0}]}, *keys)
 
 
@@ -489,7 +489,7 @@ def check_text_with_errors(browser):
     browser.script(PUT_INTO_EDITOR, BOARD_EDITOR, text.replace("# title: Lock", "# title: Other"))
     eventually(browser, "the report is gone when the text has no errors", GET_DRAWING_STATE, "")
     browser.script("document.querySelector('#wiring-picture [tabindex=\"0\"]').focus()")
-    browser.keys([ESCAPE])
+    browser.type_keys([ESCAPE])
     eventually(browser, "the picture shows a title that is typed in the text", "const field = document.querySelector('#chosen [aria-label=title]'); return field && field.value",
                "Other")
 
@@ -503,7 +503,7 @@ def check_other_boards(browser):
 
 
 def check(browser, page, _folder, _mcs4):
-    browser.go(page.as_uri())
+    browser.open(page.as_uri())
     until_ready(browser)
     check_drawing_by_mouse(browser)
     check_buzzer(browser)

@@ -101,7 +101,7 @@ def check_counterexample(browser, folder, mcs4):
     verdict("mcs4 explore reports only the same broken property", re.findall("^not ok (.*) - ", output, re.M), ["1"])
     tests_of_tool = (folder / "finds.test").read_text()
     verdict("the counterexample is the same as that of mcs4 explore", browser.script(GET_COUNTEREXAMPLE_TEST), tests_of_tool[tests_of_tool.index("\ntest ") + 1:].rstrip("\n"))
-    verdict("the page reports the number of instructions that ran", browser.text("#explored-instructions"), re.compile(r"1\d\d of 125 instructions were run"))
+    verdict("the page reports the number of instructions that ran", browser.text_of("#explored-instructions"), re.compile(r"1\d\d of 125 instructions were run"))
 
 
 def check_line_never_run(browser):
@@ -142,7 +142,7 @@ def check_counterexample_opened(browser):
             ((LOCK / "lock.props").read_text(), True))
     verdict("the new session has no search results", browser.script("return isShown(document.getElementById('explore-results'))"), False)
     browser.click("#sessions-button")
-    browser.until("return document.getElementById('sessions').open", True)
+    browser.wait_until("return document.getElementById('sessions').open", True)
     browser.click("#kept button[aria-label='open lock']")
     eventually(browser, "the old session is open again", GET_NAME, "lock")
     eventually(browser, "the old session still shows its results", GET_ROWS, re.compile("^.'not ok . lamp open on only after"))
@@ -154,7 +154,7 @@ def check_stop_button(browser):
     # The page first attempts a proof, for a tenth of the time.
     eventually(browser, "the search runs", GET_FIGURES, re.compile("^[1-9][0-9,]* steps"), 120)
     start = time.monotonic()
-    browser.hold("#explore", 400)
+    browser.hold_mouse("#explore", 400)
     eventually(browser, "the search stops", GET_BUTTON_LABEL, "Search", 5)
     verdict("the search stops at once", time.monotonic() - start < 3, True)
     verdict("the status reports that the search was stopped", browser.script(GET_PROPERTIES_STATUS), re.compile("^Stopped. "))
@@ -163,7 +163,7 @@ def check_stop_button(browser):
     eventually(browser, "Ctrl+Enter starts the search", GET_BUTTON_LABEL, "Stop")
     eventually(browser, "the search runs", GET_FIGURES, re.compile("^[1-9][0-9,]* steps"), 120)
     browser.script("document.getElementById('explore').focus()")
-    browser.keys([ENTER])
+    browser.type_keys([ENTER])
     eventually(browser, "Enter on the button stops the search", GET_BUTTON_LABEL, "Search", 5)
     verdict("the button keeps the focus", browser.script("return document.activeElement.id"), "explore")
     browser.click("#clear-finds")
@@ -249,7 +249,7 @@ def check_saving(browser, folder):
     set_text(browser, "properties", "never lamp 1 on")
     time.sleep(1)
     browser.reload()
-    browser.until(IS_READY, True)
+    browser.wait_until(IS_READY, True)
     show_text(browser, "properties")
     eventually(browser, "the properties are unchanged after a reload", GET_TEXT_OF_EDITOR.replace("arguments[0]", f"'{EDITOR}'"), "never lamp 1 on")
     rename_session(browser, "with properties")

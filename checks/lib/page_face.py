@@ -94,7 +94,7 @@ def check_traffic_light(browser):
 
 def check_test_button(browser):
     """Checks that the TEST button WALK is down only while it is held by finger, letter or space bar. While time is paused, a click must toggle it."""
-    verdict("TEST is a button with its name", browser.text(f"{TEST_KEY} b"), "WALK")
+    verdict("TEST is a button with its name", browser.text_of(f"{TEST_KEY} b"), "WALK")
     verdict("the other TEST button is hidden", browser.script("return document.getElementById('test').hidden"), True)
     browser.script(f"window.presses = []; new MutationObserver(() => window.presses.push(document.querySelector('{TEST_KEY}')"
                    ".getAttribute('aria-pressed'))).observe(document.getElementById('keys'), { subtree: true, attributes: true, "
@@ -103,11 +103,11 @@ def check_test_button(browser):
     eventually(browser, "the button is down while a finger holds it, and then up", "return window.presses.join(' ')", "true false")
     eventually(browser, "the cars' light changes to amber or red", GET_NAMES, re.compile("red, lit.*stand, lit|amber, lit.*stand, lit"))
     eventually(browser, "the pedestrians' light changes to walk", GET_NAMES, re.compile("red, lit.*walk, lit"))
-    browser.keys(["w"], 100)
+    browser.type_keys(["w"], 100)
     eventually(browser, "its letter presses the button", "return window.presses.join(' ')", "true false true false")
     browser.script("document.getElementById('run').focus()")
     verdict("the Tab key reaches the button", move_focus_until(browser, TAB, f"e.matches('{TEST_KEY}')"), True)
-    browser.keys([" "], 100)
+    browser.type_keys([" "], 100)
     eventually(browser, "the space bar presses the button", "return window.presses.join(' ')", "true false true false true false")
     browser.click("#run")
     eventually(browser, "the program is paused", GET_STATUS, re.compile("^Paused"))
@@ -122,7 +122,7 @@ def check_stopwatch(browser):
     stopped."""
     choose_example(browser, "stopwatch")
     eventually(browser, "the title of the stopwatch's front panel", GET_TITLE, "Stopwatch")
-    verdict("the switch has its name and is off", [browser.text(f"{TEST_KEY} b"), browser.script(IS_TEST_PRESSED)], ["RUN", "false"])
+    verdict("the switch has its name and is off", [browser.text_of(f"{TEST_KEY} b"), browser.script(IS_TEST_PRESSED)], ["RUN", "false"])
     eventually(browser, "the display shows 0 at the beginning", GET_DIGITS, "0")
     browser.script(WATCH_ANNOUNCEMENTS)
     browser.touch_together([TEST_KEY], 80)
@@ -173,7 +173,7 @@ def check_port_names(browser):
     """Checks the panel of ports for the lock example: it names the parts at each port and chain."""
     choose_example(browser, "lock")
     eventually(browser, "the number of colours of the lamps", f"{GET_COLOURS.replace('return', 'return new Set(')}).size", 3)
-    verdict("the names of ports and chains", browser.text("#ports-status"),
+    verdict("the names of ports and chains", browser.text_of("#ports-status"),
             re.compile("1columns of the keys0iii.*chain 0rows of the keys"))
 
 
@@ -222,12 +222,12 @@ def check_forced_colours(browser):
     """Checks that in forced colours, lamps have one colour and show their own colours as letters, and that only lamps that are on are filled."""
     choose_example(browser, "traffic light")
     eventually(browser, "the traffic light is green", GET_NAMES, re.compile("green, lit"))
-    browser.command("Emulation.setEmulatedMedia", features=[{"name": "forced-colors", "value": "active"}])
+    browser.send_command("Emulation.setEmulatedMedia", features=[{"name": "forced-colors", "value": "active"}])
     verdict("in forced colours all lamps have one colour", len(set(browser.script(GET_RINGS))), 1)
     verdict("in forced colours only lamps that are on are filled", browser.script(ARE_ONLY_LIT_LAMPS_FILLED), True)
     letters_script = "return [...document.querySelectorAll('#front .bulb')].map((bulb) => getComputedStyle(bulb, '::before').content).join(' ')"
     verdict("in forced colours letters show the colours of the lamps", browser.script(letters_script), '"" "A" "" "G" "G"')
-    browser.command("Emulation.setEmulatedMedia", features=[])
+    browser.send_command("Emulation.setEmulatedMedia", features=[])
 
 
 def check_three_lamps(browser):
@@ -238,7 +238,7 @@ def check_three_lamps(browser):
 
 
 def check(browser, page, _folder, _mcs4):
-    browser.go(page.as_uri())
+    browser.open(page.as_uri())
     until_ready(browser)
     check_traffic_light(browser)
     check_stopwatch(browser)
@@ -254,20 +254,20 @@ def check(browser, page, _folder, _mcs4):
 
 def take_pictures(browser, page, folder):
     """Takes screenshots of three boards on the page for the documents, as PNG files in a folder."""
-    browser.go(page.as_uri())
+    browser.open(page.as_uri())
     until_ready(browser)
-    browser.command("Emulation.setDeviceMetricsOverride", width=1280, height=1400, deviceScaleFactor=1, mobile=False)
+    browser.send_command("Emulation.setDeviceMetricsOverride", width=1280, height=1400, deviceScaleFactor=1, mobile=False)
     for name, keys in (("traffic light", ""), ("calculator", "22/7="), ("stacker", "ddd")):
         choose_example(browser, name)
         browser.script("scrollTo(0, 0)")
         time.sleep(0.5)
-        browser.keys(list(keys), 50, 60)
+        browser.type_keys(list(keys), 50, 60)
         time.sleep(0.5)
         # Hide the hints below the keys, which are not a part of the board.
         browser.script("for (const id of ['typing-label', 'keys-hint']) document.getElementById(id).hidden = true")
         box = browser.script("""
             const front = document.getElementById("front").getBoundingClientRect();
             return [front.x, front.y, front.width, document.getElementById("keys").getBoundingClientRect().bottom - front.y + 8]""")
-        screenshot = browser.command("Page.captureScreenshot", clip=dict(zip(("x", "y", "width", "height", "scale"), [*box, 1])))
+        screenshot = browser.send_command("Page.captureScreenshot", clip=dict(zip(("x", "y", "width", "height", "scale"), [*box, 1])))
         write_picture(base64.b64decode(screenshot["data"]), folder / f"{name.replace(' ', '_')}.png")
     browser.restore_size()

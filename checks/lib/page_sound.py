@@ -60,7 +60,7 @@ def is_first_block_early(browser, block):
         browser.click("#sound-button")
         browser.script("window.played = []")
         browser.click("#sound-button")
-        browser.until(COUNT_PLAYED, re.compile("^[1-9]"))
+        browser.wait_until(COUNT_PLAYED, re.compile("^[1-9]"))
         block = browser.script("return window.played[0]")
     return block["when"] - block["now"] > MIN_LEAD_SECONDS
 
@@ -71,7 +71,7 @@ def check_tone(browser):
     status_of(browser, "#board-editor", BOARD)
     status_of(browser, "#program-editor", TONE_PROGRAM)
     eventually(browser, "a board with a buzzer has a sound button", "return document.getElementById('sound').hidden", False)
-    verdict("the sound button has a name, and is not pressed", [browser.text("#sound-button"), browser.script(IS_SOUND_PRESSED)], ["Sound of the buzzer", "false"])
+    verdict("the sound button has a name, and is not pressed", [browser.text_of("#sound-button"), browser.script(IS_SOUND_PRESSED)], ["Sound of the buzzer", "false"])
     browser.script(RECORD_SOUND)
     browser.click("#sound-button")
     eventually(browser, "several blocks are played after a press of the button", COUNT_PLAYED, re.compile("^[5-9]$|^..$"))
@@ -109,7 +109,7 @@ def check_sound_at_speeds(browser):
 
 
 def check(browser, page, _folder, _mcs4):
-    browser.go(page.as_uri() + "#example=empty%20bench")
+    browser.open(page.as_uri() + "#example=empty%20bench")
     until_ready(browser)
     verdict("a board without a buzzer has no sound button", browser.script("return document.getElementById('sound').hidden"), True)
     check_tone(browser)

@@ -52,7 +52,7 @@ def check_calculator(browser):
     press_keys(browser, "12+30=")
     eventually(browser, "the typed keys and the result are printed", GET_PRINTER_TAPE, "12+ 30= 42")
     eventually(browser, "the display shows the result", GET_DIGITS, "42")
-    browser.keys(["-", "5", "8", ENTER], 60, 120)
+    browser.type_keys(["-", "5", "8", ENTER], 60, 120)
     eventually(browser, "a calculation on the keyboard is printed", GET_PRINTER_TAPE, "12+ 30= 42 42- 58= -16")
     browser.reload()
     until_ready(browser)
@@ -107,7 +107,7 @@ def check_other_printer(browser):
 
 
 def check(browser, page, _folder, _mcs4):
-    browser.go(page.as_uri() + "#example=empty%20bench")
+    browser.open(page.as_uri() + "#example=empty%20bench")
     until_ready(browser)
     verdict("a board without a printer has no tape", browser.script(GET_PRINTER_TAPE), "-")
     check_calculator(browser)

@@ -32,7 +32,7 @@ def check(browser, page, _folder, _mcs4):
     status_of(browser, "#board-editor", BOARD)
     status_of(browser, "#program-editor", PROGRAM)
     eventually(browser, "the mistake is reported with its line", GET_ROWS, [f"004 (keys + 4, line 4) {MISTAKE_MESSAGE}"])
-    verdict("the tab counts the mistake", browser.text("#problems-tab .mark"), "1")
+    verdict("the tab counts the mistake", browser.text_of("#problems-tab .mark"), "1")
     verdict("the program is still running", browser.script(GET_STATUS), re.compile("^Running"))
     browser.click("#usual-list input")
     pause_running_time(browser)

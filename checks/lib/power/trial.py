@@ -22,7 +22,7 @@ from power.disk import Disk, Event, PowerCheckError
 from power.images import ImageBuilder, History, Image, Phase
 from power.machine import Machine
 from power.sessions import Sessions, has_version_1
-from session_file import SIZE
+from session_file import FILE_BYTES
 
 MEBIBYTE = 1 << 20
 # A shell line that starts another writer on the file system, so that the file system commits between the writes of the program.
@@ -182,15 +182,15 @@ class Runner:
         builder.build(image)
         contents = self.contents_of_disk(file_system, self.options(file_system, trial), case.file)
         self.disk.undo_writes()
-        return ExaminedImage(image, contents, isinstance(contents, int) and has_version_1(bytes(self.output_disk.bytes[:SIZE])))
+        return ExaminedImage(image, contents, isinstance(contents, int) and has_version_1(bytes(self.output_disk.bytes[:FILE_BYTES])))
 
     def contents_of_disk(self, file_system: FileSystem, options: str, file: str) -> Contents:
         """Returns what a machine finds on its disk after a cut: a number of commands, or a description."""
         self.machine.shell.send(f"{file_system.type} {file} {options}")
         answer = self.machine.receive(self.machine.shell)
-        if answer != f"size {SIZE}":
+        if answer != f"size {FILE_BYTES}":
             return answer
-        return self.sessions.commands_in(bytes(self.output_disk.bytes[:SIZE]))
+        return self.sessions.commands_in(bytes(self.output_disk.bytes[:FILE_BYTES]))
 
     @contextlib.contextmanager
     def examining(self) -> Iterator[None]:
