@@ -32,7 +32,7 @@ TIMEOUT_SECONDS = 60
 
 
 def expect_equal(actual, expected, description):
-    """Prints whether a value equals the expected one."""
+    """Prints `ok` if a value equals the expected one, and otherwise `failed` with both values."""
     print(f"ok {description}" if actual == expected else f"failed: {description}: is {actual!r}, must be {expected!r}")
 
 

@@ -4,8 +4,8 @@ text, borders, marks and lamps in both colour schemes."""
 
 import re
 
-from page_in_browser import (ESCAPE, GET_TEXT_OF_EDITOR, IS_AT_COUNTER, PUT_INTO_EDITOR, TAB, choose_example, send_lines, reopen_page, show_text,
-                             step_with_marks, pause_running_time)
+from page_basics import (ESCAPE, GET_TEXT_OF_EDITOR, IS_AT_COUNTER, PUT_INTO_EDITOR, TAB, choose_example, send_lines, reopen_page, show_text,
+                         step_with_marks, pause_running_time)
 from verdicts import eventually, verdict
 from web_driver import Chromium
 

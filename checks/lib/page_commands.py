@@ -5,7 +5,7 @@ import re
 
 from browser_driver import ELEMENT_KEY
 from page_access import check_view
-from page_in_browser import DOWN, ENTER, ESCAPE, GET_STATUS, IS_READY, STEPPED, TAB, TOP, choose_example, reopen_page, show_text, pause_running_time, until_ready
+from page_basics import DOWN, ENTER, ESCAPE, GET_STATUS, IS_READY, STEPPED, TAB, TOP, choose_example, reopen_page, show_text, pause_running_time, wait_until_ready
 from verdicts import eventually, verdict
 from web_driver import Chromium
 
@@ -27,11 +27,11 @@ GET_FRONT_TAB = "return document.querySelector('#text-tabs [aria-selected=true]'
 # The buttons that need no command, each with the reason. They open a menu, belong to an open dialog or to the field next to them, or do the same as
 # another command.
 BUTTONS_WITHOUT_COMMAND = {
-    "menu-button": "opens the menu of files", "view-button": "opens the menu of panels", "cancel": "of work that goes on",
-    "tour-close": "of the tour", "tour-back": "of the tour", "tour-put": "of the tour", "tour-next": "of the tour", "first-program": "as help.tour",
-    "hello-program": "as help.tour", "first-example": "as project.all", "help-close": "of the help", "close-sessions": "of the dialog",
-    "delete-chosen": "of the dialog", "explore": "as properties.search", "send": "as Enter in the console",
-    "step-many": "as Enter beside it", "until-change": "as Enter beside it",
+    "menu-button": "opens the menu of files", "view-button": "opens the menu of panels", "cancel": "belongs to running work",
+    "tour-close": "belongs to the tour", "tour-back": "belongs to the tour", "tour-put": "belongs to the tour", "tour-next": "belongs to the tour", "first-program": "same as help.tour",
+    "hello-program": "same as help.tour", "first-example": "same as project.all", "help-close": "belongs to the help", "close-sessions": "belongs to the dialog",
+    "delete-chosen": "belongs to the dialog", "explore": "same as properties.search", "send": "same as Enter in the console",
+    "step-many": "same as Enter in the field next to it", "until-change": "same as Enter in the field next to it",
 }
 
 
@@ -223,7 +223,7 @@ def check_theme(browser):
     scheme_script = "return getComputedStyle(document.documentElement).colorScheme"
     verdict("the browser's controls are dark, too", browser.script(scheme_script), "dark")
     browser.reload()
-    until_ready(browser)
+    wait_until_ready(browser)
     eventually(browser, "the theme after a reload", GET_PAGE_COLOUR, dark_colour)
     browser.send_command("Emulation.setEmulatedMedia", features=[{"name": "prefers-color-scheme", "value": "dark"}])
     execute_command(browser, "theme light")
@@ -350,7 +350,7 @@ def check_first_visit(browser, page):
     eventually(browser, "the ring disappears with the tour", "return document.getElementById('tour-ring').hidden", True)
     browser.open("about:blank")
     browser.open(page.as_uri())
-    until_ready(browser)
+    wait_until_ready(browser)
     verdict("the welcome cards do not appear again", browser.script(welcome_open_script), False)
 
 
@@ -363,7 +363,7 @@ const box = ring.getBoundingClientRect();
 const within = document.elementFromPoint(box.left + box.width / 2, box.top + box.height / 2);
 const button = within && within.closest('button');
 return button ? button.id || button.className : ''"""
-# Returns whether the tour's ring surrounds the first RAM cell, and this cell is in view.
+# Returns true if the tour's ring surrounds the first RAM cell, and this cell is in view.
 IS_RAM_CELL_IN_RING = """
 const ring = document.getElementById('tour-ring').getBoundingClientRect();
 const cell = document.querySelector('#banks .ram button').getBoundingClientRect();

@@ -7,7 +7,7 @@ An earlier version of the page moved breakpoints of PROGRAM away from their line
 import re
 import time
 
-from page_in_browser import ENTER, ESCAPE, GET_NOTICE, GET_STATUS, GET_WHOLE_STATUS, TAB, choose_example, send_lines, until_ready
+from page_basics import ENTER, ESCAPE, GET_NOTICE, GET_STATUS, GET_WHOLE_STATUS, TAB, choose_example, send_lines, wait_until_ready
 from page_names import CLICK_MARGIN, GET_BREAKPOINT_LINES
 from page_texts import UNDO_BUTTON
 from verdicts import eventually, verdict
@@ -59,11 +59,11 @@ const row = document.querySelector(".breakpoint-row");
 row.querySelectorAll("input")[arguments[0]].value = arguments[1];
 row.requestSubmit()"""
 CONDITION, HIT_COUNT, LOG_MESSAGE = range(3)
-# Sets the condition of the first breakpoint to each argument in turn, and then starts time, without letting the page run in between.
+# Sets the condition of the first breakpoint to each argument in turn, and then resumes the program, before the page can do anything else.
 CHANGE_AND_RUN = """
-for (const words of arguments) {
+for (const condition of arguments) {
   document.querySelector("#breakpoint-list .edit").click();
-  document.querySelector(".breakpoint-row input").value = words;
+  document.querySelector(".breakpoint-row input").value = condition;
   document.querySelector(".breakpoint-row").requestSubmit();
 }
 document.getElementById("run").click()"""
@@ -198,7 +198,7 @@ def check_conditions_and_counts(browser):
 
 
 def check_console_run(browser):
-    """Checks that a `run` typed at the console also stops at a breakpoint, with a message."""
+    """Checks that a `run` typed in the console also stops at a breakpoint, with a message."""
     browser.script(FILL_ROW, CONDITION, "r9 = 9")
     send_lines(browser, "reset")
     verdict("a `run` line stops when the condition is true", send_lines(browser, "run 100000"), re.compile(r"run (\d+)ok \d+ ran \1 end$"))
@@ -237,14 +237,14 @@ def check_reload(browser):
     browser.script(FILL_ROW, CONDITION, "at wait")
     time.sleep(0.3)
     browser.reload()
-    until_ready(browser)
+    wait_until_ready(browser)
     eventually(browser, "a reload keeps the list of breakpoints", GET_BREAKPOINTS, list_before)
     verdict("the conditions after a reload", browser.script(GET_BREAKPOINT_DETAILS), 'if at wait: logs "R9 is {r9}, {lamps}" and continues')
     browser.click("#breakpoint-list .edit")
     browser.type_keys([*"r9 ="])
     browser.wait_until(GET_ROW_VALUES, "r9 =; ; R9 is {r9}, {lamps}")
     browser.reload()
-    until_ready(browser)
+    wait_until_ready(browser)
     eventually(browser, "a reload keeps a condition that was typed but not applied", GET_BREAKPOINT_DETAILS, re.compile('^if r9 =: logs "R9 is'))
     browser.click("#breakpoints-remove")
     eventually(browser, "all breakpoints are removed", GET_BREAKPOINT_LINES, "")
@@ -280,7 +280,7 @@ def check_replaced_source(browser, folder):
     eventually(browser, "the program stops when the condition is true", GET_STATUS, "Paused at 011, at a breakpoint, when r9 = 9.")
     time.sleep(1)
     browser.reload()
-    until_ready(browser)
+    wait_until_ready(browser)
     eventually(browser, "a reload keeps the breakpoint", GET_BREAKPOINT_DETAILS, "if r9 = 9")
 
 
@@ -356,7 +356,7 @@ def check_menu(browser):
 
 def check(browser, page, folder, *_):
     browser.open(page.as_uri())
-    until_ready(browser)
+    wait_until_ready(browser)
     load_program(browser)
     check_moves_with_line(browser)
     check_moves_to_instruction(browser)

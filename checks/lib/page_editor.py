@@ -3,7 +3,7 @@
 import re
 import time
 
-from page_in_browser import GET_ALL_NOTICES, GET_STATUS, GET_TEXT_OF_EDITOR, PUT_INTO_EDITOR, STEPPED, choose_example, reopen_page, show_text, pause_running_time
+from page_basics import GET_ALL_NOTICES, GET_STATUS, GET_TEXT_OF_EDITOR, PUT_INTO_EDITOR, STEPPED, choose_example, reopen_page, show_text, pause_running_time
 from verdicts import eventually, verdict
 
 CONTROL, SHIFT, ALT, ENTER, ESCAPE, TAB = "\ue009", "\ue008", "\ue00a", "\ue007", "\ue00c", "\ue004"
@@ -320,7 +320,7 @@ size = 3
 [[lamp]]
 lime = "rom0.0"
 """
-# The corrections in order: the wrong text, the corrected text, the error before the correction, and the text that is underlined.
+# The corrections in order. Each has the wrong text, the corrected text, the error before the correction, and the underlined text.
 BOARD_CORRECTIONS = [("size = 3\n", "", "line 4: size is not a key of rom, which has chip, port", "size"),
                 ("lime", "line", "line 6: lime is not a key of lamp; line?", "lime"),
                 ("77", "7", "line 2: chip must be a unique number from 0 to 15", "77")]

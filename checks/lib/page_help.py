@@ -3,7 +3,7 @@
 import re
 import time
 
-from page_in_browser import ENTER, ESCAPE, GET_STATUS, choose_example, key, send_lines, show_text, until_ready
+from page_basics import ENTER, ESCAPE, GET_STATUS, choose_example, key, send_lines, show_text, wait_until_ready
 from verdicts import eventually, verdict
 
 F1, UP, DOWN, CONTROL = "\ue031", "\ue013", "\ue015", "\ue009"
@@ -131,7 +131,7 @@ def check_cell_tooltips(browser):
 
 def check(browser, page, _folder, _mcs4):
     browser.open(page.as_uri())
-    until_ready(browser)
+    wait_until_ready(browser)
     choose_example(browser, "calculator")
     check_help(browser)
     check_cell_tooltips(browser)

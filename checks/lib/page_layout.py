@@ -4,8 +4,8 @@ covers the marks of changes, cells that are edited in place, printing, and acces
 import re
 import time
 
-from page_in_browser import (ENTER, ESCAPE, GET_STATUS, IS_AT_COUNTER, STEPPED, choose_example, key, send_lines, reopen_page, show_text,
-                             step_with_marks, pause_running_time, until_ready)
+from page_basics import (ENTER, ESCAPE, GET_STATUS, IS_AT_COUNTER, STEPPED, choose_example, key, send_lines, reopen_page, show_text,
+                         step_with_marks, pause_running_time, wait_until_ready)
 from page_workbench import (check_arrangement, check_touch_targets, check_first_glance, check_phone_details, check_first_tasks, check_layout_shifts,
                             check_details)
 from page_waves import record
@@ -75,7 +75,7 @@ def check_folds(browser):
     show_text(browser, "board")
     show_text(browser, "console")
     browser.reload()
-    until_ready(browser)
+    wait_until_ready(browser)
     verdict("the panel is still folded after a reload", browser.script(fold_state_script), "falsefalse")
     verdict("the selected text tab after a reload", browser.script(GET_FRONT_TAB), "board-tab")
     verdict("the selected tab of the dock after a reload", browser.script("return isShown(document.getElementById('talk'))"), True)
@@ -167,7 +167,7 @@ def check_follow(browser):
     browser.click("#follow")
     eventually(browser, "Follow shows the row of the program counter", GET_NEXT_LINE, re.compile("."))
     for _ in range(5):
-        value_before = text_of(browser, "pc")
+        value_before = cell_text(browser, "pc")
         browser.click("#step")
         eventually(browser, "a step changes the program counter", f"return document.getElementById('value-pc').textContent !== '{value_before}'", True)
         eventually(browser, "a row begins at the program counter after each step", IS_AT_COUNTER, True)
@@ -176,7 +176,7 @@ def check_follow(browser):
     pause_running_time(browser)
 
 
-def text_of(browser, name):
+def cell_text(browser, name):
     """Returns the text of a cell of the processor, such as `pc` or `R5`."""
     return browser.script("return document.getElementById(arguments[0]).textContent", f"value-{name}")
 
@@ -242,7 +242,7 @@ def check_edited_cells(browser):
     verdict("the message about the value", browser.script(GET_CELL_STATUS), re.compile("value|range|number", re.I))
     browser.type_keys([ESCAPE])
     eventually(browser, "Escape cancels the edit", GET_EDITED_CELL, "")
-    verdict("the value is unchanged after Escape", text_of(browser, "cy"), "0")
+    verdict("the value is unchanged after Escape", cell_text(browser, "cy"), "0")
     edit_cell(browser, "#value-acc", ENTER, ["x", ENTER])
     eventually(browser, "a character that is not a digit is rejected", GET_CELL_STATUS, re.compile("hexadecimal"))
     browser.type_keys([ESCAPE])
@@ -530,7 +530,7 @@ def check_phone(browser):
     set_size(browser, 375, 667, True)
     browser.send_command("Emulation.setTouchEmulationEnabled", enabled=True)
     browser.reload()
-    until_ready(browser)
+    wait_until_ready(browser)
     check_menu(browser)
     for width, height in ((390, 844), (360, 640), (320, 640), (375, 667)):
         set_size(browser, width, height, True)

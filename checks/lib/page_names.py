@@ -5,7 +5,7 @@ import pathlib
 import re
 import subprocess
 
-from page_in_browser import ENTER, GET_NOTICE, GET_STATUS, PUT_INTO_EDITOR, choose_example, send_lines, show_text, pause_running_time, until_ready
+from page_basics import ENTER, GET_NOTICE, GET_STATUS, PUT_INTO_EDITOR, choose_example, send_lines, show_text, pause_running_time, wait_until_ready
 from verdicts import eventually, verdict
 
 TOP = pathlib.Path(__file__).resolve().parent.parent.parent
@@ -28,7 +28,7 @@ GET_LABELS = "return [...document.querySelectorAll('#lines-of-program .labels')]
 GET_BREAKPOINT_LINES = """
 return document.querySelector("#program-editor .cm-editor").lineEditor.marksIn("breakpoints").map((line) => line + 1).join(" ")"""
 
-# Executes as many steps as the argument says. Returns for each step the program counter, and the marked source line with its number, or `not seen` if
+# Executes a number of steps, which is the argument. Returns for each step the program counter, and the marked source line with its number, or `not seen` if
 # the line is out of view.
 STEP_THROUGH = """
 // Omits the values that the page shows after a line, which are not a part of the line.
@@ -269,7 +269,7 @@ def check(browser, page, _folder, mcs4):
     source, values = read_listing(mcs4)
     lines = PROGRAM.read_text().splitlines()
     browser.open(page.as_uri())
-    until_ready(browser)
+    wait_until_ready(browser)
     choose_example(browser, "calculator")
     show_text(browser, "program")
     check_marked_lines(browser, source)

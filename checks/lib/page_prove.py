@@ -10,7 +10,7 @@ import time
 
 from page_commands import press_chord
 from page_explore import GET_MARK, GET_PROPERTIES_STATUS, set_text, text_of
-from page_in_browser import GET_NOTICE, GET_STATUS, TOP, choose_example, send_lines, reopen_page, show_text
+from page_basics import GET_NOTICE, GET_STATUS, TOP, choose_example, send_lines, reopen_page, show_text
 from page_layout import MEASURE_OVERFLOW, set_size
 from page_texts import GET_NAME
 from verdicts import eventually, verdict

@@ -4,7 +4,7 @@ other than real time, and without Web Audio."""
 import re
 import time
 
-from page_in_browser import SET_SPEED, choose_example, status_of, until_ready
+from page_basics import SET_SPEED, choose_example, status_of, wait_until_ready
 from verdicts import eventually, verdict
 
 BOARD = '# buzzer rom0.0: the buzzer\n[[rom]]\nchip = 0\nport = "0000"\n'
@@ -110,7 +110,7 @@ def check_sound_at_speeds(browser):
 
 def check(browser, page, _folder, _mcs4):
     browser.open(page.as_uri() + "#example=empty%20bench")
-    until_ready(browser)
+    wait_until_ready(browser)
     verdict("a board without a buzzer has no sound button", browser.script("return document.getElementById('sound').hidden"), True)
     check_tone(browser)
     check_sound_at_speeds(browser)

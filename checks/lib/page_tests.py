@@ -5,8 +5,8 @@ without tests, a run that is cancelled, and saving the tests with the session an
 import re
 import time
 
-from page_in_browser import (GET_STATUS, GET_TEXT_OF_EDITOR, PUT_INTO_EDITOR, choose_example, send_lines, choose_from_file_menu, reopen_page, show_text,
-                             until_ready)
+from page_basics import (GET_STATUS, GET_TEXT_OF_EDITOR, PUT_INTO_EDITOR, choose_example, send_lines, choose_from_file_menu, reopen_page, show_text,
+                         wait_until_ready)
 from page_texts import GET_NAME, wait_for_download, rename_session
 from verdicts import eventually, verdict
 
@@ -138,7 +138,7 @@ def check_saved_tests(browser, folder):
     browser.script(PUT_INTO_EDITOR, EDITOR, "test mine\n  run 5")
     time.sleep(1)
     browser.reload()
-    until_ready(browser)
+    wait_until_ready(browser)
     show_text(browser, "tests")
     eventually(browser, "the tests are unchanged after a reload", GET_TEXT_OF_EDITOR.replace("arguments[0]", f"'{EDITOR}'"), "test mine\n  run 5")
     rename_session(browser, "with tests")

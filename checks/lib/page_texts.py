@@ -7,8 +7,8 @@ import subprocess
 import time
 import zlib
 
-from page_in_browser import (ESCAPE, GET_ALL_NOTICES, GET_NOTICE, GET_STATUS, choose_example, send_lines, choose_from_file_menu, reopen_page, show_text,
-                             status_of, pause_running_time, until_ready)
+from page_basics import (ESCAPE, GET_ALL_NOTICES, GET_NOTICE, GET_STATUS, choose_example, send_lines, choose_from_file_menu, reopen_page, show_text,
+                         status_of, pause_running_time, wait_until_ready)
 from verdicts import eventually, verdict
 
 TOP = pathlib.Path(__file__).resolve().parent.parent.parent
@@ -125,7 +125,7 @@ def check_undoing_replacement(browser):
     browser.click("#notice .dismiss")
     time.sleep(1)
     browser.reload()
-    until_ready(browser)
+    wait_until_ready(browser)
     verdict("the source is unchanged after a reload", browser.script(GET_PROGRAM_TEXT), user_source)
 
 
@@ -258,7 +258,7 @@ def check_link(browser, page):
     eventually(browser, "the same link causes the question again", GET_QUESTION, re.compile("my light"))
     browser.click("#ask .bar button:first-child")
     eventually(browser, "the link opens as a session", GET_NAME, "my light")
-    until_ready(browser)
+    wait_until_ready(browser)
     verdict("the session has the texts of the link", browser.script(GET_TEXTS), [BOARD, PROGRAM])
     verdict("the session is saved", count_saved_sessions(browser), stored_count + 1)
     browser.click("#close-sessions")

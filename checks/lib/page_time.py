@@ -6,7 +6,7 @@ import pathlib
 import re
 import subprocess
 
-from page_in_browser import GET_DIGITS, GET_RATE, GET_STATUS, SET_SPEED, STEPPED, choose_example, key, send_lines, pause_running_time, until_ready
+from page_basics import GET_DIGITS, GET_RATE, GET_STATUS, SET_SPEED, STEPPED, choose_example, key, send_lines, pause_running_time, wait_until_ready
 from verdicts import eventually, verdict
 
 TOP = pathlib.Path(__file__).resolve().parent.parent.parent
@@ -258,7 +258,7 @@ def check_going_back(browser):
     send_lines(browser, "poke r5 9")
     eventually(browser, "a new command removes the way forward", "return document.getElementById('forward').disabled", True)
     browser.reload()
-    until_ready(browser)
+    wait_until_ready(browser)
     verdict("the saved session has the new command", re.search("r [0-9A-F]{5}9", send_lines(browser, "regs")) is not None, True)
     browser.click("#back-stop")
     eventually(browser, "going back after a reload leads to the stop before it", GET_STATUS, re.compile("^Back at the stop at 000"))
@@ -280,7 +280,7 @@ def check_unreachable_goal(browser):
     browser.click("#out")
     browser.wait_until(GET_STATUS, re.compile("^Running to"))
     browser.reload()
-    until_ready(browser)
+    wait_until_ready(browser)
     eventually(browser, "a reload ends the run, and the status reports that", GET_STATUS, re.compile("^Paused at 002: the return from the subroutine was not reached, because "
                                                                               "the page was reloaded"))
     browser.click("#back-stop")
@@ -356,7 +356,7 @@ def check_slow_motion(browser):
 def check(browser, page, folder, mcs4):
     program = Program(folder, mcs4)
     browser.open(page.as_uri())
-    until_ready(browser)
+    wait_until_ready(browser)
     check_step_over(browser, program, "three lamps", "three_lamps")
     check_step_over(browser, program, "calculator", "calculator")
     check_run_to_row(browser)

@@ -5,7 +5,7 @@ bench's answers."""
 import re
 
 from browser_driver import matches
-from page_in_browser import GET_STATUS, GET_WHOLE_STATUS, choose_example, send_lines, reopen_page, status_of, pause_running_time
+from page_basics import GET_STATUS, GET_WHOLE_STATUS, choose_example, send_lines, reopen_page, status_of, pause_running_time
 from page_names import GET_EXPLANATION, point_at
 from verdicts import eventually, verdict
 

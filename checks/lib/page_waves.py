@@ -8,7 +8,7 @@ import re
 import subprocess
 import time
 
-from page_in_browser import GET_NOTICE, GET_STATUS, choose_example, send_lines, choose_from_file_menu, show_text, pause_running_time, until_ready
+from page_basics import GET_NOTICE, GET_STATUS, choose_example, send_lines, choose_from_file_menu, show_text, pause_running_time, wait_until_ready
 from picture import write_picture
 from verdicts import eventually, verdict
 
@@ -412,7 +412,7 @@ def check_pointer_actions(browser):
     eventually(browser, "Enter unfolds the group", GET_NAMES, "lamp15 lamp14 tens")
     eventually(browser, "the saved arrangement of the rows", READ_STORED_ROWS, ["lamp15", "lamp14", "lamp13", "tens", "digit"])
     browser.reload()
-    until_ready(browser)
+    wait_until_ready(browser)
     record(browser, 5000)
     browser.script(CHOOSE_LINES, ["lamp13", "lamp14", "lamp15"])
     eventually(browser, "the arrangement of the rows after a reload", GET_NAMES, "lamp15 lamp14 tens")
@@ -451,7 +451,7 @@ def check_rejected_recordings(browser):
 
 def check(browser, page, folder, mcs4):
     browser.open(page.as_uri())
-    until_ready(browser)
+    wait_until_ready(browser)
     check_stopwatch(browser)
     check_click_moves_cursor(browser)
     check_long_recording(browser)
@@ -470,7 +470,7 @@ def take_picture(browser, page, path):
     """Takes a screenshot of the stopwatch with a hundredth of a second between the cursors, and writes it to a file."""
     browser.send_command("Emulation.setDeviceMetricsOverride", width=1440, height=900, deviceScaleFactor=1, mobile=False)
     browser.open(page.as_uri())
-    until_ready(browser)
+    wait_until_ready(browser)
     choose_example(browser, "stopwatch")
     send_lines(browser, "test 0")
     record(browser, 5000)

@@ -3,7 +3,7 @@ page remembers the layout, and can reset it. The check also covers what a new us
 
 import re
 
-from page_in_browser import ENTER, ESCAPE, GET_STATUS, choose_example, reopen_page, show_text, pause_running_time, until_ready
+from page_basics import ENTER, ESCAPE, GET_STATUS, choose_example, reopen_page, show_text, pause_running_time, wait_until_ready
 from verdicts import eventually, verdict
 
 HOME, UP, RIGHT, LEFT, F1 = "\ue011", "\ue013", "\ue014", "\ue012", "\ue031"
@@ -48,7 +48,7 @@ def check_splitters(browser):
         verdict(f"{splitter}: the arrow keys enlarge the panel", browser.script(MEASURE_PANEL, panel, direction), size_before + 40)
         verdict(f"{splitter}: its value is the size", browser.script("return document.activeElement.getAttribute('aria-valuenow')"), str(size_before + 40))
         browser.reload()
-        until_ready(browser)
+        wait_until_ready(browser)
         verdict(f"{splitter}: a reload keeps the size", browser.script(MEASURE_PANEL, panel, direction), size_before + 40)
         browser.script("document.getElementById(arguments[0]).focus()", splitter)
         browser.type_keys([HOME])
@@ -70,7 +70,7 @@ def check_panels(browser):
         verdict(f"{panel} is closed", browser.script(FIND_SHOWN, PANELS), [other_panel for other_panel in PANELS if other_panel != panel])
         if panel in ("front", "memory"):
             browser.reload()
-            until_ready(browser)
+            wait_until_ready(browser)
             verdict(f"{panel} is still closed after a reload", browser.script(FIND_SHOWN, [panel]), [])
         click_in_panel_menu(browser, panel, "input")
         verdict(f"{panel} is open again", browser.script(FIND_SHOWN, PANELS), PANELS)
@@ -95,7 +95,7 @@ def check_layout_reset(browser):
     verdict("a reset unfolds panels", browser.script("return document.querySelector('#memory .fold').getAttribute('aria-expanded')"), "true")
     verdict("a reset restores the sizes", browser.script(MEASURE_PANEL, "side", "vertical") <= width_before - 60, True)
     browser.reload()
-    until_ready(browser)
+    wait_until_ready(browser)
     verdict("the default layout after a reload", (browser.script(FIND_SHOWN, PANELS), browser.script(MEASURE_PANEL, "side", "vertical") <= width_before - 60), (PANELS, True))
 
 
@@ -390,7 +390,7 @@ def check_layout_shifts(browser, page, set_size):
         set_size(browser, width, height, width < 700)
         browser.open("about:blank")
         browser.open(f"{page.as_uri()}#example=calculator")
-        until_ready(browser)
+        wait_until_ready(browser)
         eventually(browser, "the example is running", GET_STATUS, re.compile("^Running"))
         verdict(f"the elements that move after the first paint at {width}", browser.script(MEASURE_SHIFTS), [])
     browser.restore_size()

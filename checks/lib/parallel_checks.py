@@ -98,7 +98,7 @@ class Check:
 
 
 CHECKS = [
-    Check("page", "python3 node esbuild", 20, "--half 1", quick="--only layout use --browser Chromium", part="1", browser_seconds=350),
+    Check("page", "python3 node esbuild", 20, "--half 1", quick="--only layout basics --browser Chromium", part="1", browser_seconds=350),
     Check("page", "python3 node esbuild", 20, "--half 2 --scripts 100", long="--half 2 --scripts 400 --anew", part="2", browser_seconds=350),
     Check("power", "python3 cc", 240, "--seconds 240", long="--long"),
     Check("page_source", "python3 node", 150, needs_of_parts="tsc eslint esbuild", quick=""),

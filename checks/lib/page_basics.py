@@ -87,7 +87,7 @@ try {
 GET_VIOLATIONS = "return [...window.violations].sort().join(' ') + (window.injected ? ', but the script ran' : '')"
 
 
-def until_ready(browser):
+def wait_until_ready(browser):
     """Waits at most 90 seconds until the page is ready, because that can take long on a busy machine. Closes the cards of a first visit."""
     eventually(browser, "the page is ready", IS_READY, True, 90)
     browser.script(CLOSE_CARDS)
@@ -97,7 +97,7 @@ def reopen_page(browser, page):
     """Opens a blank page, and then the page again."""
     browser.open("about:blank")
     browser.open(page.as_uri())
-    until_ready(browser)
+    wait_until_ready(browser)
 
 
 def pause_running_time(browser):
@@ -143,7 +143,7 @@ def check_calculator(browser):
         time.sleep(0.08)
     eventually(browser, "the result of 12 + 30, typed with the pointer", GET_DIGITS, "42")
     browser.reload()
-    until_ready(browser)
+    wait_until_ready(browser)
     eventually(browser, "the display after a reload", GET_DIGITS, "42")
     browser.type_keys([ESCAPE, "7", "-", "9", ENTER])
     eventually(browser, "the result of 7 - 9, typed on the keyboard", GET_DIGITS, "-2")
@@ -327,7 +327,7 @@ def check_speed_field(browser):
         # Treat a page from the browser's cache as ready when it is shown again.
         browser.script("const { dataset } = document.body; delete dataset.ready; addEventListener('pageshow', () => { dataset.ready = 'again'; })")
         return_to_page()
-        until_ready(browser)
+        wait_until_ready(browser)
         is_full = browser.wait_until("const field = document.getElementById('speed'); return field ? field.value : ''", re.compile("^(full|real)$")) == "full"
         # The first rate reported at full speed can still be low.
         eventually(browser, f"the rate of cycles after {action} is that of the speed field", GET_RATE, re.compile("^[2-9].{5}$|^.{7,}$" if is_full else "^[1-9].{4}$"))
@@ -390,7 +390,7 @@ def check_two_tabs(browser):
     first_tab = browser.current_tab()
     browser.new_tab()
     browser.open(address)
-    until_ready(browser)
+    wait_until_ready(browser)
     verdict("a notice in the second tab reports that the session is open", browser.script(GET_NOTICE), re.compile("open in another tab"))
     verdict("the second tab shows another session", browser.script("return location.href") != address, True)
     name = browser.script("return document.getElementById('name').value")
@@ -404,7 +404,7 @@ def check_basic_use(browser, page, folder, mcs4):
     """Checks that the calculator, files, breakpoints, the keyboard, texts, tabs and the speed field work in a browser that has all features that the
     page needs."""
     browser.open(page.as_uri())
-    until_ready(browser)
+    wait_until_ready(browser)
     verdict("the page opens without a notice", browser.script(GET_NOTICE), "")
     check_calculator(browser)
     if browser.can_multitouch:
@@ -424,7 +424,7 @@ def check_with_chromium(browser, page):
     """Checks that the page does not scroll sideways on a phone, and that the browser's log has no errors. Only Chromium's driver has the functions
     for this."""
     browser.open(page.as_uri())
-    until_ready(browser)
+    wait_until_ready(browser)
     check_phone_width(browser)
     # The check repeats a script that fails because its result does not exist yet. Such failures are not errors of the page.
     expected_words = ("javascript ", "Script error", "favicon")
@@ -434,7 +434,7 @@ def check_with_chromium(browser, page):
 def check_policy(browser, page):
     """Checks that the page's content security policy forbids everything that TRY_FORBIDDEN tries."""
     browser.open(page.as_uri())
-    until_ready(browser)
+    wait_until_ready(browser)
     browser.script(TRY_FORBIDDEN)
     eventually(browser, "the violations of the content security policy", GET_VIOLATIONS, "base-uri form-action img-src script-src-elem style-src-elem")
 
@@ -449,7 +449,7 @@ def page_figures(browser, page):
 def take_picture(browser, page, path):
     """Takes a screenshot of the calculator on the page for the documents, and writes it to a file."""
     browser.open(page.as_uri())
-    until_ready(browser)
+    wait_until_ready(browser)
     choose_example(browser, "calculator")
     show_text(browser, "program")
     browser.send_command("Emulation.setDeviceMetricsOverride", width=1280, height=800, deviceScaleFactor=1, mobile=False)

@@ -4,8 +4,8 @@ at once, and a reload immediately after an edit. No input may become an element 
 import base64
 import re
 
-from page_in_browser import (ENTER, ESCAPE, GET_NOTICE, GET_STATUS, GET_TEXT_OF_EDITOR, PUT_INTO_EDITOR, choose_example, reopen_page, show_text,
-                             until_ready)
+from page_basics import (ENTER, ESCAPE, GET_NOTICE, GET_STATUS, GET_TEXT_OF_EDITOR, PUT_INTO_EDITOR, choose_example, reopen_page, show_text,
+                         wait_until_ready)
 from verdicts import eventually, verdict
 
 INJECTED_MARKUP = "<img src=x onerror=\"window.injected=1\"><script>window.injected=1</script>"
@@ -110,7 +110,7 @@ def check_dropped_files(browser):
         check_bench_answers(browser, description)
     # The last drop has 60 programs, which the page reads one after another. The last program closes any dialog that is still open.
     browser.wait_until(GET_NOTICE, re.compile(r"^59\.asm is in Source"))
-    until_ready(browser)
+    wait_until_ready(browser)
     browser.script(CLOSE_ALL)
 
 
@@ -161,7 +161,7 @@ def check_reload_after_edit(browser):
     choose_example(browser, "three lamps")
     browser.script(PUT_INTO_EDITOR, "#program-editor", PROGRAM)
     browser.reload()
-    until_ready(browser)
+    wait_until_ready(browser)
     eventually(browser, "a text that was typed immediately before a reload is restored", GET_TEXT_OF_EDITOR.replace("arguments[0]", "'#program-editor'"), PROGRAM)
 
 

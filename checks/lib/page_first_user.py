@@ -6,7 +6,7 @@ import re
 import time
 
 from page_editor import GET_CARET, GET_ERRORS, GET_STATUS_OF, PROGRAM_EDITOR, SET_CARET
-from page_in_browser import DOWN, ENTER, ESCAPE, GET_NOTICE, GET_STATUS, GET_TEXT_OF_EDITOR, STEPPED, TAB, move_focus_until, send_lines, until_ready
+from page_basics import DOWN, ENTER, ESCAPE, GET_NOTICE, GET_STATUS, GET_TEXT_OF_EDITOR, STEPPED, TAB, move_focus_until, send_lines, wait_until_ready
 from page_names import GET_BREAKPOINT_LINES, GET_SOURCE_STATUS
 from page_texts import GET_NAME, GET_PROGRAM_TEXT, GET_QUESTION, GET_TEXTS, wait_for_download
 from verdicts import eventually, verdict
@@ -197,7 +197,7 @@ def check_example(browser):
 def check(browser, page, folder, _mcs4):
     browser.open("about:blank")
     browser.open(page.as_uri())
-    until_ready(browser)
+    wait_until_ready(browser)
     check_offered_board(browser)
     check_typed_program(browser)
     check_board_key(browser)

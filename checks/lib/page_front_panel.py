@@ -5,7 +5,7 @@ import base64
 import re
 import time
 
-from page_in_browser import GET_DIGITS, GET_STATUS, PUT_INTO_EDITOR, TOP, choose_example, move_focus_until, key, show_text, status_of, until_ready
+from page_basics import GET_DIGITS, GET_STATUS, PUT_INTO_EDITOR, TOP, choose_example, move_focus_until, key, show_text, status_of, wait_until_ready
 from picture import write_picture
 from verdicts import eventually, verdict
 
@@ -49,7 +49,7 @@ return [document.getElementById("digits").textContent,
 # The number of segments that are on when a digit is shown.
 SEGMENT_COUNTS = {"0": 6, "1": 2, "2": 5, "3": 5, "4": 4, "5": 5, "6": 6, "7": 3, "8": 7, "9": 6}
 # Records all announcements in `said`. Announcements less than half a second after a change of the display are also recorded in `saidEarly`. The page
-# must not announce the display until it has been unchanged for a second. On a busy machine, the display can be unchanged for so long even while the
+# must not announce the display until it has been unchanged for a second. On a busy machine, the display can be unchanged for a second even while the
 # stopwatch is running.
 WATCH_ANNOUNCEMENTS = """
 const watch = (id, then) => new MutationObserver(then)
@@ -93,7 +93,7 @@ def check_traffic_light(browser):
 
 
 def check_test_button(browser):
-    """Checks that the TEST button WALK is down only while it is held by finger, letter or space bar. While time is paused, a click must toggle it."""
+    """Checks that the TEST button WALK is down only while it is held with a finger, its letter or the space bar. While time is paused, a click must toggle it."""
     verdict("TEST is a button with its name", browser.text_of(f"{TEST_KEY} b"), "WALK")
     verdict("the other TEST button is hidden", browser.script("return document.getElementById('test').hidden"), True)
     browser.script(f"window.presses = []; new MutationObserver(() => window.presses.push(document.querySelector('{TEST_KEY}')"
@@ -212,7 +212,7 @@ def check_panel_errors(browser):
         time.sleep(1.5)
         verdict(f"the front panel of a text {description} is shown only after the board is applied", [browser.script(GET_TITLE), browser.script(GET_PANEL_ERRORS)], ["Another", ""])
     browser.reload()
-    until_ready(browser)
+    wait_until_ready(browser)
     eventually(browser, "a reload does not show the new front panel", GET_TITLE, "Another")
     status_of(browser, "#board-editor", "# title: Third\n" + board_of_lamps(15))
     eventually(browser, "the new front panel is shown after the board is applied", GET_TITLE, "Third")
@@ -239,7 +239,7 @@ def check_three_lamps(browser):
 
 def check(browser, page, _folder, _mcs4):
     browser.open(page.as_uri())
-    until_ready(browser)
+    wait_until_ready(browser)
     check_traffic_light(browser)
     check_stopwatch(browser)
     check_die(browser)
@@ -255,7 +255,7 @@ def check(browser, page, _folder, _mcs4):
 def take_pictures(browser, page, folder):
     """Takes screenshots of three boards on the page for the documents, as PNG files in a folder."""
     browser.open(page.as_uri())
-    until_ready(browser)
+    wait_until_ready(browser)
     browser.send_command("Emulation.setDeviceMetricsOverride", width=1280, height=1400, deviceScaleFactor=1, mobile=False)
     for name, keys in (("traffic light", ""), ("calculator", "22/7="), ("stacker", "ddd")):
         choose_example(browser, name)

@@ -4,8 +4,8 @@ import re
 import time
 
 from page_altered import REQUEST_FAILURE, EXPOSE_WORKER, INSTALL_FAILURES, write_altered_page
-from page_in_browser import (ENTER, ESCAPE, GET_DIGITS, GET_NOTICE, GET_STATUS, GET_TEXT_OF_EDITOR, IS_READY, PUT_INTO_EDITOR, choose_example,
-                             send_lines, reopen_page, pause_running_time, until_ready)
+from page_basics import (ENTER, ESCAPE, GET_DIGITS, GET_NOTICE, GET_STATUS, GET_TEXT_OF_EDITOR, IS_READY, PUT_INTO_EDITOR, choose_example,
+                         send_lines, reopen_page, pause_running_time, wait_until_ready)
 from verdicts import eventually, verdict
 from web_driver import Chromium
 
@@ -42,7 +42,7 @@ def dismiss_notice(browser):
 def check_failures(browser, page, folder):
     """Checks that the session survives a trap in the module, a lack of memory, a worker that dies or hangs, and a full store."""
     browser.open(write_altered_page(page, folder, EXPOSE_WORKER, INSTALL_FAILURES).as_uri())
-    until_ready(browser)
+    wait_until_ready(browser)
     choose_example(browser, "calculator")
     browser.type_keys([ESCAPE, "1", "2"])
     browser.wait_until(GET_DIGITS, "12")
@@ -114,18 +114,18 @@ window.ticking = setInterval(() => {
   before = performance.now();
 }, 20)"""
 # With `?hang` in the address, the page never finishes opening a session, and does not receive the events that report that the user leaves. With
-# `?deaf=EVENT`, the page does not receive EVENT.
-MAKE_DEAF = """
-const deaf = (name) => addEventListener(name, (event) => event.stopImmediatePropagation(), true);
-if (location.search.startsWith("?deaf=")) deaf(location.search.slice(6));
+# `?block=EVENT`, the page does not receive EVENT.
+BLOCK_EVENTS = """
+const block = (name) => addEventListener(name, (event) => event.stopImmediatePropagation(), true);
+if (location.search.startsWith("?block=")) block(location.search.slice(7));
 if (location.search === "?hang") {
   const post = Worker.prototype.postMessage;
   Worker.prototype.postMessage = function (message, ...rest) {
     if (message.call === "open") window.hung = true;
     else post.call(this, message, ...rest);
   };
-  deaf("beforeunload");
-  deaf("pagehide");
+  block("beforeunload");
+  block("pagehide");
 }"""
 # A flag in the browser's storage marks a session that is being opened. A flag that remains shows that the page hung. AGE_FLAGS makes all flags old.
 COUNT_FLAGS = "return Object.keys(localStorage).filter((key) => key.startsWith('fethsaim.opening')).length"
@@ -215,12 +215,12 @@ def check_no_locks(browser, page, folder):
     pause_running_time(browser)
     browser.new_tab()
     browser.open(address)
-    until_ready(browser)
+    wait_until_ready(browser)
     verdict("the second tab executes its line", send_lines(browser, "poke r5 9"), re.compile(r"poke r5 9ok \d+"))
     browser.close_tab(first_tab)
     verdict("the first tab reports that its line is not saved", send_lines(browser, "poke r5 3"), re.compile("not kept: another tab has changed"))
     browser.reload()
-    until_ready(browser)
+    wait_until_ready(browser)
     verdict("the saved session has the second tab's line", send_lines(browser, "regs"), re.compile(" r .{5}9"))
     verdict("a closed page does not prevent another page from opening the session", reopen(browser, page.as_uri()), "")
 
@@ -240,7 +240,7 @@ def check_little_memory(page, folder):
     browser = Chromium(folder / "little", str(folder / "downloads"), ["--js-flags=--wasm-max-mem-pages=80"])
     try:
         browser.open(page.as_uri())
-        until_ready(browser)
+        wait_until_ready(browser)
         pause_running_time(browser)
         # Use only the last word, because the log can get an entry about runs before the answer.
         number_before = send_lines(browser, "seq").split()[-1]
@@ -257,7 +257,7 @@ def reopen(browser, address):
     """Leaves the page and opens it again. Returns its notice."""
     browser.open("about:blank")
     browser.open(address)
-    until_ready(browser)
+    wait_until_ready(browser)
     return browser.script(GET_NOTICE)
 
 
@@ -271,10 +271,10 @@ def open_hanging_session(browser, address):
 
 def check_leaving_early(browser, address, session):
     """Checks that a page that the user leaves within a second does not count as hung, whichever event reports to the page that the user leaves."""
-    for query in ("", *(["?deaf=beforeunload"] if browser.always_calls_pagehide else []), "?deaf=pagehide"):
+    for query in ("", *(["?block=beforeunload"] if browser.always_calls_pagehide else []), "?block=pagehide"):
         browser.open("about:blank")
         browser.open(address.replace(".html", f".html{query}") + session)
-        until_ready(browser)
+        wait_until_ready(browser)
         text = f"; left {query}\n"
         browser.script(PUT_INTO_EDITOR, "#program-editor", text)
         browser.open("about:blank")
@@ -288,7 +288,7 @@ def check_leaving_early(browser, address, session):
 def check_unfinished_opening(browser, page, folder):
     """Checks that the page does not open a session automatically if the page hung when it opened this session the last time. A message reports that,
     and the user can open or delete the session."""
-    hanging_page = write_altered_page(page, folder, MAKE_DEAF).as_uri()
+    hanging_page = write_altered_page(page, folder, BLOCK_EVENTS).as_uri()
     reopen(browser, hanging_page)
     browser.script(REMOVE_FLAGS)
     choose_example(browser, "die")

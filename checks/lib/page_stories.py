@@ -4,9 +4,9 @@ link's text says, by pointer and keyboard, also on a phone. The check also cover
 import re
 import time
 
-from page_in_browser import ENTER, GET_DIGITS, GET_NOTICE, GET_STATUS, GET_WHOLE_STATUS, IS_READY, SET_SPEED, choose_example, status_of, until_ready
+from page_basics import ENTER, GET_DIGITS, GET_NOTICE, GET_STATUS, GET_WHOLE_STATUS, IS_READY, SET_SPEED, choose_example, status_of, wait_until_ready
 from page_layout import MEASURE_OVERFLOW, set_size
-from page_strip import GET_PRINTER_TAPE
+from page_printer import GET_PRINTER_TAPE
 from verdicts import eventually, verdict
 from web_driver import Chromium
 
@@ -167,7 +167,7 @@ def check_last_step(browser):
 def check_leaving(browser):
     """Checks that a reload opens the story at its first step, and that Leave closes it."""
     browser.reload()
-    until_ready(browser)
+    wait_until_ready(browser)
     eventually(browser, "a reload opens the story at its first step", GET_TITLE, "1 of 6: A sum")
     verdict("the address still names the session", browser.script("return location.hash"), re.compile("^#session="))
     browser.click("#tour-close")
@@ -177,7 +177,7 @@ def check_leaving(browser):
 def check_other_sessions(browser, page):
     """Checks that an unknown story is reported, that the list of examples opens a story, and that another session has no story."""
     browser.open(f"{page.as_uri()}?story=no%20such")
-    until_ready(browser)
+    wait_until_ready(browser)
     eventually(browser, "an unknown story is reported", GET_NOTICE, 'The address names a story, "no such", that this page does not have.')
     verdict("the last session is open", browser.script(GET_SESSION_NAME), "printing calculator")
     browser.click("#sessions-button")

@@ -4,7 +4,7 @@ always shows its number. A display that the program shifts in after a key press 
 
 import re
 
-from page_in_browser import GET_DIGITS, GET_STATUS, SET_SPEED, TOP, choose_example, send_lines, status_of, until_ready
+from page_basics import GET_DIGITS, GET_STATUS, SET_SPEED, TOP, choose_example, send_lines, status_of, wait_until_ready
 from verdicts import eventually, verdict
 
 ROM = '[[rom]]\nchip = 0\nport = "0000"\n'
@@ -14,7 +14,7 @@ PULSES_PROGRAM = "FIM P0, 0\nSRC P0\nloop: LDM 5\nWRR\nNOP\nLDM 6\nWRR\nFIM P1, 
 # A board with a display, and a program that shifts the number 42 into it again and again, segment by segment.
 REFRESHED_BOARD, REFRESHED_PROGRAM = ((TOP / f"js/test/two_digits.{kind}").read_text() for kind in ("toml", "asm"))
 GET_BRIGHTNESS_STATUS = "return document.getElementById('brightness-status').textContent"
-# Records the brightness of each lamp and the text of the display in each frame, for as many milliseconds as the argument says.
+# Records the brightness of each lamp and the text of the display in each frame, for a time in milliseconds, which is the argument.
 RECORD_BRIGHTNESS = """
 window.shines = [];
 window.numbers = [];
@@ -133,7 +133,7 @@ def check_pictures(browser):
 
 def check(browser, page, _folder, _mcs4):
     browser.open(page.as_uri() + "#example=empty%20bench")
-    until_ready(browser)
+    wait_until_ready(browser)
     status_of(browser, "#board-editor", PULSES_BOARD)
     status_of(browser, "#program-editor", PULSES_PROGRAM)
     for speed in ("real", "tenth", "full"):
