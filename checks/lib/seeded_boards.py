@@ -34,7 +34,7 @@ class Wiring:
         outputs += [[f"ram{bank}.{chip}.{k}" for k in range(4)] for bank, chips in self.banks.items() for chip in range(chips)]
         self.outputs = [lines for lines in outputs if lines]
         self.inputs = [f"rom{chip}.{3 - i}" for chip, port in self.ports.items() for i in range(4) if port[i] == "i"]
-        self.chains = [self.random_chain() for _n in range(rng.choice([0, 1, 1, 1, 2, 4]))] if self.outputs else []
+        self.chains = [self.chain() for _n in range(rng.choice([0, 1, 1, 1, 2, 4]))] if self.outputs else []
         self.rows = self.first = self.driver = 0
         self.columns: list[str] = []
         if self.chains and self.inputs:
@@ -47,7 +47,7 @@ class Wiring:
         self.lines = [line for lines in self.outputs for line in lines] + bits_of_chains
         self.lamps = rng.choices(self.lines, k=rng.choice([0, 3, 8, 20])) if self.lines else []
 
-    def random_chain(self) -> tuple[str, str, int]:
+    def chain(self) -> tuple[str, str, int]:
         """Returns the clock and the data of a chain, usually on the same port, and its number of chips."""
         lines = self.rng.choice(self.outputs)
         data_lines = lines if self.rng.random() < 0.8 else self.rng.choice(self.outputs)
@@ -85,13 +85,13 @@ class Program:
                 self.put_phrases(256 * page + word, rng.randrange(4, 30))
             if rng.random() < 0.5:
                 self.put_end_of_page(256 * page)
-        self.instruction_addresses = [address for address, statement in self.statements.items() if not statement.startswith("DB")]
+        self.begins = [address for address, statement in self.statements.items() if not statement.startswith("DB")]
         self.names = self.random_labels()
 
     def put_phrases(self, address: int, phrase_count: int) -> None:
         """Adds phrases (short sequences of instructions) from an address on, as far as there is room. Usually ends them with a jump, or with a code
         that is not an instruction."""
-        statement = [word for _n in range(phrase_count) for word in self.random_phrase()]
+        statement = [word for _n in range(phrase_count) for word in self.phrase()]
         self.put(address, statement + self.rng.choice([["JUN"], ["JUN"], ["BBL 3"], [f"DB 0x{self.rng.choice(INVALID_CODES):02X}"], []]))
 
     def put(self, address: int, statements: list[str]) -> None:
@@ -117,12 +117,12 @@ class Program:
             name = self.rng.choice(["ISZ R3", "JCN 12", "JCN 4", "JIN P2", "FIN P2"])
             self.put(page + 0xFC, [*self.rng.randrange(2, 4) * ["NOP"], name])
 
-    def random_phrase(self) -> list[str]:
+    def phrase(self) -> list[str]:
         """Returns a few instructions that belong together, or a single instruction of any kind."""
         kind = self.rng.random()
         value, pair = self.rng.randrange(16), self.rng.randrange(8)
         if kind < 0.15:
-            return [f"FIM P{pair}, 0x{self.random_src_byte():02X}", f"SRC P{pair}"]
+            return [f"FIM P{pair}, 0x{self.src_byte():02X}", f"SRC P{pair}"]
         if kind < 0.20:
             return [f"LDM {self.rng.choice([*self.wiring.banks, value])}", "DCL"]
         if kind < 0.40 and self.wiring.chains:
@@ -133,9 +133,9 @@ class Program:
             return [self.rng.choice(["STC", "CLC"]), f"LDM {value}", "DAA"]
         if kind < 0.57:
             return [f"LDM {value}", self.rng.choice(["WRM", "WMP", "WRR", f"WR{value % 4}"])]
-        return [self.random_instruction(value, pair)]
+        return [self.any_instruction(value, pair)]
 
-    def random_src_byte(self) -> int:
+    def src_byte(self) -> int:
         """Returns an SRC byte, usually that of an existing chip."""
         return self.rng.choice([16 * self.rng.choice([*self.wiring.ports]), self.rng.randrange(64), self.rng.randrange(256)])
 
@@ -151,7 +151,7 @@ class Program:
         pulse = [up, write, down, write]
         return selection + (self.rng.randrange(1, 6) * pulse if self.rng.random() < 0.5 else [*pulse, f"ISZ R{self.rng.randrange(16)} ^5"])
 
-    def random_instruction(self, value: int, pair: int) -> str:
+    def any_instruction(self, value: int, pair: int) -> str:
         """Returns a random instruction of any kind. The target of a jump is added later."""
         name = self.rng.choice([*CODES_WITHOUT_OPERAND, *CODES_ON_REGISTER, *CODES_ON_PAIR, *JUMPS, "FIM", "LDM", "BBL", "ISZ", "JMS"])
         if name == "FIM":
@@ -161,17 +161,17 @@ class Program:
 
     def random_labels(self) -> dict[int, str]:
         """Returns labels for some of the addresses. Some of the labels look like numbers."""
-        labelled_addresses = self.rng.sample(self.instruction_addresses, min(len(self.instruction_addresses), self.rng.choice([0, 2, 12])))
+        labelled_addresses = self.rng.sample(self.begins, min(len(self.begins), self.rng.choice([0, 2, 12])))
         return {address: NAMES[i] if i < len(NAMES) else f"l{address:03X}" for i, address in enumerate(labelled_addresses)}
 
-    def random_target(self, address: int, name: str) -> str:
+    def target(self, address: int, name: str) -> str:
         """Returns the target of a jump as a name or a number, usually that of an instruction."""
         if address in self.loops:
             return self.names.get(self.loops[address], f"0x{self.loops[address]:03X}")
         page = (address + 2) % ADDRESS_COUNT >> 8 if name in ("JCN", "ISZ") else self.rng.choice(self.wiring.pages)
-        candidates = [candidate for candidate in self.instruction_addresses if candidate >> 8 == page]
+        candidates = [begin for begin in self.begins if begin >> 8 == page]
         # The targets up to 12 bytes before the jump, which make a short loop.
-        near_targets = [candidate for candidate in candidates if address - 12 < candidate <= address]
+        near_targets = [begin for begin in candidates if address - 12 < begin <= address]
         if name == "ISZ" and near_targets and self.rng.random() < 0.7:
             candidates = near_targets
         target_address = self.rng.choice(candidates) if candidates and self.rng.random() < 0.95 else 256 * page + self.rng.randrange(256)
@@ -184,7 +184,7 @@ class Program:
             statement = self.statements[address]
             name = statement.split()[0]
             if name in JUMPS:
-                statement += (", " if name in ("JCN", "ISZ") else " ") + self.random_target(address, name)
+                statement += (", " if name in ("JCN", "ISZ") else " ") + self.target(address, name)
             if address != next_address:
                 lines.append(f"        ORG 0x{address:03X}")
             label = f"{self.names[address]}:" if address in self.names else ""
@@ -207,17 +207,17 @@ class SeededSession:
         """Returns the session lines that set up the board and the program."""
         return ["wire", *self.board_text, ".", "asm", *self.program_text, "."]
 
-    def random_address(self) -> int:
+    def address(self) -> int:
         """Returns an address, usually of an instruction, and often before a loop that clocks a chain, or at the end of a page."""
         loops = [target_address - 3 for target_address in self.program.loops.values()]
         if loops and self.rng.random() < 0.3:
             return self.rng.choice(loops)
-        ends = [address for address in self.program.instruction_addresses if address & 0xFC == 0xFC]
+        ends = [address for address in self.program.begins if address & 0xFC == 0xFC]
         if ends and self.rng.random() < 0.2:
             return self.rng.choice(ends)
-        return self.rng.choice(self.program.instruction_addresses) if self.rng.random() < 0.95 else self.rng.randrange(ADDRESS_COUNT)
+        return self.rng.choice(self.program.begins) if self.rng.random() < 0.95 else self.rng.randrange(ADDRESS_COUNT)
 
-    def random_ram_nibble(self) -> tuple[int, int]:
+    def ram_nibble(self) -> tuple[int, int]:
         """Returns the bank and the SRC byte of a RAM nibble, usually of an existing chip."""
         bank = self.rng.choice([*self.wiring.banks, self.rng.randrange(8)])
         return bank, self.rng.choice([self.program.src_byte(), self.rng.randrange(256)])
@@ -225,9 +225,9 @@ class SeededSession:
     def random_command(self) -> str:
         """Returns a command that changes something. Some of these commands are rejected."""
         rng = self.rng
-        bank, src = self.random_ram_nibble()
+        bank, src = self.ram_nibble()
         value = rng.randrange(16)
-        kinds = [f"poke pc 0x{self.random_address():03X}"] * 4 + [
+        kinds = [f"poke pc 0x{self.address():03X}"] * 4 + [
             f"poke acc {value}", f"poke cy {value % 2}", f"poke dcl {value % 8}", f"poke r{rng.randrange(16)} {value}",
             f"poke ram.{bank}.{src} {value}", f"poke st.{bank}.{src >> 4}.{rng.randrange(4)} {value}", f"test {value % 2}"]
         if self.wiring.columns:
@@ -235,9 +235,9 @@ class SeededSession:
             kinds += [f"press {key}"] * 3 + [f"release {key}"]
         return rng.choice(kinds)
 
-    def random_stop_command(self, board: Board) -> str:
+    def stop_command(self, board: Board) -> str:
         """Returns a command that sets or removes a breakpoint or a watch, usually one that the program soon reaches, or at which it has stopped."""
-        board_ahead, visited, written_nibbles = board.copy(), [board.pc], [self.random_ram_nibble()]
+        board_ahead, visited, written_nibbles = board.copy(), [board.pc], [self.ram_nibble()]
         board_ahead.breaks = set()
 
         def note_address(_done: int, address: int) -> None:
@@ -245,20 +245,20 @@ class SeededSession:
             written_nibbles.extend([(board_ahead.dcl, board_ahead.chips.bank_src[board_ahead.dcl])] if board_ahead.rom[address] == 0xE0 else [])
 
         board_ahead.run(300, note_address)
-        address, (bank, src) = self.rng.choice([board.pc, self.random_address(), *visited[-20:]]), self.rng.choice(written_nibbles)
+        address, (bank, src) = self.rng.choice([board.pc, self.address(), *visited[-20:]]), self.rng.choice(written_nibbles)
         return self.rng.choice([f"break {address}"] * 2 + [f"unbreak {address}"] + [f"watch {bank} {src}"] * 2 + [f"unwatch {bank} {src}"])
 
-    def random_trace_place(self) -> str:
+    def trace_place(self) -> str:
         """Returns a place for `trace`, which the board does not always have."""
         rng = self.rng
-        bank, src = self.random_ram_nibble()
+        bank, src = self.ram_nibble()
         line = rng.choice(self.wiring.lines + self.wiring.inputs + [f"chain{rng.randrange(4)}.{rng.randrange(80)}"])
         ram_line = f"ram{rng.randrange(8)}.{rng.randrange(4)}.{rng.randrange(4)}"
-        return rng.choice(["acc", "cy", "pc", "dcl", f"r{rng.randrange(16)}", f"rom.0x{self.random_address():x}", f"ram.{bank}.{src}",
+        return rng.choice(["acc", "cy", "pc", "dcl", f"r{rng.randrange(16)}", f"rom.0x{self.address():x}", f"ram.{bank}.{src}",
                               f"st.{bank}.{src >> 4}.{rng.randrange(4)}", "ret", "lamps", "src", line, line, line, ram_line,
                               line.rpartition(".")[0], line.rpartition(".")[0], ram_line.rpartition(".")[0], f"rom{rng.randrange(16)}",
                               f"chain{rng.randrange(4)}"])
 
-    def random_run_length(self) -> int:
+    def run_length(self) -> int:
         """Returns the length of a run in cycles."""
         return self.rng.choice([1, 2, 3, self.rng.randrange(1, 60), self.rng.randrange(1, 400), self.rng.randrange(1, 1500)])

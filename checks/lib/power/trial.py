@@ -251,7 +251,7 @@ class Runner:
         contents = f"{examined_image.contents} commands" if isinstance(examined_image.contents, int) else examined_image.contents
         range_end = f" to {image.last_event}" if image.last_event > image.first_event else ""
         return (f"cut at {image.first_event}{range_end} of {event_count} ({image.phase}): {acknowledged} acknowledged{' in the end' * bool(range_end)}, "
-                f"command {image.max_commands} sent, found: {contents}; {image.durable} writes durable, of {len(image.parts)} others {image.selection}")
+                f"command {image.max_commands} sent, found: {contents}; {image.durable_count} writes durable, of {len(image.parts)} others {image.selection}")
 
     # --- stored images, and the next disk
 
