@@ -136,7 +136,7 @@ function printDiagnostics(diagnostics) {
 async function checkProgram(display) {
   const kate = new Kate(display, "wrong.asm", ["-l", "39", "-c", "9"]);
   try {
-    await waitFor("the question", () => kate.window(QUESTION));
+    await waitFor("the question", () => kate.findWindow(QUESTION));
     printLine(isMarked() ? "a line is marked too early" : "no line is marked");
     const diagnostics = await kate.waitForDiagnostics();
     const [{ params: { textDocument: opened } }] = sent("textDocument/didOpen");
@@ -169,7 +169,7 @@ async function checkGrammar(display, file) {
     const diagnostics = await kate.waitForDiagnostics();
     printLine(`by the grammar: ${file}`);
     printDiagnostics(diagnostics);
-    await kate.keys(file, "ctrl+q");
+    await kate.sendKeys(file, "ctrl+q");
     await waitFor("the end", () => kate.child.exitCode !== null);
     printLine(`shutdown ${sent("shutdown").length}, exit ${sent("exit").length}`);
   } finally {

@@ -441,7 +441,7 @@ def main():
             signal.signal(number, signal.SIG_IGN)
         for running in run.running:
             end_processes(running.mark)
-        ended = sum(check is not GATE for check in run.ended)
+        ended = sum(check is not GATE for check in run.ended_checks)
         gate_text = f", and the gate {run.gate.passed_crates} of {run.gate.crate_count} crates" if run.gate else ""
         print(f"test: stopped. {ended} of {len(run.checks)} checks had ended{gate_text}: {run.passed} passed, {run.failed} failed so far", flush=True)
         return 130
