@@ -93,7 +93,8 @@ def check_traffic_light(browser):
 
 
 def check_test_button(browser):
-    """Checks that the TEST button WALK is down only while it is held with a finger, its letter or the space bar. While time is paused, a click must toggle it."""
+    """Checks that the TEST button WALK is down only while it is held with a finger, its letter or the space bar. While time is paused, a click must
+    toggle it."""
     verdict("TEST is a button with its name", browser.text_of(f"{TEST_KEY} b"), "WALK")
     verdict("the other TEST button is hidden", browser.script("return document.getElementById('test').hidden"), True)
     browser.script(f"window.presses = []; new MutationObserver(() => window.presses.push(document.querySelector('{TEST_KEY}')"
@@ -188,8 +189,8 @@ def check_board_without_panel(browser):
 
 
 def check_panel_errors(browser):
-    """Checks that errors in the comments about a front panel are reported, and that the rest of the panel is shown. A typed front panel must be
-    shown early only if the board is the same and has no error."""
+    """Checks that errors in the comments about a front panel are reported, and that the rest of the panel is shown. While the user
+    types, the page must show the changed front panel only if the board is the same and has no error."""
     bad_panel = "# title: Odd <b>one</b>\n# colour 0: pink\n# lamp 16: nobody\n# lamp 0: here <i>x</i>\n# display 15: 1 digit\n# grid 0: ghost\n"
     verdict("a board whose front panel has errors is applied", status_of(browser, "#board-editor", bad_panel + board_of_lamps(16)),
             "Board applied.")
