@@ -20,8 +20,8 @@ from typing import NamedTuple
 
 from board4004 import Board
 from second_search import (
-                           LEVELS_AT_POWER_ON, Condition, Levels, Question, all_keys, allowed_keys, allowed_test_levels, commands, failure_condition, is_reading, load_state,
-                           max_keys_down, power_on, run_cycle, run_lengths, state_of)
+    LEVELS_AT_POWER_ON, Condition, Levels, Question, all_keys, allowed_keys, allowed_test_levels, commands, failure_condition, is_reading, load_state,
+    max_keys_down, power_on, run_cycle, run_lengths, state_of)
 
 # The maximum number of levels that the program tries. It gives up if there are more.
 MAX_LEVELS = 255

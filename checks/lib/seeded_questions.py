@@ -13,8 +13,8 @@ from collections.abc import Iterator
 from assembler import CODES_WITHOUT_OPERAND
 from board4004 import Board
 from second_search import (
-                           MISTAKES, Comparison, InputLimits, Key, Mark, Question, Row, all_keys, cell_value, elapsed_of, run_to_next_state, is_mark_shown, power_on, search,
-                           values_read)
+    MISTAKES, Comparison, InputLimits, Key, Mark, Question, Row, all_keys, cell_value, elapsed_of, run_to_next_state, is_mark_shown, power_on, search,
+    values_read)
 from seeded_boards import INVALID_CODES, Program, SeededSession, Wiring
 
 # Most of the instructions that do not access a chip.
