@@ -36,6 +36,6 @@ for (const name of names) {
   execFileSync("esbuild", options, { cwd: TOP, input: entryModule(name) });
   const { inputs } = JSON.parse(readFileSync(META, "utf8"));
   const sources = Object.keys(inputs).filter((input) => input !== "entry.mjs").sort();
-  writeFileSync(join(folder, "sources", name), `${hashFiles([...sources.map((each) => join(TOP, each)), file])}\n${sources.join("\n")}\n`);
+  writeFileSync(join(folder, "sources", name), `${hashFiles([...sources.map((source) => join(TOP, source)), file])}\n${sources.join("\n")}\n`);
 }
 rmSync(META);

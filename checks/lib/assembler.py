@@ -14,7 +14,7 @@ CODES_WITH_VALUES = {"LDM": ("", 0xD0, [15]), "BBL": ("", 0xC0, [15]), "JUN": ("
                "FIM": ("P", 0x20, [255]), "ISZ": ("R", 0x70, [4095]), "JCN": ("", 0x10, [15, 4095])}
 REGISTERS = {f"R{k}": k for k in range(16)}
 PAIRS = {f"P{k}": k for k in range(8)}
-RESERVED = {*CODES_WITHOUT_OPERAND, *CODES_ON_REGISTER, *CODES_ON_PAIR, *CODES_WITH_VALUES, "WPM", "ORG", "DB", *REGISTERS, *PAIRS}
+RESERVED_WORDS = {*CODES_WITHOUT_OPERAND, *CODES_ON_REGISTER, *CODES_ON_PAIR, *CODES_WITH_VALUES, "WPM", "ORG", "DB", *REGISTERS, *PAIRS}
 ADDRESS_COUNT = 4096
 MAX_NAMES = 512
 # The maximum number of errors in an answer.
@@ -22,7 +22,7 @@ MAX_ERRORS = 100
 
 
 class ProgramError(Exception):
-    """Raised for an error in a program, with the error's number in the manual and the number of the wrong line, from 1 (0 if no single line is
+    """An error in a program, with the error's number in the manual and the number of the wrong line, from 1 (0 if no single line is
     wrong)."""
 
 
@@ -34,8 +34,8 @@ def number_of(word):
 
 
 def is_name(word):
-    """Returns true if a word can be the name of a label or a number."""
-    return re.fullmatch("[A-Za-z_][A-Za-z0-9_]{0,15}", word) is not None and word.upper() not in RESERVED
+    """Returns true if a word can be the name of a label or of a number."""
+    return re.fullmatch("[A-Za-z_][A-Za-z0-9_]{0,15}", word) is not None and word.upper() not in RESERVED_WORDS
 
 
 def tokens_of(line):

@@ -251,7 +251,7 @@ def poke(board: Board, place: str, value_text: str) -> str:
         if not board.chips.has_ram(bank, src):
             return "no 43"
         if kind == "ram":
-            board.chips.write_character(bank, src, value)
+            board.chips.write_nibble(bank, src, value)
         else:
             board.chips.write_status(bank, numbers[1], numbers[2], value)
     elif kind in ("acc", "cy", "pc", "dcl"):

@@ -97,7 +97,7 @@ class Chips:
         return sum(self.level((kind, (*chip, k))) << k for k in range(4))
 
     def is_pulled(self, line: Line) -> int:
-        """Returns the level of an input line: 1 if a pressed key connects the line to a driven row."""
+        """Returns the level of an input line. It is 1 if a pressed key connects the line to a driven row."""
         return int(any(self.columns[column] == line and self.chains[self.keys["chain"]][self.keys["first"] + row] for row, column in self.pressed_keys))
 
     def lamp_marks(self) -> str:
@@ -137,11 +137,11 @@ class Chips:
             if not levels_before[n] and self.level(clock):
                 self.chains[n] = [self.level(data), *self.chains[n][:-1]]
 
-    def character(self, bank: int) -> int:
+    def read_nibble(self, bank: int) -> int:
         """Returns the selected RAM nibble."""
         return self.ram[bank][self.bank_src[bank]]
 
-    def write_character(self, bank: int, src: int, value: int) -> None:
+    def write_nibble(self, bank: int, src: int, value: int) -> None:
         """Writes a RAM nibble. A write to a missing chip has no effect."""
         if self.has_ram(bank, src):
             self.ram[bank][src] = value
@@ -262,8 +262,8 @@ def nop(_board: Board, _low: int, _second_byte: int) -> None:
 
 def jcn(board: Board, condition: int, second_byte: int) -> None:
     """Jump conditional: bit 2 tests for ACC 0, bit 1 for a carry, bit 0 for TEST 0; bit 3 inverts the condition."""
-    is_met = condition & 4 and board.acc == 0 or condition & 2 and board.cy == 1 or condition & 1 and board.test == 0
-    if bool(is_met) != bool(condition & 8):
+    is_true = condition & 4 and board.acc == 0 or condition & 2 and board.cy == 1 or condition & 1 and board.test == 0
+    if bool(is_true) != bool(condition & 8):
         jump_on_page(board, second_byte)
 
 
@@ -343,7 +343,7 @@ def ldm(board: Board, value: int, _second_byte: int) -> None:
 
 def wrm(board: Board, _low: int, _second_byte: int) -> None:
     """Write the accumulator into the selected RAM nibble."""
-    board.chips.write_character(board.dcl, board.chips.bank_src[board.dcl], board.acc)
+    board.chips.write_nibble(board.dcl, board.chips.bank_src[board.dcl], board.acc)
 
 
 def wmp(board: Board, _low: int, _second_byte: int) -> None:
@@ -370,12 +370,12 @@ def read_status(k: int) -> Callable[[Board, int, int], None]:
 
 def sbm(board: Board, _low: int, _second_byte: int) -> None:
     """Subtract the selected RAM nibble: adds the complements of the nibble and the carry."""
-    board.set_sum(board.acc + (15 - board.chips.character(board.dcl)) + (1 - board.cy))
+    board.set_sum(board.acc + (15 - board.chips.read_nibble(board.dcl)) + (1 - board.cy))
 
 
 def rdm(board: Board, _low: int, _second_byte: int) -> None:
     """Read the selected RAM nibble into the accumulator."""
-    board.acc = board.chips.character(board.dcl)
+    board.acc = board.chips.read_nibble(board.dcl)
 
 
 def rdr(board: Board, _low: int, _second_byte: int) -> None:
@@ -385,7 +385,7 @@ def rdr(board: Board, _low: int, _second_byte: int) -> None:
 
 def adm(board: Board, _low: int, _second_byte: int) -> None:
     """Add the selected RAM nibble and the carry to the accumulator."""
-    board.set_sum(board.acc + board.chips.character(board.dcl) + board.cy)
+    board.set_sum(board.acc + board.chips.read_nibble(board.dcl) + board.cy)
 
 
 def accumulator_operation(compute: Callable[[int, int], tuple[int, int]]) -> Callable[[Board, int, int], None]:

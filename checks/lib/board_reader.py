@@ -9,7 +9,7 @@ MAX_TABLES = {"rom": 16, "ram": 8, "chain": 4, "lamp": 64}
 MAX_COLUMNS = 8
 BITS_PER_CHIP = 10
 # The keys whose values must be unique within a section.
-NUMBERED_PARTS = {"rom": "chip", "ram": "bank"}
+UNIQUE_KEYS = {"rom": "chip", "ram": "bank"}
 
 
 def is_within(first, last):
@@ -66,7 +66,7 @@ def tables_of(document):
             yield section, 0 if section == "keys" else index, table
 
 
-class BoardReading:
+class ParsedBoard:
     """A board text that is valid TOML, with methods that find its first invalid part."""
 
     def __init__(self, document):
@@ -125,7 +125,7 @@ class BoardReading:
 
     def repetition_errors(self):
         """Yields error 24 for each chip or bank number that occurs again."""
-        for section, key in NUMBERED_PARTS.items():
+        for section, key in UNIQUE_KEYS.items():
             seen = set()
             for _section, index, table in (entry for entry in self.tables if entry[0] == section):
                 if table[key] in seen:
@@ -145,7 +145,7 @@ class BoardReading:
         return None
 
     def line_errors(self):
-        """Yields errors 25 and 26: missing lines, and lines of the wrong direction."""
+        """Yields errors 25 and 26: missing lines, and lines with the wrong direction."""
         chips = [table["chips"] for section, _index, table in self.tables if section == "chain"]
         for section, index, table in self.tables:
             if section == "chain":
@@ -178,7 +178,7 @@ def has_part(document, section, index, key):
 
 def line_of(lines, part):
     """Returns the number of lines in the shortest prefix of the text that is valid TOML and contains a part. `part` describes this part as
-    `BoardReading.first_error` does."""
+    `ParsedBoard.first_error` does."""
     _number, section, index, key = part
     too_short, long_enough = 0, len(lines)
     while long_enough - too_short > 1:
@@ -196,7 +196,7 @@ def wiring_answer(lines):
     count, document = longest_valid_prefix(lines, len(lines))
     if count < len(lines):
         return f"no 20 line {count + 1}"
-    error = BoardReading(document).first_error()
+    error = ParsedBoard(document).first_error()
     if error is None:
         return "wiring valid"
     number, section, index, key = error

@@ -11,7 +11,7 @@ const TOP = new URL("../..", import.meta.url).pathname;
 const [folder] = process.argv.slice(2);
 const { BoardView } = createRequire(import.meta.url)(`${folder}/board_view.js`);
 
-const say = (message) => process.stdout.write(`${JSON.stringify(message)}\n`);
+const writeMessage = (message) => process.stdout.write(`${JSON.stringify(message)}\n`);
 const listeners = {};
 /** Returns a function that stores a listener under a name in `listeners`. */
 const storeListenerAs = (name) => (act) => {
@@ -21,7 +21,7 @@ const storeListenerAs = (name) => (act) => {
 const vscode = {
   commands: { registerCommand: () => ({ dispose: () => {} }) },
   Uri: { file: (path) => ({ path }) },
-  window: { registerWebviewViewProvider: (_, provider) => storeListenerAs("view")(provider), showErrorMessage: (error) => say({ error }) },
+  window: { registerWebviewViewProvider: (_, provider) => storeListenerAs("view")(provider), showErrorMessage: (error) => writeMessage({ error }) },
   debug: {
     onDidReceiveDebugSessionCustomEvent: storeListenerAs("event"), onDidTerminateDebugSession: storeListenerAs("end"),
     registerDebugAdapterTrackerFactory: (_, factory) => storeListenerAs("tracker")(factory),
@@ -30,10 +30,10 @@ const vscode = {
 new BoardView(vscode, folder).register();
 const webview = {
   cspSource: "file:", asWebviewUri: ({ path }) => path.split("/").pop(),
-  postMessage: (toPage) => say({ toPage }), onDidReceiveMessage: storeListenerAs("fromPage"),
+  postMessage: (toPage) => writeMessage({ toPage }), onDidReceiveMessage: storeListenerAs("fromPage"),
 };
 listeners.view.resolveWebviewView({ webview, onDidDispose: storeListenerAs("closed") });
-say({ html: webview.html });
+writeMessage({ html: webview.html });
 
 const client = new Client(`${TOP}mcs4`);
 const session = { customRequest: (command, args) => client.request(command, args) };
@@ -41,17 +41,17 @@ const tracker = listeners.tracker.createDebugAdapterTracker(session);
 client.check = (message) => {
   tracker.onDidSendMessage(message);
   if (message.event === "boardShown") listeners.event({ session, event: message.event, body: message.body });
-  if (message.event === "stopped") say({ stopped: message.body.reason });
+  if (message.event === "stopped") writeMessage({ stopped: message.body.reason });
 };
 const lock = { board: `${TOP}examples/lock/board.toml`, program: `${TOP}examples/lock/lock.asm` };
-await client.begin({ ...lock, realTime: true });
+await client.beginSession({ ...lock, realTime: true });
 
 for await (const line of createInterface({ input: process.stdin })) {
   const { fromPage, request, args, end } = JSON.parse(line);
   if (fromPage) await listeners.fromPage(fromPage);
-  if (request) say({ response: request, body: await client.request(request, args).catch(({ message }) => message) });
+  if (request) writeMessage({ response: request, body: await client.request(request, args).catch(({ message }) => message) });
   if (end) break;
 }
-await client.end();
+await client.endSession();
 listeners.end(session);
 process.stdin.destroy();

@@ -24,15 +24,15 @@ addEventListener("error", (event) => window.broken.push(event.message));
 """
 TAKE_MESSAGES = "return window.messages.splice(0)"
 POST_MESSAGE = "dispatchEvent(new MessageEvent('message', { data: arguments[0] }))"
-GET_KEYS = "return [...document.querySelectorAll('#keys button')].map((each) => each.textContent).join(' ')"
-GET_KEYS_DOWN = "return [...document.querySelectorAll('#keys [aria-pressed=true]')].map((each) => each.textContent).join(' ')"
-GET_LAMPS = "return [...document.querySelectorAll('.bulb')].map((each) => each.getAttribute('aria-label')).join('; ')"
+GET_KEYS = "return [...document.querySelectorAll('#keys button')].map((node) => node.textContent).join(' ')"
+GET_KEYS_DOWN = "return [...document.querySelectorAll('#keys [aria-pressed=true]')].map((node) => node.textContent).join(' ')"
+GET_LAMPS = "return [...document.querySelectorAll('.bulb')].map((node) => node.getAttribute('aria-label')).join('; ')"
 GET_HIDDEN = "return [document.getElementById('front').hidden, document.getElementById('nothing').hidden]"
 TIMEOUT_SECONDS = 60
 
 
 def expect_equal(actual, expected, description):
-    """Prints whether a value equals the expected one."""
+    """Prints `ok` if a value equals the expected one, and otherwise `failed` with both values."""
     print(f"ok {description}" if actual == expected else f"failed: {description}: is {actual!r}, must be {expected!r}")
 
 
@@ -98,7 +98,7 @@ def main():
             (folder / "stub.js").write_text(INSTALL_STUB)
             page = folder / "opened.html"
             page.write_text(bridge.html.replace('<link rel', '<script src="stub.js"></script>\n<link rel', 1))
-            browser.go(page.as_uri())
+            browser.open(page.as_uri())
             bridge.expect_result(GET_HIDDEN, [False, True], "the view shows the board when debugging starts")
             expect_equal(browser.script(GET_KEYS), "1 2 3 4 5 6 7 8 9 * 0 #", "the view shows the names of the keys")
             bridge.expect_result(GET_LAMPS, "locked, dark; open, dark; alarm, dark", "the view shows the lamps")
@@ -110,10 +110,10 @@ def main():
             bridge.expect_result(GET_KEYS_DOWN, "", "another click releases the key")
             bridge.request("continue", threadId=1)
             bridge.expect_result(GET_LAMPS, "locked, lit; open, dark; alarm, dark", "the lamps are on while the program runs")
-            browser.keys([*"4711#"])
+            browser.type_keys([*"4711#"])
             bridge.expect_result(GET_LAMPS, "locked, dark; open, lit; alarm, dark", "keys on the keyboard open the lock")
             if len(sys.argv) > 2:
-                pathlib.Path(sys.argv[2]).write_bytes(browser.picture())
+                pathlib.Path(sys.argv[2]).write_bytes(browser.screenshot())
             bridge.expect_result(GET_LAMPS, "locked, lit; open, dark; alarm, dark", "the lock closes again after its time")
             bridge.request("pause", threadId=1)
             expect_equal(browser.script("return window.broken"), [], "the page breaks no security policy and has no error")

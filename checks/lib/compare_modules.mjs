@@ -1,7 +1,7 @@
-// Compares WebAssembly modules of the bench with each other: `node compare_modules.mjs EXAMPLES COUNT MODULE MODULE..`. EXAMPLES is the folder of
-// the examples. All modules run the same COUNT random sessions. After each call, the reports, the answers and each byte of the file must be the same,
-// even if the file is damaged or has another size. (To serve lines is to execute them and to record the commands in the file. To settle a file is to
-// replace its records with a snapshot.) The first module must also satisfy three laws:
+// Compares WebAssembly modules of the bench with each other: `node compare_modules.mjs EXAMPLES COUNT MODULE MODULE..`. EXAMPLES is the folder of the
+// examples. All modules run the same COUNT random sessions. After each call, the reports, the answers and each byte of the file must be the same,
+// even if the file is damaged or has another size. (To serve lines means to execute them and to record the commands in the file. To settle a file
+// means to replace its records with a snapshot.) The first module must also satisfy three laws:
 // - Serving and settling in one call has the same result, byte for byte, as serving and then settling.
 // - Asking gives the same answers as serving, and does not change the file.
 // - The file of each session can be settled.
@@ -37,7 +37,7 @@ class Instance {
     return { done: this.exports.bench_settle(this.file, BigInt(this.size)) !== 0 };
   }
 
-  /** Calls a function of the module with an input. Returns whether it succeeded, the two numbers in its report, and the answers. */
+  /** Calls a function of the module with an input. Returns an array: true if it succeeded, the two numbers in its report, and the answers. */
   serve(name, text) {
     const input = Buffer.from(text, "latin1");
     this.view(this.input, input.length).set(input);

@@ -1,7 +1,7 @@
 // Compares the page's module with the program: `node compare_page.mjs MODULE MCS4 COUNT`. Both serve the examples and COUNT random scripts. The
 // answers, the exit status and each byte of the session file must be the same. The same must hold if a script is split into two calls, with or
-// without settling the file in between, and if the file has version 1 or is damaged. (To settle a file is to replace its records with a snapshot.) If
-// the module gets the lines in several calls, as the page does with long work, the answers must be the same as in one call.
+// without settling the file in between, and if the file has version 1 or is damaged. (To settle a file means to replace its records with a snapshot.)
+// If the module gets the lines in several calls, as the page does with long work, the answers must be the same as in one call.
 import { spawnSync } from "node:child_process";
 import { closeSync, existsSync, mkdtempSync, openSync, readFileSync, readdirSync, rmSync, writeFileSync } from "node:fs";
 import { tmpdir } from "node:os";
@@ -23,7 +23,7 @@ function random(limit) {
   return (seed >>> 8) % limit;
 }
 const pick = (list) => list[random(list.length)];
-const callOneOf = (makers) => pick(makers)();
+const callOneOf = (functions) => pick(functions)();
 
 const examples = join(dirname(fileURLToPath(import.meta.url)), "../../examples");
 const calculator = readFileSync(join(examples, "calculator/board.toml"), "utf8");
@@ -37,7 +37,7 @@ const BOARDS = [
     + 'lamp = [{ line = "chain0.79" }, { line = "rom0.2" }]\n',
   '[[rom]]\nchip = 16\nport = "0000"\n', "size = 1\n", "[[rom\n", '[[ram]]\nbank = 0\nchips = 5\n', "",
 ];
-const NAMES = ("NOP CLB CLC IAC CMC CMA RAL RAR TCC DAC TCS STC DAA KBP DCL WRM WMP WRR WR0 WR1 WR2 WR3 SBM RDM RDR ADM "
+const MNEMONICS = ("NOP CLB CLC IAC CMC CMA RAL RAR TCC DAC TCS STC DAA KBP DCL WRM WMP WRR WR0 WR1 WR2 WR3 SBM RDM RDR ADM "
   + "RD0 RD1 RD2 RD3 WPM").split(" ");
 const PLACES = [() => "acc", () => "cy", () => "pc", () => "dcl", () => `r${random(17)}`, () => `rom.${random(4200)}`,
   () => `ram.${random(9)}.${random(260)}`, () => `st.${random(8)}.${random(16)}.${random(5)}`];
@@ -50,7 +50,7 @@ function randomProgram() {
   const size = 1 + random(40);
   for (let n = 0; n < size; n++) {
     if (random(9) === 0) lines.push(`l${n}:`);
-    lines.push(callOneOf([() => pick(NAMES), () => pick(NAMES), () => `FIM P${random(8)}, ${random(256)}`, () => `SRC P${random(8)}`,
+    lines.push(callOneOf([() => pick(MNEMONICS), () => pick(MNEMONICS), () => `FIM P${random(8)}, ${random(256)}`, () => `SRC P${random(8)}`,
       () => `LDM ${random(16)}`, () => `${pick(["ADD", "SUB", "LD", "XCH", "INC"])} R${random(16)}`, () => `ISZ R${random(16)}, ${random(200)}`,
       () => `JUN ${random(300)}`, () => `JMS ${random(300)}`, () => `BBL ${random(16)}`, () => `JCN ${random(16)}, ${random(200)}`,
       () => `DB ${random(256)}, ${random(300)}`, () => `FIN P${random(8)}`, () => `JIN P${random(8)}`, () => `ORG ${random(600)}`,
@@ -116,7 +116,7 @@ function settle(engine, file) {
 }
 
 // Patterns for the beginning of an answer, by the kind of input that it answers.
-const BEGINNINGS = {
+const ANSWER_BEGINNINGS = {
   regs: /^acc /, list: /^[0-9A-F]{3} /, lamps: /^lamps /, ram: /^ram /, board: /^board$/,
   map: /^map lines /, wiring: /^wiring valid$/, errors: /^errors [0-9]+$/, breaks: /^breaks /, watches: /^watches /, seq: /^seq /, state: /^state seq /,
   count: /^count ran /, trace: /^trace ran /,
@@ -127,7 +127,7 @@ function areAnswersMatched(input, output) {
   const answers = output.split("\n").slice(1, -1);
   const inputs = readInputs(Buffer.from(input).toString("latin1"));
   const parts = matchAnswers(inputs, answers);
-  const matches = (part, index) => part.length > 0 && (/^no \d/.test(part[0]) || (BEGINNINGS[inputs[index].kind] || /^ok \d/).test(part[0]));
+  const matches = (part, index) => part.length > 0 && (/^no \d/.test(part[0]) || (ANSWER_BEGINNINGS[inputs[index].kind] || /^ok \d/).test(part[0]));
   return parts.every(matches) && parts.flat().length === answers.length;
 }
 

@@ -22,33 +22,33 @@ export class Client extends MessageClient {
   }
 
   /** Sends a request, and resolves to its response, successful or not. */
-  answer(command, args) {
-    this.number += 1;
-    const seq = this.number;
+  fetchResponse(command, args) {
+    this.requestCount += 1;
+    const seq = this.requestCount;
     this.send({ seq, type: "request", command, ...(args === undefined ? {} : { arguments: args }) });
-    return this.next((message) => message.type === "response" && message.request_seq === seq);
+    return this.waitForMessage((message) => message.type === "response" && message.request_seq === seq);
   }
 
   /** Sends a request, and resolves to the body of its response. Throws an error if the request failed. */
   async request(command, args) {
-    const response = await this.answer(command, args);
+    const response = await this.fetchResponse(command, args);
     if (!response.success) throw new Error(`${command}: ${response.message}`);
     return response.body;
   }
 
   /** Waits for an event, and resolves to it. */
-  event(name) {
-    return this.next((message) => message.type === "event" && message.event === name);
+  waitForEvent(name) {
+    return this.waitForMessage((message) => message.type === "event" && message.event === name);
   }
 
   /**
    * Sends the requests from initialize to configurationDone. `configure` is called before configurationDone and can set breakpoints. Resolves to
    * the adapter's capabilities.
    */
-  async begin(args, configure = async () => {}) {
+  async beginSession(args, configure = async () => {}) {
     const capabilities = await this.request("initialize", { adapterID: "mcs4", linesStartAt1: true, columnsStartAt1: true, pathFormat: "path" });
     await this.request("launch", args);
-    await this.event("initialized");
+    await this.waitForEvent("initialized");
     await configure();
     await this.request("configurationDone");
     return capabilities;
@@ -57,16 +57,16 @@ export class Client extends MessageClient {
   /** Sends a request that runs the machine, and waits until it stops. Resolves to the body of the event `stopped`. */
   async runUntilStop(command, args = {}) {
     await this.request(command, { threadId: 1, ...args });
-    return (await this.event("stopped")).body;
+    return (await this.waitForEvent("stopped")).body;
   }
 
   /** Resolves to the stack frames. */
-  async frames() {
+  async fetchFrames() {
     return (await this.request("stackTrace", { threadId: 1 })).stackFrames;
   }
 
   /** Resolves to a scope's reference, the list of its variables as the adapter sent it, and an object with their values by name. */
-  async scope(name) {
+  async fetchScope(name) {
     const { scopes } = await this.request("scopes", { frameId: 1 });
     const { variablesReference } = scopes.find((scope) => scope.name === name);
     const { variables } = await this.request("variables", { variablesReference });
@@ -74,7 +74,7 @@ export class Client extends MessageClient {
   }
 
   /** Returns the text of the output events since the last call. */
-  output() {
+  takeOutput() {
     const isOutput = (message) => message.type === "event" && message.event === "output";
     const texts = this.received.filter(isOutput).map(({ body }) => body.output);
     this.received = this.received.filter((message) => !isOutput(message));
@@ -82,7 +82,7 @@ export class Client extends MessageClient {
   }
 
   /** Ends the session, and resolves to the exit status of the adapter. */
-  async end() {
+  async endSession() {
     await this.request("disconnect", {});
     return this.ended;
   }

@@ -19,12 +19,12 @@ function verdict(actual, expected, description) {
 const matches = (text, pattern, description) => console.log(pattern.test(text) ? `ok ${description}` : `failed: ${description}: ${text}`);
 
 /** Runs the native program, which MCS4 names, on a session file with these input lines. Returns its answers without the first line. */
-const mcs4 = (word, file, input) => execFileSync(process.env.MCS4, [word, file], { input, encoding: "utf8" }).split("\n").slice(1, -1);
+const runProgram = (verb, file, input) => execFileSync(process.env.MCS4, [verb, file], { input, encoding: "utf8" }).split("\n").slice(1, -1);
 
 /** Returns the state in a session file. Reads a copy, because a file in use cannot be opened. */
 function stateIn(file) {
   copyFileSync(file, `${folder}/copy.mcs`);
-  return mcs4("open", `${folder}/copy.mcs`, "state\n")[0];
+  return runProgram("open", `${folder}/copy.mcs`, "state\n")[0];
 }
 
 /** Returns the keys and values in an answer to `state`. */
@@ -49,7 +49,7 @@ function createSession(name, lines = "") {
   execFileSync("rm", ["-f", file]);
   const { board, program } = example(name);
   const text = `${withoutComments(readFileSync(program, "utf8"), ";")}\n`.replace(/\n\n$/, "\n");
-  const answers = mcs4("new", file, `wire\n${readFileSync(board, "utf8").replace(/^#.*$/gm, "")}.\nasm\n${text}.\nmap\n${text}.\n${lines}`);
+  const answers = runProgram("new", file, `wire\n${readFileSync(board, "utf8").replace(/^#.*$/gm, "")}.\nasm\n${text}.\nmap\n${text}.\n${lines}`);
   const map = answers.filter((line) => /^(line|name) /.test(line)).map((line) => line.split(" "));
   const lineAt = new Map(map.filter(([kind, , , size]) => kind === "line" && size > 0).map(([, line, address]) => [parseInt(address, 16), Number(line)]));
   const names = new Map(map.filter(([kind]) => kind === "name").map(([, label, value]) => [label, parseInt(value, 16)]));
@@ -58,7 +58,7 @@ function createSession(name, lines = "") {
 
 /** Resolves to the machine's state as the client sees it, with the keys of `state`. */
 async function machineState(client) {
-  const { values } = await client.scope("Registers");
+  const { values } = await client.fetchScope("Registers");
   const digits = (name) => values[name].replace(/^0x/, "");
   const r = Array.from({ length: 16 }, (_, n) => digits(`R${n}`)).join("");
   return { acc: digits("acc"), cy: values.cy, pc: digits("pc"), dcl: digits("dcl"), test: values.test, r };
@@ -70,15 +70,15 @@ const comparableState = ({ acc, cy, pc, dcl, test, r }) => ({ acc, cy, pc, dcl, 
 /** Compares steps of the adapter in an example, forward and back, with the steps of the native program. */
 async function trySteps(name) {
   const { lineAt, file } = createSession(name);
-  const expected = mcs4("open", file, "state\nstep\n".repeat(STEPS)).filter((line) => line.startsWith("state ")).map(valuesOf);
+  const expected = runProgram("open", file, "state\nstep\n".repeat(STEPS)).filter((line) => line.startsWith("state ")).map(valuesOf);
   const client = new Client(MCS4);
-  await client.begin({ project: example(name).project });
-  const events = [await client.event("stopped")];
+  await client.beginSession({ project: example(name).project });
+  const events = [await client.waitForEvent("stopped")];
   const states = [];
   const lines = [];
   for (let step = 0; step < STEPS; step++) {
     states.push(await machineState(client));
-    lines.push((await client.frames())[0].line);
+    lines.push((await client.fetchFrames())[0].line);
     events.push(await client.runUntilStop("stepIn"));
   }
   verdict(states, expected.map(comparableState), `${name}: ${STEPS} steps`);
@@ -90,7 +90,7 @@ async function trySteps(name) {
   }
   verdict(statesBack, states.slice(-40), `${name}: 40 steps back`);
   verdict(client.violations, [], `${name}: each message follows the protocol`);
-  verdict(await client.end(), 0, `${name}: the adapter's status`);
+  verdict(await client.endSession(), 0, `${name}: the adapter's status`);
 }
 
 /** Compares breakpoints at an example's labels with `break` and `run` in the native program. */
@@ -99,22 +99,22 @@ async function tryBreakpoints(name) {
   const text = readFileSync(example(name).program, "utf8");
   const labels = [...names].filter(([label, value]) => lineAt.has(value) && new RegExp(`^${label}:`, "m").test(text)).slice(0, 8);
   const client = new Client(MCS4);
-  await client.begin(example(name));
-  await client.event("stopped");
+  await client.beginSession(example(name));
+  await client.waitForEvent("stopped");
   const initial = await client.request("evaluate", { expression: "state", context: "repl" });
   for (const [label, address] of labels) {
     copyFileSync(file, `${folder}/run.mcs`);
-    const answers = mcs4("open", `${folder}/run.mcs`, `break ${address}\nrun 50000\nunbreak ${address}\nstate\n`);
+    const answers = runProgram("open", `${folder}/run.mcs`, `break ${address}\nrun 50000\nunbreak ${address}\nstate\n`);
     if (!/ break$/.test(answers[1])) continue;
     await client.request("restart", {});
-    await client.event("stopped");
+    await client.waitForEvent("stopped");
     await client.request("setFunctionBreakpoints", { breakpoints: [{ name: label }] });
     const stop = await client.runUntilStop("continue");
     verdict([stop.reason, await machineState(client)], ["function breakpoint", comparableState(valuesOf(answers[3]))], `${name}: a breakpoint at ${label}`);
     await client.request("setFunctionBreakpoints", { breakpoints: [] });
   }
   matches(initial.result, /^state seq 2 acc 0 cy 0 pc 000/, `${name}: the state after launch`);
-  await client.end();
+  await client.endSession();
 }
 
 /**
@@ -125,10 +125,10 @@ async function tryBreakpoints(name) {
 async function tryArrivals(name, label, register) {
   const { file, names } = createSession(name);
   const runLines = "run 20000\nstate\n".repeat(40);
-  const expected = mcs4("open", file, `state\nbreak ${names.get(label)}\n${runLines}`).filter((line) => line.startsWith("state ")).map(valuesOf);
+  const expected = runProgram("open", file, `state\nbreak ${names.get(label)}\n${runLines}`).filter((line) => line.startsWith("state ")).map(valuesOf);
   const client = new Client(MCS4);
-  await client.begin(example(name));
-  await client.event("stopped");
+  await client.beginSession(example(name));
+  await client.waitForEvent("stopped");
   const { breakpoints: [{ id }] } = await client.request("setFunctionBreakpoints", { breakpoints: [{ name: label }] });
   for (let stop = 0; stop < 40; stop++) await client.runUntilStop("continue");
   const stopsBack = [];
@@ -154,17 +154,17 @@ async function tryArrivals(name, label, register) {
   await client.request("setFunctionBreakpoints", { breakpoints: [{ name: label, condition: `r${register} = ${parseInt(value, 16)}` }] });
   await client.request("evaluate", { expression: "run 100000", context: "repl" });
   verdict(await machineState(client), comparableState(matching[matching.length - 1]), `${name}: a run in the console stops when a condition is true`);
-  await client.end();
+  await client.endSession();
 }
 
 /** Compares the effects of setting values and pressing keys with those of `poke`, `press` and `test`. */
 async function trySetting() {
   const { file } = createSession("lock");
-  const expected = valuesOf(mcs4("open", file, "poke r4 7\npoke acc 9\npoke pc 0x2E\npoke ram.0.0x13 5\npress 1 1\ntest 0\nstate\n").pop());
+  const expected = valuesOf(runProgram("open", file, "poke r4 7\npoke acc 9\npoke pc 0x2E\npoke ram.0.0x13 5\npress 1 1\ntest 0\nstate\n").pop());
   const client = new Client(MCS4);
-  await client.begin(example("lock"));
-  await client.event("stopped");
-  const { variablesReference } = await client.scope("Registers");
+  await client.beginSession(example("lock"));
+  await client.waitForEvent("stopped");
+  const { variablesReference } = await client.fetchScope("Registers");
   for (const [name, value] of [["R4", "7"], ["acc", "0x9"], ["pc", "ready"], ["test", "0"]]) {
     await client.request("setVariable", { variablesReference, name, value });
   }
@@ -174,15 +174,15 @@ async function trySetting() {
   const actual = valuesOf(result);
   verdict([comparableState(actual), actual.keys], [comparableState(expected), expected.keys], "values that are set, and a pressed key");
   verdict((await client.request("evaluate", { expression: "ram.0.0x13", context: "watch" })).result, "0x5", "a nibble of RAM that is set");
-  await client.end();
+  await client.endSession();
 }
 
 /** Checks that a session file contains the reported state at each stop, and that its breakpoints are unchanged. */
 async function trySession() {
   const { file } = createSession("lock", "break 0x031\n");
   const client = new Client(MCS4);
-  await client.begin({ ...example("lock"), session: file });
-  await client.event("stopped");
+  await client.beginSession({ ...example("lock"), session: file });
+  await client.waitForEvent("stopped");
   const differingMoves = [];
   const compare = async (move) => {
     const { result } = await client.request("evaluate", { expression: "state", context: "repl" });
@@ -199,18 +199,18 @@ async function trySession() {
   verdict(differingMoves, [], "the session file has the reported state at each stop");
   const secondClient = new Client(MCS4);
   await secondClient.request("initialize", {});
-  matches((await secondClient.answer("launch", { session: file })).message, /was rejected.*in use/s, "a session in use is rejected");
-  await secondClient.end();
+  matches((await secondClient.fetchResponse("launch", { session: file })).message, /was rejected.*in use/s, "a session in use is rejected");
+  await secondClient.endSession();
   client.child.kill("SIGKILL");
   await client.ended;
   const stateAfterKill = stateIn(file);
   const thirdClient = new Client(MCS4);
-  await thirdClient.begin({ session: file, stopOnEntry: false });
+  await thirdClient.beginSession({ session: file, stopOnEntry: false });
   await thirdClient.request("setFunctionBreakpoints", { breakpoints: [] });
   matches(stateAfterKill, / keys 1.1 /, "the reported state after the adapter was killed");
   thirdClient.child.stdin.end();
   verdict(await thirdClient.ended, 1, "the adapter ends when the client ends");
-  verdict(mcs4("open", file, "breaks\n"), ["breaks 031"], "the breakpoints of a session are unchanged");
+  verdict(runProgram("open", file, "breaks\n"), ["breaks 031"], "the breakpoints of a session are unchanged");
   verdict(readdirSync(folder).filter((name) => name.startsWith("lock.mcs.") || name.startsWith(".")), [], "no other files are left");
 }
 
@@ -224,46 +224,46 @@ async function tryFiles() {
   const client = new Client(MCS4);
   await client.request("initialize", {});
   for (const [name, pattern] of [["damaged.mcs", /no 5[01]|damaged/], ["none.mcs", /no 50/], ["nothing/x.mcs", /does not exist/]]) {
-    matches((await client.answer("launch", { session: `${folder}/${name}` })).message, pattern, `${name} is rejected`);
+    matches((await client.fetchResponse("launch", { session: `${folder}/${name}` })).message, pattern, `${name} is rejected`);
   }
-  const rejectedLaunch = await client.answer("launch", { ...example("lock"), session: `${folder}/nothing/x.mcs` });
+  const rejectedLaunch = await client.fetchResponse("launch", { ...example("lock"), session: `${folder}/nothing/x.mcs` });
   matches(rejectedLaunch.message, /was rejected/, "a session in a missing folder is rejected");
   verdict(readFileSync(`${folder}/none.mcs`, "utf8"), "no session\n", "a file that is not a session is unchanged");
   verdict(Buffer.compare(readFileSync(`${folder}/damaged.mcs`), damaged), 0, "a damaged session is unchanged");
   await client.request("launch", example("lock"));
   const answer = await client.request("setBreakpoints", { source: { path: "/etc/passwd" }, breakpoints: [{ line: 1 }] });
   verdict(answer.breakpoints[0].verified, false, "a file outside of the program has no breakpoints");
-  await client.end();
+  await client.endSession();
 }
 
 /** Checks that the adapter reports errors in messages. */
 async function tryMessages() {
   const client = new Client(MCS4);
-  matches((await client.answer("threads")).message, /send initialize first/, "a request before initialize");
+  matches((await client.fetchResponse("threads")).message, /send initialize first/, "a request before initialize");
   await client.request("initialize", {});
-  matches((await client.answer("next", { threadId: 1 })).message, /send configurationDone first|nothing is launched/, "a step before launch");
-  matches((await client.answer("frobnicate")).message, /unsupported request: frobnicate/, "an unknown request");
+  matches((await client.fetchResponse("next", { threadId: 1 })).message, /send configurationDone first|nothing is launched/, "a step before launch");
+  matches((await client.fetchResponse("frobnicate")).message, /unsupported request: frobnicate/, "an unknown request");
   client.sendBytes("Content-Length: 4\r\n\r\n{no}");
-  matches((await client.next(({ request_seq }) => request_seq === 0)).message, /not JSON/, "invalid JSON");
+  matches((await client.waitForMessage(({ request_seq }) => request_seq === 0)).message, /not JSON/, "invalid JSON");
   client.sendBytes(`Content-Length: ${16777217}\r\n\r\n`);
   client.sendBytes(Buffer.alloc(16777217, 32));
-  matches((await client.next(({ request_seq }) => request_seq === 0)).message, /16777217 bytes was not read/, "a message that is too long");
+  matches((await client.waitForMessage(({ request_seq }) => request_seq === 0)).message, /16777217 bytes was not read/, "a message that is too long");
   await client.request("launch", example("lock"));
-  const longInputAnswer = await client.answer("evaluate", { expression: "x".repeat(16000000), context: "repl" });
+  const longInputAnswer = await client.fetchResponse("evaluate", { expression: "x".repeat(16000000), context: "repl" });
   matches(longInputAnswer.message, /65536 characters/, "a console input of 16 MB");
   verdict(client.violations, [], "each message follows the protocol");
-  verdict(await client.end(), 0, "the adapter's status after errors");
+  verdict(await client.endSession(), 0, "the adapter's status after errors");
   const httpClient = new Client(MCS4);
   httpClient.sendBytes("GET / HTTP/1.1\r\n\r\n");
   verdict([await httpClient.ended, httpClient.stderr.split(",")[0]], [1, "dap: a message begins with one line Content-Length: N"], "another protocol");
   const largeClient = new Client(MCS4);
   largeClient.sendBytes("Content-Length: 99999999999\r\n\r\n");
-  const { message } = await largeClient.next(({ request_seq }) => request_seq === 0);
+  const { message } = await largeClient.waitForMessage(({ request_seq }) => request_seq === 0);
   verdict([await largeClient.ended, largeClient.stderr], [1, `dap: ${message}\n`], "a length that no message can have");
   matches(message, /99999999999 is more than a message can have/, "the error about a length that no message can have");
   const stdioClient = new Client(MCS4, TOP, ["--stdio"]);
   await stdioClient.request("initialize", {});
-  verdict(await stdioClient.end(), 0, "the option --stdio");
+  verdict(await stdioClient.endSession(), 0, "the option --stdio");
   const child = spawn(MCS4, ["dap", "--port", "1"], { stdio: "ignore" });
   verdict(await new Promise((resume) => child.on("close", resume)), 2, "wrong arguments");
 }
@@ -290,8 +290,8 @@ async function trySpeed() {
   const count = [0, 1, 2, 3, 4, 5].map((register) => `count${register}: ISZ R${register}, turn\n`).join("");
   writeFileSync(program, `        FIM P0, 0\n        FIM P1, 0\n        FIM P2, 0x04\nturn:   NOP\n${count}far:    JUN far\n`);
   const client = new Client(MCS4);
-  await client.begin({ program, board: example("three_lamps").board });
-  await client.event("stopped");
+  await client.beginSession({ program, board: example("three_lamps").board });
+  await client.waitForEvent("stopped");
   console.log(`speed: a step is reported in ${describeTimes(await measureTimes(200, () => client.runUntilStop("stepIn")))}`);
   await client.request("setFunctionBreakpoints", { breakpoints: [{ name: "far" }] });
   const start = performance.now();
@@ -308,7 +308,7 @@ async function trySpeed() {
   const { result } = await client.request("evaluate", { expression: "count 1", context: "repl" });
   verdict([stop.reason, /^count/.test(result)], ["function breakpoint", true], "a distant breakpoint");
   console.log(`speed: ${(CYCLES_TO_BREAKPOINT / 1e6).toFixed(1)} million cycles to a breakpoint in ${time.toFixed(2)} s`);
-  await client.end();
+  await client.endSession();
 }
 
 for (const name of ["lock", "calculator", "stacker", "three_lamps"]) {

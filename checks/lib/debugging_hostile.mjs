@@ -48,11 +48,11 @@ async function tryFatalInput({ name, bytes, pattern, isOpen = false }) {
 
 // --- requests
 
-let state = 20261128;
+let randomState = 20261128;
 /** Returns a random integer from 0 to `count` - 1. */
 function random(count) {
-  state = (Math.imul(state, 1664525) + 1013904223) >>> 0;
-  return Math.floor((state / 2 ** 32) * count);
+  randomState = (Math.imul(randomState, 1664525) + 1013904223) >>> 0;
+  return Math.floor((randomState / 2 ** 32) * count);
 }
 const oneOf = (list) => list[random(list.length)];
 
@@ -61,35 +61,35 @@ const COMMANDS = ["initialize", "launch", "attach", "configurationDone", "setBre
   "stepOut", "stepBack", "reverseContinue", "restartFrame", "gotoTargets", "goto", "pause", "threads", "stackTrace", "scopes", "variables",
   "setVariable", "setExpression", "evaluate", "completions", "disassemble", "readMemory", "writeMemory", "loadedSources", "source", "exceptionInfo",
   "cancel", "restart", "pressKey", "releaseKey", "watchBoard", "changeKey", "modules", "terminateThreads", "toString", "__proto__", "", "a b", "\u0000"];
-const NAMES = ["threadId", "frameId", "variablesReference", "name", "value", "expression", "context", "format", "memoryReference", "offset", "count",
+const ARGUMENT_NAMES = ["threadId", "frameId", "variablesReference", "name", "value", "expression", "context", "format", "memoryReference", "offset", "count",
   "data", "instructionOffset", "instructionCount", "source", "sourceReference", "line", "endLine", "column", "text", "targetId", "breakpoints", "lines",
   "filters", "filterOptions", "requestId", "progressId", "start", "startFrame", "levels", "program", "board", "project", "session", "write", "load",
   "cwd", "key", "place", "isDown", "arguments", "allowPartial", "granularity", "pathFormat"];
-const TEXTS = ["", "r4", "acc = 9", "r4 +", "((((", "ram.0.0x12", "ram 0", "0x000", "0x10000", "0x20000", "-1", "99999999999999999999", "show", "nowhere",
+const ARGUMENT_TEXTS = ["", "r4", "acc = 9", "r4 +", "((((", "ram.0.0x12", "ram 0", "0x000", "0x10000", "0x20000", "-1", "99999999999999999999", "show", "nowhere",
   "press 5", "keys 12#", "run 100", "step", "back r4", "until show", "change lamps", "poke r4 7", "set r4 = ", "asm\n NOP\n.", "reset", "help", "repl",
   "hover", "watch", "AAAA", "A", "=", "%%%", "lamp open on", "key 5 down", "display 4", "/dev/zero", "/dev/stdin", "/", ".", LOCK.program, LOCK.board,
   ADAPTER, "\u0000\u0001\u001b[2J", "\ud800", "é".repeat(20), "{{}}", "x".repeat(65536), "(".repeat(3000), "r4 and ".repeat(2000), "calls", "chip"];
 
 /** Returns a random value. */
 function randomValue(depth) {
-  const kinds = [() => oneOf(TEXTS), () => oneOf([0, 1, 2, 3, 100, 200, -1, 0.5, 1e9, 2 ** 53, -(2 ** 60), 4095, 4096, 65536]), () => oneOf([true, false, null]),
+  const kinds = [() => oneOf(ARGUMENT_TEXTS), () => oneOf([0, 1, 2, 3, 100, 200, -1, 0.5, 1e9, 2 ** 53, -(2 ** 60), 4095, 4096, 65536]), () => oneOf([true, false, null]),
     () => (depth > 2 ? [] : Array.from({ length: random(4) }, () => randomValue(depth + 1))), () => (depth > 2 ? {} : randomArguments(depth + 1))];
   return oneOf(kinds)();
 }
 
 /** Returns random arguments. */
 function randomArguments(depth = 0) {
-  return Object.fromEntries(Array.from({ length: random(7) }, () => [oneOf(NAMES), randomValue(depth)]));
+  return Object.fromEntries(Array.from({ length: random(7) }, () => [oneOf(ARGUMENT_NAMES), randomValue(depth)]));
 }
 
 /** Returns mostly valid arguments, so that the adapter's later checks of the arguments are also tested. */
 function mostlyValidArguments(command) {
-  const valid = { threadId: 1, frameId: 1, variablesReference: 1 + random(7), name: oneOf(["acc", "R4", "lamp 0"]), value: oneOf(TEXTS), expression: oneOf(TEXTS),
+  const valid = { threadId: 1, frameId: 1, variablesReference: 1 + random(7), name: oneOf(["acc", "R4", "lamp 0"]), value: oneOf(ARGUMENT_TEXTS), expression: oneOf(ARGUMENT_TEXTS),
     context: oneOf(["repl", "watch", "hover", "clipboard"]), memoryReference: oneOf(["0x000", "0x10000", "ram.0"]), offset: random(300) - 20, count: random(5000),
     data: oneOf(["AAAA", "////", "AQID"]), instructionCount: random(300), instructionOffset: random(100) - 50, source: { path: LOCK.program }, line: random(120),
-    column: random(20), text: oneOf(TEXTS), targetId: random(4200), filters: ["calls"], filterOptions: [{ filterId: "chip", condition: oneOf(TEXTS) }],
-    breakpoints: [{ line: random(120), name: oneOf(TEXTS), dataId: oneOf(["r4", "acc", oneOf(TEXTS)]), instructionReference: oneOf(["0x02C", "show"]),
-      condition: oneOf(["", "r4 = 7", oneOf(TEXTS)]), hitCondition: oneOf(["", "3", oneOf(TEXTS)]) }], key: oneOf(["5", "#", "no"]), place: oneOf(["1 1", "9 9", "x"]) };
+    column: random(20), text: oneOf(ARGUMENT_TEXTS), targetId: random(4200), filters: ["calls"], filterOptions: [{ filterId: "chip", condition: oneOf(ARGUMENT_TEXTS) }],
+    breakpoints: [{ line: random(120), name: oneOf(ARGUMENT_TEXTS), dataId: oneOf(["r4", "acc", oneOf(ARGUMENT_TEXTS)]), instructionReference: oneOf(["0x02C", "show"]),
+      condition: oneOf(["", "r4 = 7", oneOf(ARGUMENT_TEXTS)]), hitCondition: oneOf(["", "3", oneOf(ARGUMENT_TEXTS)]) }], key: oneOf(["5", "#", "no"]), place: oneOf(["1 1", "9 9", "x"]) };
   const allArguments = Object.entries(valid).map(([name, validValue]) => [name, random(9) === 0 ? randomValue(0) : validValue]);
   return command === "cancel" ? { requestId: random(2000) } : Object.fromEntries(allArguments);
 }
@@ -109,14 +109,14 @@ async function sendAll(client, count) {
     const batch = [];
     for (let n = 0; n < BATCH_SIZE; n++) {
       const command = oneOf(COMMANDS);
-      client.number += 1;
-      batch.push(client.number);
-      client.send({ seq: client.number, type: "request", command, arguments: argumentsFor(command) });
+      client.requestCount += 1;
+      batch.push(client.requestCount);
+      client.send({ seq: client.requestCount, type: "request", command, arguments: argumentsFor(command) });
     }
     // Pause a running machine, so that the next batch begins in a paused session.
-    await client.answer("pause", { threadId: 1 });
+    await client.fetchResponse("pause", { threadId: 1 });
     for (const seq of batch) {
-      await client.next((message) => message.type === "response" && message.request_seq === seq);
+      await client.waitForMessage((message) => message.type === "response" && message.request_seq === seq);
       answerCounts.set(seq, 1);
     }
     const extraResponses = client.received.filter(({ type, request_seq: seq }) => type === "response" && answerCounts.has(seq));
@@ -130,25 +130,25 @@ async function tryRequests() {
   const client = new Client(ADAPTER);
   verdict(await (async () => {
     const answers = new Set();
-    for (const command of COMMANDS.filter((name) => name !== "initialize")) answers.add((await client.answer(command, randomArguments())).message);
+    for (const command of COMMANDS.filter((name) => name !== "initialize")) answers.add((await client.fetchResponse(command, randomArguments())).message);
     return [...answers];
   })(), ["send initialize first"], "all requests before initialize");
   for (const message of [[], 7, "text", null, {}, { type: "request" }, { seq: "1", type: "request", command: "threads" },
     { seq: 5, type: "request", command: 3 }, { seq: 1.5, type: "request", command: "threads" }]) {
     client.send(message);
-    matches((await client.next(({ type, success }) => type === "response" && !success)).message, /^a message has a number seq/, JSON.stringify(message));
+    matches((await client.waitForMessage(({ type, success }) => type === "response" && !success)).message, /^a message has a number seq/, JSON.stringify(message));
   }
   client.send({ seq: 1, type: "response", request_seq: 1, success: true, command: "runInTerminal" });
   client.send({ seq: 1, type: "event", event: "nothing" });
   await client.request("initialize", { adapterID: "mcs4", supportsProgressReporting: true, supportsMemoryEvent: true });
   verdict(await sendAll(client, REQUEST_COUNT / 4), [], "requests before launch are answered once");
   client.received = [];
-  const { success } = await client.answer("launch", LOCK);
+  const { success } = await client.fetchResponse("launch", LOCK);
   if (success) await client.request("configurationDone");
   verdict(await sendAll(client, REQUEST_COUNT), [], `${REQUEST_COUNT} requests with wrong arguments are answered once`);
   verdict(client.violations, [], "each message follows the protocol");
   verdict((await client.request("threads")).threads.length, 1, "the adapter continues");
-  verdict([await client.end(), client.stderr], [0, ""], "the adapter's status");
+  verdict([await client.endSession(), client.stderr], [0, ""], "the adapter's status");
 }
 
 await Promise.all(FATAL_INPUTS.slice(0, 3).map(tryFatalInput));

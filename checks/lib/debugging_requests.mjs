@@ -49,15 +49,15 @@ function sessionFile(name, lines) {
  */
 async function begin(client, command, args, { watches = [], filterOptions = [], functions = [] } = {}) {
   const capabilities = await client.request("initialize", VSCODE);
-  const launchResponse = client.answer(command, { name: "MCS-4", type: "mcs4", request: command, __sessionId: "1", ...args });
-  await client.event("initialized");
+  const launchResponse = client.fetchResponse(command, { name: "MCS-4", type: "mcs4", request: command, __sessionId: "1", ...args });
+  await client.waitForEvent("initialized");
   await client.request("setBreakpoints", { source: { name: "lock.asm", path: PROGRAM }, lines: [], breakpoints: [], sourceModified: false });
   await client.request("setFunctionBreakpoints", { breakpoints: functions });
   const data = watches.length > 0 ? await client.request("setDataBreakpoints", { breakpoints: watches }) : null;
   const filters = await client.request("setExceptionBreakpoints", { filters: [], filterOptions });
   await client.request("configurationDone");
   verdict((await launchResponse).success, true, `${command} is answered`);
-  return { capabilities, data, filters, stopped: (await client.event("stopped")).body };
+  return { capabilities, data, filters, stopped: (await client.waitForEvent("stopped")).body };
 }
 
 /** Sends the requests that Visual Studio Code sends at each stop. Resolves to their results. */
@@ -99,11 +99,11 @@ async function tryAttach() {
   const other = new Client(ADAPTER);
   await other.request("initialize", VSCODE);
   for (const args of [{ session: file }, { session: file, write: true }]) {
-    matches((await other.answer("attach", args)).message, /in use.*mcs4 open attached\.mcs \(process \d+\)/s, "the message names the program that uses the file");
+    matches((await other.fetchResponse("attach", args)).message, /in use.*mcs4 open attached\.mcs \(process \d+\)/s, "the message names the program that uses the file");
   }
-  await writer.end();
+  await writer.endSession();
   await other.request("attach", { session: file });
-  await other.end();
+  await other.endSession();
 }
 
 /**
@@ -116,7 +116,7 @@ async function tryRejectedFiles() {
   const client = new Client(ADAPTER);
   await client.request("initialize", VSCODE);
   for (const command of ["attach", "launch"]) {
-    const { message } = await client.answer(command, { session: file });
+    const { message } = await client.fetchResponse(command, { session: file });
     matches(message, new RegExp(`in use.*mcs4 open held\\.mcs \\(process ${holder.pid}\\)`, "s"), `${command}: a session in use is rejected, and its user is named`);
   }
   holder.stdin.end();
@@ -127,13 +127,13 @@ async function tryRejectedFiles() {
   execFileSync("sh", ["-c", "cd \"$0\"; ln -s /dev/zero zero; ln -s /dev/stdin stdin; mkfifo fifo; ln -s loop loop; mkdir folder", folder]);
   for (const name of ["binary", "text", "zero", "stdin", "fifo", "loop", "folder", "nothing", "zero/x", "\u0000", "x".repeat(5000)]) {
     for (const [command, key] of [["attach", "session"], ["launch", "session"], ["launch", "program"], ["launch", "board"], ["launch", "project"]]) {
-      const { success, message = "" } = await client.answer(command, { ...(key === "board" ? { program: PROGRAM } : {}), cwd: folder, [key]: name });
+      const { success, message = "" } = await client.fetchResponse(command, { ...(key === "board" ? { program: PROGRAM } : {}), cwd: folder, [key]: name });
       verdict([success, message.length > 5], [false, true], `${command}, ${key} ${JSON.stringify(name.slice(0, 20))}`);
     }
   }
-  matches((await client.answer("launch", { cwd: folder, program: "program.asm", board: BOARD })).message, /program\.asm/, "a program of 64 KB");
+  matches((await client.fetchResponse("launch", { cwd: folder, program: "program.asm", board: BOARD })).message, /program\.asm/, "a program of 64 KB");
   await client.request("attach", { session: file });
-  await client.end();
+  await client.endSession();
 }
 
 /** Checks that a data breakpoint stops at the changes in a trace of the native program. */
@@ -158,7 +158,7 @@ async function tryDataBreakpoints() {
       stops.push(reason === "data breakpoint" && hitBreakpointIds[0] === data.breakpoints[0].id ? frame.instructionPointerReference : reason);
     }
     verdict(stops, expected, `stops at changes of ${dataId}`);
-    await client.end();
+    await client.endSession();
   }
 }
 
@@ -209,15 +209,15 @@ async function tryRequests() {
   });
   verdict([bytes.length > 1000, differingRows], [true, []], "readMemory of the ROM has the bytes of `list`");
   await client.request("writeMemory", { memoryReference: "0x10000", offset: 18, data: Buffer.from([1, 2, 3]).toString("base64") });
-  await client.event("memory");
+  await client.waitForEvent("memory");
   const { result } = await client.request("evaluate", { expression: "ram 0", context: "repl" });
-  const wanted = answersOf(file, "poke ram.0.18 1\npoke ram.0.19 2\npoke ram.0.20 3\nram 0\n").slice(3);
+  const expectedLines = answersOf(file, "poke ram.0.18 1\npoke ram.0.19 2\npoke ram.0.20 3\nram 0\n").slice(3);
   const valuesOfRegister = (lines) => lines.find((line) => line.startsWith("0.0.1 ")).split(" ")[1];
-  verdict(valuesOfRegister(result.split("\n")).slice(2, 5), valuesOfRegister(wanted).slice(2, 5), "writeMemory writes characters of the RAM");
+  verdict(valuesOfRegister(result.split("\n")).slice(2, 5), valuesOfRegister(expectedLines).slice(2, 5), "writeMemory writes characters of the RAM");
   const keys = await client.request("completions", { frameId: 1, text: "press ", column: 7, line: 1 });
   verdict(keys.targets.map(({ label }) => label).join(" "), "1 2 3 4 5 6 7 8 9 * 0 #", "completions after `press` are the keys of the board");
   verdict(client.violations, [], "each message of the adapter follows the protocol");
-  verdict(await client.end(), 0, "the adapter ends with status 0");
+  verdict(await client.endSession(), 0, "the adapter ends with status 0");
 }
 
 /** Checks that the adapter reports the progress of a long request, and ends the request when the client cancels it. */
@@ -227,25 +227,25 @@ async function tryLongRequest() {
   const client = new Client(ADAPTER);
   await begin(client, "launch", { program, board: BOARD });
   await client.request("continue", { threadId: 1 });
-  const { body: { progressId } } = await client.event("progressStart");
-  await client.event("progressUpdate");
+  const { body: { progressId } } = await client.waitForEvent("progressStart");
+  await client.waitForEvent("progressUpdate");
   await client.request("cancel", { progressId });
-  await client.event("progressEnd");
-  verdict((await client.event("stopped")).body.reason, "pause", "progress of a long run is reported, and the run pauses when it is cancelled");
+  await client.waitForEvent("progressEnd");
+  verdict((await client.waitForEvent("stopped")).body.reason, "pause", "progress of a long run is reported, and the run pauses when it is cancelled");
   const { result: before } = await client.request("evaluate", { expression: "seq", context: "repl" });
   // Search the whole past for an event that never happened.
   await client.request("evaluate", { expression: "back r9 = 9", context: "repl" });
-  verdict((await client.event("stopped")).body.reason !== "", true, "a search in the past ends");
+  verdict((await client.waitForEvent("stopped")).body.reason !== "", true, "a search in the past ends");
   const lines = `poke r4 7\n${"run 100000\n".repeat(990)}`;
-  client.number += 1;
-  const seq = client.number;
+  client.requestCount += 1;
+  const seq = client.requestCount;
   client.send({ seq, type: "request", command: "evaluate", arguments: { expression: lines, context: "repl" } });
   const isAnswer = (message) => message.type === "response" && message.request_seq === seq;
   // The first progress report shows that the request has begun. A fast machine can finish the request before it reports progress.
-  const first = await client.next((message) => isAnswer(message) || (message.type === "event" && message.event === "progressStart"));
+  const first = await client.waitForMessage((message) => isAnswer(message) || (message.type === "event" && message.event === "progressStart"));
   const isDone = isAnswer(first);
   if (!isDone) await client.request("cancel", { requestId: seq });
-  const answer = isDone ? first : await client.next(isAnswer);
+  const answer = isDone ? first : await client.waitForMessage(isAnswer);
   const { result: after } = await client.request("evaluate", { expression: "seq", context: "repl" });
   verdict([answer.message || "done", after === before], answer.success ? ["done", false] : ["cancelled", true], "a cancelled line changes nothing");
   await client.request("continue", { threadId: 1 });

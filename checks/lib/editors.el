@@ -1,15 +1,15 @@
-;; Opens a program with errors in eglot. Prints each result on standard error, on a line that begins with "shown: ". checks/editors runs this
+;; Opens a program with errors in eglot. Prints diagnostic result on standard error, on a line that begins with "shown: ". checks/editors runs this
 ;; script with the configuration from editors/README.md.
 (setq eglot-sync-connect 60 eglot-connect-timeout 60)
 (find-file "wrong.asm")
 (call-interactively 'eglot)
-(let ((turns 0))
-  (while (and (< turns 300) (< (length (flymake-diagnostics)) 3))
+(let ((attempts 0))
+  (while (and (< attempts 300) (< (length (flymake-diagnostics)) 3))
     (accept-process-output nil 0.2)
     (flymake-start)
-    (setq turns (1+ turns))))
-(dolist (each (sort (flymake-diagnostics) (lambda (one other) (< (flymake-diagnostic-beg one) (flymake-diagnostic-beg other)))))
-  (message "shown: fault %s %s" (line-number-at-pos (flymake-diagnostic-beg each)) (flymake-diagnostic-text each)))
+    (setq attempts (1+ attempts))))
+(dolist (diagnostic (sort (flymake-diagnostics) (lambda (first second) (< (flymake-diagnostic-beg first) (flymake-diagnostic-beg second)))))
+  (message "shown: error %s %s" (line-number-at-pos (flymake-diagnostic-beg diagnostic)) (flymake-diagnostic-text diagnostic)))
 (goto-char (point-min))
 (search-forward "JCN zero, anew")
 (backward-char 2)

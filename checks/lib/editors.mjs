@@ -39,7 +39,7 @@ function examples() {
 async function compare(client, name) {
   const uri = `file://${TOP}examples/${name}/${name}.asm`;
   const [text, board] = [read(`examples/${name}/${name}.asm`), read(`examples/${name}/board.toml`)];
-  verdict(await client.open(uri, text), [], `${name} has no errors`);
+  verdict(await client.openDocument(uri, text), [], `${name} has no errors`);
   const codeOnly = text.split("\n").map((line) => line.replace(/;.*/, "").trim()).join("\n");
   const { lines, names } = reportOf(board.replace(/^#.*$/gm, ""), codeOnly.endsWith("\n") ? codeOnly : `${codeOnly}\n`);
   const wrongLines = [];
@@ -67,7 +67,7 @@ const describeTimes = (list) => `median ${median(list).toFixed(1)} ms, ${Math.ma
 async function trySpeed(client) {
   const uri = "file:///long.asm";
   const text = `start:\n${"LDM 5\n".repeat(2728)}NOP`;
-  await client.open(uri, text);
+  await client.openDocument(uri, text);
   const hovers = [];
   for (let turn = 0; turn < 50; turn++) {
     const start = performance.now();
@@ -79,7 +79,7 @@ async function trySpeed(client) {
     const start = performance.now();
     const range = { start: { line: turn, character: 4 }, end: { line: turn, character: 5 } };
     client.notify("textDocument/didChange", { textDocument: { uri, version: turn + 1 }, contentChanges: [{ range, text: "x" }] });
-    verdict((await client.errorsIn(uri)).length, turn, `${turn} errors`);
+    verdict((await client.waitForErrors(uri)).length, turn, `${turn} errors`);
     times.push(performance.now() - start);
   }
   console.log(`speed: a hover in a text of ${text.length} bytes: ${describeTimes(hovers)}`);
@@ -89,33 +89,33 @@ async function trySpeed(client) {
 /** Checks that the server reports errors in messages, and answers the next request. */
 async function tryWrongMessages() {
   const client = new Client(MCS4);
-  verdict((await client.answer("textDocument/hover", {})).error.code, -32002, "a request before initialize");
+  verdict((await client.fetchResponse("textDocument/hover", {})).error.code, -32002, "a request before initialize");
   client.notify("textDocument/didOpen", { textDocument: {} });
-  await client.begin();
-  verdict((await client.answer("initialize", {})).error.code, -32600, "initialize twice");
-  verdict((await client.answer("workspace/none", {})).error.code, -32601, "an unknown method");
-  verdict((await client.answer("textDocument/hover", at("file:///none.asm", 0, 0))).error.code, -32602, "a text that is not open");
+  await client.beginSession();
+  verdict((await client.fetchResponse("initialize", {})).error.code, -32600, "initialize twice");
+  verdict((await client.fetchResponse("workspace/none", {})).error.code, -32601, "an unknown method");
+  verdict((await client.fetchResponse("textDocument/hover", at("file:///none.asm", 0, 0))).error.code, -32602, "a text that is not open");
   client.sendBytes("Content-Length: 3\r\n\r\n{,}");
-  verdict((await client.next(({ id }) => id === null)).error.code, -32700, "invalid JSON");
+  verdict((await client.waitForMessage(({ id }) => id === null)).error.code, -32700, "invalid JSON");
   client.sendBytes("Content-Length: 2\r\n\r\n[]");
-  verdict((await client.next(({ id }) => id === null)).error.code, -32600, "JSON that is not a message");
+  verdict((await client.waitForMessage(({ id }) => id === null)).error.code, -32600, "JSON that is not a message");
   client.sendBytes(`Content-Length: ${16777217}\r\n\r\n`);
   client.sendBytes(Buffer.alloc(16777217, 32));
-  verdict((await client.next(({ id }) => id === null)).error.code, -32600, "a message that is too long");
+  verdict((await client.waitForMessage(({ id }) => id === null)).error.code, -32600, "a message that is too long");
   const uri = "file:///large.asm";
-  const [error] = await client.open(uri, "NOP ; \u00e9\n".repeat(1600000));
+  const [error] = await client.openDocument(uri, "NOP ; \u00e9\n".repeat(1600000));
   verdict(error.message.slice(0, 25), "a text has at most 65,536", "a text of 16 MB");
   client.notify("textDocument/didChange", { textDocument: { uri, version: 2 }, contentChanges: [{ text: "NOP\n" }] });
-  verdict(await client.errorsIn(uri), [], "another text in its place");
+  verdict(await client.waitForErrors(uri), [], "another text in its place");
   client.notify("textDocument/didChange", { textDocument: { uri, version: 3 }, contentChanges: [{ text: "x" }, { range: {}, text: "" }] });
-  verdict((await client.next(({ method }) => method === "window/logMessage")).params.type, 1, "an edit without a range");
+  verdict((await client.waitForMessage(({ method }) => method === "window/logMessage")).params.type, 1, "an edit without a range");
   verdict((await client.request("textDocument/hover", at(uri, 0, 1))).contents.value.slice(0, 4), "NOP:", "the text is unchanged");
-  verdict(await client.end(), 0, "shutdown and exit");
+  verdict(await client.endSession(), 0, "shutdown and exit");
 }
 
 async function tryExits() {
   const closedClient = new Client(MCS4);
-  await closedClient.begin();
+  await closedClient.beginSession();
   closedClient.child.stdin.end();
   verdict(await closedClient.ended, 1, "a client that ends");
   const hastyClient = new Client(MCS4);
@@ -130,16 +130,16 @@ async function tryExits() {
 async function tryRequestsAtOnce() {
   const hastyClient = new Client(MCS4);
   const uri = "file:///hasty.asm";
-  const initialized = hastyClient.answer("initialize", { processId: null, rootUri: null, capabilities: {} });
+  const initialized = hastyClient.fetchResponse("initialize", { processId: null, rootUri: null, capabilities: {} });
   hastyClient.notify("initialized", {});
-  const errors = await hastyClient.open(uri, "JMP there\n");
+  const errors = await hastyClient.openDocument(uri, "JMP there\n");
   verdict([(await initialized).error, errors.length], [undefined, 1], "the errors of a text that is opened in one chunk with initialize");
-  const shutdown = hastyClient.answer("shutdown");
+  const shutdown = hastyClient.fetchResponse("shutdown");
   hastyClient.notify("exit");
   verdict([(await shutdown).error, await hastyClient.ended], [undefined, 0], "shutdown and exit in one chunk");
   const largeClient = new Client(MCS4);
   largeClient.sendBytes("Content-Length: 99999999999\r\n\r\n");
-  const { error } = await largeClient.next(({ id }) => id === null);
+  const { error } = await largeClient.waitForMessage(({ id }) => id === null);
   verdict([error.code, await largeClient.ended, largeClient.stderr], [-32600, 1, `lsp: ${error.message}\n`], "a length that no message can have");
 }
 
@@ -158,20 +158,20 @@ async function tryWrongLengths() {
   shortLengthClient.sendBytes(`Content-Length: ${body.length}\r\n\r\n${body}`);
   const expected = `only ${body.length} of the ${body.length + 10} bytes that Content-Length announces have arrived`;
   for (const [testedClient, condition] of [[endedClient, "the client ends"], [openClient, "the stream stays open"]]) {
-    const { error } = await testedClient.next(({ id }) => id === null);
+    const { error } = await testedClient.waitForMessage(({ id }) => id === null);
     verdict([error.code, error.message, await testedClient.ended, testedClient.stderr], [-32600, expected, 1, `lsp: ${expected}\n`], `too large a length, ${condition}`);
   }
-  const { error } = await shortLengthClient.next(({ id }) => id === null);
+  const { error } = await shortLengthClient.waitForMessage(({ id }) => id === null);
   verdict([error.code, await shortLengthClient.ended, shortLengthClient.stderr.split(",")[0]], [-32700, 1, "lsp: a message begins with one line Content-Length: N"],
     "too small a length");
 }
 
 const wrongLengths = tryWrongLengths();
 const client = new Client(MCS4);
-await client.begin();
+await client.beginSession();
 for (const name of examples()) await compare(client, name);
 await trySpeed(client);
-verdict(await client.end(), 0, "the server's status");
+verdict(await client.endSession(), 0, "the server's status");
 await tryWrongMessages();
 await tryRequestsAtOnce();
 await tryExits();

@@ -8,9 +8,9 @@ import { Client } from "./lsp_client.mjs";
 const TOP = new URL("../..", import.meta.url).pathname;
 const [folder] = process.argv.slice(2);
 /** The number of valid programs, and the number of programs with errors. */
-const ACCEPTED = 500;
-const REJECTED = 60;
-const COUNT = ACCEPTED + REJECTED;
+const ACCEPTED_COUNT = 500;
+const REJECTED_COUNT = 60;
+const PROGRAM_COUNT = ACCEPTED_COUNT + REJECTED_COUNT;
 /** The number of programs in one session. */
 const BATCH_SIZE = 50;
 const ALL_ROMS = `wire\n${[...Array(16).keys()].map((chip) => `[[rom]]\nchip = ${chip}\nport = "0000"\n`).join("")}.\n`;
@@ -49,13 +49,13 @@ async function format(client, name, text, options) {
 
 const programs = `${folder}/programs`;
 mkdirSync(programs);
-execFileSync("python3", [`${TOP}checks/lib/seeded_programs.py`, programs, String(ACCEPTED), String(REJECTED)]);
+execFileSync("python3", [`${TOP}checks/lib/seeded_programs.py`, programs, String(ACCEPTED_COUNT), String(REJECTED_COUNT)]);
 const client = new Client(`${TOP}mcs4`);
-await client.begin();
+await client.beginSession();
 let changedCount = 0;
 let loadedCount = 0;
-for (let start = 0; start < COUNT; start += BATCH_SIZE) {
-  const numbers = [...Array(Math.min(BATCH_SIZE, COUNT - start)).keys()].map((index) => start + index);
+for (let start = 0; start < PROGRAM_COUNT; start += BATCH_SIZE) {
+  const numbers = [...Array(Math.min(BATCH_SIZE, PROGRAM_COUNT - start)).keys()].map((index) => start + index);
   const texts = numbers.map((number) => readFileSync(`${programs}/${number}.asm`, "utf8"));
   const after = [];
   for (const [index, number] of numbers.entries()) {
@@ -69,6 +69,6 @@ for (let start = 0; start < COUNT; start += BATCH_SIZE) {
   loadedCount += (before.match(/^ok \d+ bytes /gm) || []).length;
   verdict(before === afterFormatting, `programs ${start} to ${start + numbers.length - 1}: the same answers, byte for byte`);
 }
-verdict(loadedCount === ACCEPTED, `${loadedCount} programs were loaded`);
-verdict(changedCount > COUNT / 2, `${changedCount} of ${COUNT} programs have another layout`);
-verdict(await client.end() === 0, "the server's status");
+verdict(loadedCount === ACCEPTED_COUNT, `${loadedCount} programs were loaded`);
+verdict(changedCount > PROGRAM_COUNT / 2, `${changedCount} of ${PROGRAM_COUNT} programs have another layout`);
+verdict(await client.endSession() === 0, "the server's status");

@@ -6,25 +6,25 @@ import { cpSync, existsSync, mkdirSync, readFileSync, rmSync, writeFileSync } fr
 import { MessageClient } from "./message_client.mjs";
 
 /** The time in milliseconds to wait for each result. */
-const TIMEOUT = 90000;
+const TIMEOUT_MS = 90000;
 /** The time in milliseconds after which a key that had no effect is pressed again, and after which a display command is ended. */
-const RETRY_AFTER = 20000;
+const RETRY_AFTER_MS = 20000;
 /** The window title of Kate's question about starting the server. */
 const QUESTION = "LSP server start requested";
 const folder = process.argv[2];
 /** Functions that end the processes that this script has started. */
 const endFunctions = new Set();
-const say = (line) => process.stdout.write(`${line}\n`);
+const printLine = (line) => process.stdout.write(`${line}\n`);
 const shortDelay = () => new Promise((resume) => setTimeout(resume, 100));
 
-/** Calls `find` repeatedly until it returns a truthy value. Resolves to that value. Fails after TIMEOUT, with a message that contains `description`. */
+/** Calls `find` repeatedly until it returns a truthy value. Resolves to that value. Fails after TIMEOUT_MS, with a message that contains `description`. */
 async function waitFor(description, find) {
-  for (const end = Date.now() + TIMEOUT; Date.now() < end;) {
+  for (const end = Date.now() + TIMEOUT_MS; Date.now() < end;) {
     const value = find();
     if (value) return value;
     await shortDelay();
   }
-  throw new Error(`${description}: not after ${TIMEOUT} ms`);
+  throw new Error(`${description}: not after ${TIMEOUT_MS} ms`);
 }
 
 /** Returns the messages in the file `sent` or `received`. */
@@ -88,33 +88,33 @@ class Kate {
   }
 
   xdotool(...args) {
-    return spawnSync("xdotool", args, { env: this.environment, encoding: "utf8", timeout: RETRY_AFTER }).stdout ?? "";
+    return spawnSync("xdotool", args, { env: this.environment, encoding: "utf8", timeout: RETRY_AFTER_MS }).stdout ?? "";
   }
 
   /** Returns the id of a window whose title contains `title`, or "" if there is none. */
-  window(title) {
+  findWindow(title) {
     return this.xdotool("search", "--onlyvisible", "--name", title).trim().split("\n").at(-1);
   }
 
   /** Sends keys to the window whose title contains `title`. */
-  async keys(title, ...keys) {
-    const window = await waitFor(`the window ${title}`, () => this.window(title));
+  async sendKeys(title, ...keys) {
+    const window = await waitFor(`the window ${title}`, () => this.findWindow(title));
     this.xdotool("windowfocus", window, "key", "--delay", "100", ...keys);
   }
 
   /** Waits for the server's diagnostics, and resolves to them. If Kate asks whether it may start the server, confirms that. */
-  async diagnostics() {
+  async waitForDiagnostics() {
     let askedAt = 0;
-    const diagnostics = await waitFor("faults", () => {
+    const diagnostics = await waitFor("errors", () => {
       // Send only one key, because a second one would go into the text.
-      const window = Date.now() - askedAt > RETRY_AFTER && this.window(QUESTION);
+      const window = Date.now() - askedAt > RETRY_AFTER_MS && this.findWindow(QUESTION);
       if (window) {
         askedAt = Date.now();
         this.xdotool("windowfocus", window, "key", "Return");
       }
       return lastDiagnostics();
     });
-    say(`${this.file}: ${askedAt ? "asked" : "did not ask"} before it started the server`);
+    printLine(`${this.file}: ${askedAt ? "asked" : "did not ask"} before it started the server`);
     return diagnostics;
   }
 
@@ -128,28 +128,28 @@ class Kate {
 }
 
 function printDiagnostics(diagnostics) {
-  for (const { range, message } of diagnostics) say(`fault ${range.start.line + 1}:${range.start.character}-${range.end.character} ${message}`);
-  if (diagnostics.length === 0) say("no fault");
+  for (const { range, message } of diagnostics) printLine(`error ${range.start.line + 1}:${range.start.character}-${range.end.character} ${message}`);
+  if (diagnostics.length === 0) printLine("no errors");
 }
 
 /** Opens a program with an error. Checks that the error is marked, and that the mark disappears after typing corrects the error. */
 async function checkProgram(display) {
   const kate = new Kate(display, "wrong.asm", ["-l", "39", "-c", "9"]);
   try {
-    await waitFor("the question", () => kate.window(QUESTION));
-    say(isMarked() ? "a line is marked too early" : "no line is marked");
-    const diagnostics = await kate.diagnostics();
+    await waitFor("the question", () => kate.findWindow(QUESTION));
+    printLine(isMarked() ? "a line is marked too early" : "no line is marked");
+    const diagnostics = await kate.waitForDiagnostics();
     const [{ params: { textDocument: opened } }] = sent("textDocument/didOpen");
-    say(`initialize ${sent("initialize").length}, opened ${opened.uri.split("/").at(-1)} as ${opened.languageId}`);
+    printLine(`initialize ${sent("initialize").length}, opened ${opened.uri.split("/").at(-1)} as ${opened.languageId}`);
     printDiagnostics(diagnostics);
     await waitFor("a mark", isMarked);
-    say("a line is marked");
-    await kate.keys("wrong.asm", "Delete", "Delete", "Delete", "J", "U", "N");
-    printDiagnostics(await waitFor("no faults", () => lastDiagnostics().length === 0 && lastDiagnostics()));
+    printLine("a line is marked");
+    await kate.sendKeys("wrong.asm", "Delete", "Delete", "Delete", "J", "U", "N");
+    printDiagnostics(await waitFor("no errors", () => lastDiagnostics().length === 0 && lastDiagnostics()));
     const changes = sent("textDocument/didChange").at(-1).params.contentChanges;
-    say(`changed to ${changes.at(-1).text.split("\n")[38].trim()}`);
+    printLine(`changed to ${changes.at(-1).text.split("\n")[38].trim()}`);
     await waitFor("no mark", () => !isMarked());
-    say("no line is marked");
+    printLine("no line is marked");
   } finally {
     kate.end();
   }
@@ -166,12 +166,12 @@ async function checkGrammar(display, file) {
   writeFileSync(settings, JSON.stringify(settingsValue));
   const kate = new Kate(display, file);
   try {
-    const diagnostics = await kate.diagnostics();
-    say(`by the grammar: ${file}`);
+    const diagnostics = await kate.waitForDiagnostics();
+    printLine(`by the grammar: ${file}`);
     printDiagnostics(diagnostics);
-    await kate.keys(file, "ctrl+q");
+    await kate.sendKeys(file, "ctrl+q");
     await waitFor("the end", () => kate.child.exitCode !== null);
-    say(`shutdown ${sent("shutdown").length}, exit ${sent("exit").length}`);
+    printLine(`shutdown ${sent("shutdown").length}, exit ${sent("exit").length}`);
   } finally {
     kate.end();
   }
@@ -185,9 +185,9 @@ async function main() {
     cpSync(new URL("../../editors/kate", import.meta.url), `${folder}/home/.local/share/org.kde.syntax-highlighting/syntax`, { recursive: true });
     await checkGrammar(name, "lock.asm");
     await checkGrammar(name, "board.toml");
-    say("end");
+    printLine("end");
   } catch (error) {
-    say(`the check failed: ${error.message}`);
+    printLine(`the check failed: ${error.message}`);
   }
 }
 

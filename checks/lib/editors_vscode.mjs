@@ -90,7 +90,7 @@ async function change(client, { colours, resultId }) {
   client.notify("textDocument/didChange", { textDocument: { uri, version: 3 }, contentChanges: [{ range: edit.range, text: "JCN" }] });
   client.send({ id: "cancelled", method: "textDocument/diagnostic", params: { textDocument } });
   client.notify("$/cancelRequest", { id: "cancelled" });
-  const { error } = await client.next(({ id }) => id === "cancelled");
+  const { error } = await client.waitForMessage(({ id }) => id === "cancelled");
   verdict(error.code, -32800, "a request that is cancelled");
   const trigger = { triggerKind: 2, triggerCharacter: " " };
   const position = { line: 38, character: 12 };
@@ -109,13 +109,13 @@ async function openOthers(client) {
     const { items } = await client.request("textDocument/diagnostic", { textDocument: { uri: uriOf(name) } });
     verdict(items, [], `${name} has no error`);
   }
-  const refresh = await client.next(({ method }) => method === "workspace/diagnostic/refresh");
+  const refresh = await client.waitForMessage(({ method }) => method === "workspace/diagnostic/refresh");
   client.send({ id: refresh.id, result: null });
   const links = await client.request("textDocument/documentLink", { textDocument: { uri: uriOf("mcs4.toml") } });
   verdict(links.map(({ tooltip }) => tooltip), ["board.toml", "lock.asm", "lock.test", "lock.props"], "links of the project");
   const [{ command }] = await client.request("textDocument/codeLens", { textDocument: { uri: uriOf("lock.test") } });
   await client.request("workspace/executeCommand", command);
-  const { params } = await client.next(({ method }) => method === "window/showMessage");
+  const { params } = await client.waitForMessage(({ method }) => method === "window/showMessage");
   verdict([params.type, / passed\.$/.test(params.message)], [3, true], "a test that is run");
   verdict((await client.request("workspace/symbol", { query: "several" })).length > 0, true, "names of the workspace");
 }
@@ -183,6 +183,6 @@ await openOthers(client);
 await openDevices(client);
 await measureSpeed(client);
 client.notify("textDocument/didClose", { textDocument });
-verdict((await client.answer("textDocument/hover", { textDocument, position: { line: 0, character: 0 } })).error.code, -32602, "a text that was closed");
+verdict((await client.fetchResponse("textDocument/hover", { textDocument, position: { line: 0, character: 0 } })).error.code, -32602, "a text that was closed");
 verdict(client.received.filter(({ method }) => method === "textDocument/publishDiagnostics"), [], "no diagnostics that were not requested");
-verdict(await client.end(), 0, "the server's status");
+verdict(await client.endSession(), 0, "the server's status");

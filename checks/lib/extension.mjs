@@ -18,6 +18,7 @@ const providers = {};
 const diagnostics = new Map();
 const listeners = {};
 const disposable = { dispose: () => {} };
+/** A stand-in for a class of the editor's module. It only stores the arguments of its constructor. */
 class Plain {
   constructor(...given) {
     this.given = given;
@@ -155,7 +156,7 @@ listeners.change({ document: { ...document, version: 2 }, contentChanges: [{ ran
 const definition = await providers.registerDefinitionProvider.provideDefinition(document, { line: 0, character: 13 });
 verdict(definition.given[1].given, [0, 0, 0, 5], "a definition");
 const edit = await providers.registerRenameProvider.provideRenameEdits(document, { line: 0, character: 1 }, "again");
-verdict(edit.edits.map((each) => each[5]), ["again", "again"], "a renamed label");
+verdict(edit.edits.map((textEdit) => textEdit[5]), ["again", "again"], "a renamed label");
 verdict((await providers.registerDocumentSymbolProvider.provideDocumentSymbols(document)).map(({ given }) => given[0]), ["start"], "the outline");
 verdict((await providers.registerCompletionItemProvider.provideCompletionItems(document, { line: 1, character: 10 })).length > 0, true, "completion");
 const { given: [data] } = await providers.registerDocumentSemanticTokensProvider.provideDocumentSemanticTokens(document);

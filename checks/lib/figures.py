@@ -4,7 +4,7 @@ import collections
 import pathlib
 import re
 
-from side_by_side import CHECKS
+from parallel_checks import CHECKS
 from mutants import BOARD_MUTANTS, LIMIT_MUTANTS, SEARCH_MUTANTS, TOOL_MUTANTS, WAIT_MUTANTS
 
 TOP = pathlib.Path(__file__).resolve().parent.parent.parent

@@ -1,4 +1,4 @@
-/* Calls the C functions of the kit that the program uses, such as rattle_arg, and prints their results. It is linked once with the kit's archives
+/* Calls the C functions of the kit that the program uses, such as rattle_arg, and prints their results. The test is linked once with the kit's archives
  * and once with tools/lib/aarch64.c, and the results must be the same. */
 #include <stdint.h>
 #include <stdio.h>

@@ -18,41 +18,41 @@ export class Client extends MessageClient {
   }
 
   /** Sends a request, and resolves to its response, which has a result or an error. */
-  answer(method, params) {
-    this.number += 1;
-    const id = this.number;
+  fetchResponse(method, params) {
+    this.requestCount += 1;
+    const id = this.requestCount;
     this.send({ id, method, params });
-    return this.next((message) => message.id === id && message.method === undefined);
+    return this.waitForMessage((message) => message.id === id && message.method === undefined);
   }
 
   /** Sends a request, and resolves to its result. Throws an error if the request failed. */
   async request(method, params) {
-    const { result, error } = await this.answer(method, params);
+    const { result, error } = await this.fetchResponse(method, params);
     if (error) throw new Error(`${method}: ${error.message}`);
     return result;
   }
 
   /** Sends the requests that begin a session, and resolves to the answer to `initialize`. */
-  async begin() {
+  async beginSession() {
     const answer = await this.request("initialize", { processId: process.pid, rootUri: null, capabilities: {} });
     this.notify("initialized", {});
     return answer;
   }
 
   /** Opens a document, and waits until the server has reported its errors. Resolves to these errors. */
-  async open(uri, text, languageId = "asm") {
+  async openDocument(uri, text, languageId = "asm") {
     this.notify("textDocument/didOpen", { textDocument: { uri, languageId, version: 1, text } });
-    return this.errorsIn(uri);
+    return this.waitForErrors(uri);
   }
 
   /** Waits for the errors in a document, and resolves to them. */
-  async errorsIn(uri) {
-    const { params } = await this.next((message) => message.method === "textDocument/publishDiagnostics" && message.params.uri === uri);
+  async waitForErrors(uri) {
+    const { params } = await this.waitForMessage((message) => message.method === "textDocument/publishDiagnostics" && message.params.uri === uri);
     return params.diagnostics;
   }
 
   /** Ends the server, and resolves to its exit status. */
-  async end() {
+  async endSession() {
     await this.request("shutdown");
     this.notify("exit");
     return this.ended;

@@ -7,7 +7,7 @@ import socket
 import subprocess
 import time
 
-from driven import BEFORE_SCRIPTS, ELEMENT, BrowserDriver, DriverError
+from browser_driver import BEFORE_SCRIPTS, ELEMENT_KEY, BrowserDriver, DriverError
 
 SECONDS_TO_START = 90
 SECONDS_TO_ANSWER = 120
@@ -41,7 +41,7 @@ class Firefox(BrowserDriver):
         (profile / "user.js").write_text("".join(lines))
         self.program = subprocess.Popen(["firefox-esr", "--marionette", "--headless", "--no-remote", "--profile", profile],
                                         stdout=subprocess.DEVNULL, stderr=subprocess.DEVNULL)
-        self.number = 0
+        self.command_number = 0
         self.connection = self._connect(profile / "MarionetteActivePort")
         self.version = self.send_command("WebDriver:NewSession")["capabilities"]["browserVersion"]
         self.restore_size()
@@ -71,15 +71,15 @@ class Firefox(BrowserDriver):
 
     def send_command(self, command, **parameters):
         """Sends a command, and returns its result. Raises DriverError if Firefox answers with an error."""
-        self.number += 1
-        message = json.dumps([0, self.number, command, parameters]).encode()
+        self.command_number += 1
+        message = json.dumps([0, self.command_number, command, parameters]).encode()
         self.connection.sendall(b"%d:%s" % (len(message), message))
         _, _, error, result = self._read()
         if error:
             raise DriverError(f"{error['error']}: {error['message']}".split("\n")[0])
         return result["value"] if isinstance(result, dict) and list(result) == ["value"] else result
 
-    def go(self, address):
+    def open(self, address):
         """Opens a page at an address."""
         self.send_command("WebDriver:Navigate", url=address)
 
@@ -87,7 +87,7 @@ class Firefox(BrowserDriver):
         """Reloads the page."""
         self.send_command("WebDriver:Refresh")
 
-    def back(self):
+    def go_back(self):
         """Goes back to the previous page."""
         self.send_command("WebDriver:Back")
 
@@ -97,7 +97,7 @@ class Firefox(BrowserDriver):
 
     def find(self, selector):
         """Returns the id of the first element that a selector matches."""
-        return self.send_command("WebDriver:FindElement", using="css selector", value=selector)[ELEMENT]
+        return self.send_command("WebDriver:FindElement", using="css selector", value=selector)[ELEMENT_KEY]
 
     def click_element(self, element):
         """Clicks the element with an id."""
@@ -107,7 +107,7 @@ class Firefox(BrowserDriver):
         """Types text into the element with an id."""
         self.send_command("WebDriver:ElementSendKeys", id=element, text=text)
 
-    def actions(self, *sources):
+    def perform_actions(self, *sources):
         """Performs sequences of input actions, one for each input device, at the same time."""
         self.send_command("WebDriver:PerformActions", actions=list(sources))
 
@@ -119,7 +119,7 @@ class Firefox(BrowserDriver):
     def set_window_size(self, width, height):
         self.send_command("WebDriver:SetWindowRect", width=width, height=height)
 
-    def tab(self):
+    def current_tab(self):
         """Returns the handle of the current tab."""
         return self.send_command("WebDriver:GetWindowHandle")
 
@@ -137,11 +137,11 @@ class Firefox(BrowserDriver):
         self.send_command("WebDriver:CloseWindow")
         self.show_tab(handle)
 
-    def picture(self):
+    def screenshot(self):
         """Returns a screenshot as the bytes of a PNG file."""
         return base64.b64decode(self.send_command("WebDriver:TakeScreenshot", full=False))
 
-    def process(self):
+    def process_id(self):
         """Returns the browser's process id."""
         return self.program.pid
 

@@ -3,17 +3,17 @@
 import { spawn } from "node:child_process";
 
 /** The time in milliseconds to wait for an answer. */
-const TIMEOUT = 60000;
+const TIMEOUT_MS = 60000;
 
 export class MessageClient {
   /** @param {string} command the command that starts the server */
   constructor(command, folder = ".", args = [], env = process.env) {
     this.child = spawn(command, args, { stdio: ["pipe", "pipe", "pipe"], cwd: folder, env });
-    this.input = Buffer.alloc(0);
+    this.unparsedBytes = Buffer.alloc(0);
     this.received = [];
     this.stderr = "";
-    /** The number of the last request. */
-    this.number = 0;
+    /** The number of requests so far, which is the number of the last one. */
+    this.requestCount = 0;
     this.wake = () => {};
     this.child.stdout.on("data", (bytes) => this.receive(bytes));
     this.child.stderr.on("data", (bytes) => {
@@ -28,22 +28,22 @@ export class MessageClient {
   /** Splits received bytes into the complete messages at the beginning and the remaining bytes. */
   static messagesIn(bytes) {
     const messages = [];
-    let rest = bytes;
+    let remainingBytes = bytes;
     for (;;) {
-      const end = rest.indexOf("\r\n\r\n");
+      const end = remainingBytes.indexOf("\r\n\r\n");
       if (end < 0) break;
-      const size = Number(/^Content-Length: (\d+)$/m.exec(rest.subarray(0, end).toString())[1]);
-      if (rest.length < end + 4 + size) break;
-      messages.push(JSON.parse(rest.subarray(end + 4, end + 4 + size).toString()));
-      rest = rest.subarray(end + 4 + size);
+      const size = Number(/^Content-Length: (\d+)$/m.exec(remainingBytes.subarray(0, end).toString())[1]);
+      if (remainingBytes.length < end + 4 + size) break;
+      messages.push(JSON.parse(remainingBytes.subarray(end + 4, end + 4 + size).toString()));
+      remainingBytes = remainingBytes.subarray(end + 4 + size);
     }
-    return { messages, rest };
+    return { messages, remainingBytes };
   }
 
   /** Adds received bytes, and checks and stores the messages that are complete. */
   receive(bytes) {
-    const { messages, rest } = MessageClient.messagesIn(this.input.length === 0 ? bytes : Buffer.concat([this.input, bytes]));
-    this.input = rest;
+    const { messages, remainingBytes } = MessageClient.messagesIn(this.unparsedBytes.length === 0 ? bytes : Buffer.concat([this.unparsedBytes, bytes]));
+    this.unparsedBytes = remainingBytes;
     for (const message of messages) {
       this.check(message);
       this.received.push(message);
@@ -66,13 +66,13 @@ export class MessageClient {
     this.sendBytes(body);
   }
 
-  /** Waits for the first message that matches, removes it from the list, and resolves to it. Throws an error after TIMEOUT. */
-  async next(matches) {
-    const deadline = Date.now() + TIMEOUT;
+  /** Waits for the first message that matches, removes it from the list, and resolves to it. Throws an error after TIMEOUT_MS. */
+  async waitForMessage(matches) {
+    const deadline = Date.now() + TIMEOUT_MS;
     for (;;) {
       const index = this.received.findIndex(matches);
       if (index >= 0) return this.received.splice(index, 1)[0];
-      if (Date.now() > deadline) throw new Error(`no answer after ${TIMEOUT} ms; on standard error: ${this.stderr}`);
+      if (Date.now() > deadline) throw new Error(`no answer after ${TIMEOUT_MS} ms; on standard error: ${this.stderr}`);
       await new Promise((resume) => {
         const timer = setTimeout(resume, 1000);
         this.wake = () => {

@@ -307,7 +307,7 @@ LIMIT_MUTANTS: dict[str, Callable[[], AbstractContextManager]] = {
 }
 
 
-# ---- changes that are apart
+# ---- the minimum time between changes
 
 def begins_with_free(part: int) -> Callable[[int, Spacing, Levels], bool]:
     """Lets TEST (part 1) or the keys (part 0) change at any time, if the other levels do not change."""

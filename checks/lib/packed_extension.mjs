@@ -13,7 +13,7 @@ const TOP = new URL("../..", import.meta.url).pathname;
 const [extensionFolder, parent] = process.argv.slice(2);
 const folder = join(parent, "a board, and its program");
 /** The time in milliseconds to wait for each result. It is long, so that a busy machine does not cause an error. */
-const TIMEOUT = 60000;
+const TIMEOUT_MS = 60000;
 
 function verdict(actual, expected, description) {
   const [actualText, expectedText] = [JSON.stringify(actual), JSON.stringify(expected)];
@@ -21,8 +21,8 @@ function verdict(actual, expected, description) {
 }
 
 /** Waits until `find` returns a truthy value. Resolves to that value, or to null after a timeout. */
-async function until(find) {
-  for (const end = Date.now() + TIMEOUT; Date.now() < end;) {
+async function waitUntil(find) {
+  for (const end = Date.now() + TIMEOUT_MS; Date.now() < end;) {
     const value = find();
     if (value) return value;
     await new Promise((resume) => { setTimeout(resume, 20); });
@@ -52,8 +52,8 @@ function hideInstallation() {
   verdict(spawnSync("mcs4", ["version"]).error?.code, "ENOENT", "mcs4 cannot be started");
 }
 
-const diagnosticsOf = ({ shown }, { uri }) => until(() => shown.diagnostics.has(uri.toString()) && shown.diagnostics.get(uri.toString())
-  .map(({ given: [range, words] }) => [range.start.line, words.split("\n")[0]]));
+const diagnosticsOf = ({ shown }, { uri }) => waitUntil(() => shown.diagnostics.has(uri.toString()) && shown.diagnostics.get(uri.toString())
+  .map(({ given: [range, message] }) => [range.start.line, message.split("\n")[0]]));
 
 async function tryTexts(editor) {
   const wrongText = editor.open("lock/wrong.asm", "plaintext");
@@ -102,9 +102,9 @@ async function tryTests(editor) {
  */
 async function debug(editor, configuration) {
   const { registered, events } = editor;
-  const { given: [command, words, { env }] } = registered["adapter mcs4"].createDebugAdapterDescriptor();
-  verdict([command, words[words.length - 1], env.ELECTRON_RUN_AS_NODE], [process.execPath, "dap", "1"], "the debug adapter runs on the editor's own Node");
-  const client = new Client(command, parent, [], { before: words.slice(0, -1), env: { ...process.env, ...env } });
+  const { given: [command, args, { env }] } = registered["adapter mcs4"].createDebugAdapterDescriptor();
+  verdict([command, args[args.length - 1], env.ELECTRON_RUN_AS_NODE], [process.execPath, "dap", "1"], "the debug adapter runs on the editor's own Node");
+  const client = new Client(command, parent, [], { before: args.slice(0, -1), env: { ...process.env, ...env } });
   const session = { type: "mcs4", configuration, customRequest: (name, args) => client.request(name, args) };
   const tracker = registered["tracker mcs4"].createDebugAdapterTracker(session);
   const { check } = Client.prototype;
@@ -113,9 +113,9 @@ async function debug(editor, configuration) {
     tracker.onDidSendMessage(message);
     if (message.event === "boardShown") events.custom.fire({ session, event: message.event, body: message.body });
   };
-  await client.begin(configuration);
+  await client.beginSession(configuration);
   return { client, end: async () => {
-    await client.end();
+    await client.endSession();
     events.terminate.fire(session);
     verdict(client.violations, [], "the messages of the adapter follow the protocol");
   } };
@@ -123,10 +123,10 @@ async function debug(editor, configuration) {
 
 async function tryDebuggedTest(editor, configuration) {
   const { client, end } = await debug(editor, configuration);
-  await client.event("stopped");
-  const output = client.output();
+  await client.waitForEvent("stopped");
+  const output = client.takeOutput();
   verdict(/three_lamps\.test:6: it fails: acc is \w+, but must be 9/.test(output), true, `a test is debugged: ${output.trim()}`);
-  const programCounter = async () => (await client.frames())[0].instructionPointerReference;
+  const programCounter = async () => (await client.fetchFrames())[0].instructionPointerReference;
   const before = await programCounter();
   await client.runUntilStop("stepBack");
   verdict(before !== await programCounter(), true, "a step back from the failure");
@@ -146,23 +146,23 @@ async function tryPanel(editor) {
   verdict(loadedFiles.map((path) => existsSync(join(extensionFolder, path.replace("vscode-resource:", "")))), [true, true], `the files that the panel loads: ${loadedFiles.join(", ")}`);
   const configuration = shown.launched.pop();
   verdict([configuration.project, configuration.realTime, configuration.stopOnEntry], [join(folder, "printer"), true, false], "the session that is launched for the panel");
-  await webview.say({ isReady: true });
+  await webview.sendMessage({ isReady: true });
   const { end } = await debug(editor, { ...configuration, realTime: false });
   const boardState = () => Object.assign({}, ...webview.posted.map((message) => message.update || {}));
-  verdict(await until(() => boardState().board && boardState().boardText.includes("printer")), true, "the board is drawn");
+  verdict(await waitUntil(() => boardState().board && boardState().boardText.includes("printer")), true, "the board is drawn");
   // Press `7` and `+`, which makes the calculator print the operand.
   for (const legend of ["7", "+"]) {
     const keyPosition = keyPositionOf(legend);
-    await webview.say({ place: keyPosition, isDown: true });
-    await until(() => (boardState().keys || []).includes(keyPosition.replace(" ", ".")));
+    await webview.sendMessage({ place: keyPosition, isDown: true });
+    await waitUntil(() => (boardState().keys || []).includes(keyPosition.replace(" ", ".")));
     await new Promise((resume) => { setTimeout(resume, 300); });
-    await webview.say({ place: keyPosition, isDown: false });
-    await until(() => (boardState().keys || []).length === 0);
+    await webview.sendMessage({ place: keyPosition, isDown: false });
+    await waitUntil(() => (boardState().keys || []).length === 0);
     await new Promise((resume) => { setTimeout(resume, 300); });
   }
-  verdict(Boolean(await until(() => boardState().printed && boardState().printed.codes.length > 0)), true, "the printout in the panel");
-  await webview.say({ clearsPrintout: true });
-  verdict(Boolean(await until(() => boardState().printed.codes.length === 0)), true, "the printout is cleared");
+  verdict(Boolean(await waitUntil(() => boardState().printed && boardState().printed.codes.length > 0)), true, "the printout in the panel");
+  await webview.sendMessage({ clearsPrintout: true });
+  verdict(Boolean(await waitUntil(() => boardState().printed.codes.length === 0)), true, "the printout is cleared");
   await end();
   verdict(webview.posted[webview.posted.length - 1].update, null, "the panel after the end");
 }
@@ -188,7 +188,7 @@ function problemsIn(text, matchers) {
 async function tryTasks({ registered }, { contributes }) {
   const tasks = await registered["tasks mcs4"].provideTasks();
   verdict(tasks.map(({ given: [, , name] }) => name).slice(0, 5), ["test lock", "cover lock", "profile lock", "explore lock", "prove lock"], "the tasks of a project");
-  const run = ({ given: [, , , , { given: [command, words, { cwd, env }] }] }) => spawnSync(command, words, { cwd, env: { ...process.env, ...env }, encoding: "utf8" });
+  const run = ({ given: [, , , , { given: [command, args, { cwd, env }] }] }) => spawnSync(command, args, { cwd, env: { ...process.env, ...env }, encoding: "utf8" });
   const { status, stdout } = run(tasks[0]);
   verdict([status, /^1\.\.\d+$/m.test(stdout)], [0, true], "a task runs the tests");
   writeFileSync(join(folder, "lock", "mcs4.toml"), readFileSync(join(folder, "lock", "mcs4.toml"), "utf8").replace("lock.asm", "wrong.asm"));
@@ -226,7 +226,7 @@ Module._load = (name, ...more) => (name === "vscode" ? secondEditor.vscode : loa
 for (const name of Object.keys(require.cache)) if (name.startsWith(extensionFolder)) delete require.cache[name];
 const secondExtension = require(join(extensionFolder, manifest.main));
 await secondExtension.activate({ subscriptions: [], extensionPath: extensionFolder, extensionUri: uri });
-verdict(secondEditor.shown.errors.map((words) => words.replace(/^Cannot start the command .* \(/, "Cannot start the command (")),
+verdict(secondEditor.shown.errors.map((message) => message.replace(/^Cannot start the command .* \(/, "Cannot start the command (")),
   ["Cannot start the command (setting mcs4.command). The extension uses its own commands instead."], "a missing command");
 verdict((await diagnosticsOf(secondEditor, secondEditor.open("lock/wrong.asm", "mcs4"))).length, 1, "errors in a text, with a missing command");
 await secondExtension.deactivate();

@@ -4,8 +4,8 @@ text, borders, marks and lamps in both colour schemes."""
 
 import re
 
-from page_in_browser import (ESCAPE, GET_TEXT_OF_EDITOR, IS_AT_COUNTER, PUT_INTO_EDITOR, TAB, choose_example, send_lines, reopen_page, show_text,
-                             step_with_marks, pause_running_time)
+from page_basics import (ESCAPE, GET_TEXT_OF_EDITOR, IS_AT_COUNTER, PUT_INTO_EDITOR, TAB, choose_example, send_lines, reopen_page, show_text,
+                         step_with_marks, pause_running_time)
 from verdicts import eventually, verdict
 from web_driver import Chromium
 
@@ -65,13 +65,13 @@ def check_tab_key(browser):
             visited.append(panel)
         if panel == "statusbar":
             break
-        browser.keys([ESCAPE, TAB] if browser.script(IS_FOCUS_IN_EDITOR) else [TAB], 1, 1)
+        browser.type_keys([ESCAPE, TAB] if browser.script(IS_FOCUS_IN_EDITOR) else [TAB], 1, 1)
         tab_count += 1
     verdict("the Tab key reaches the panels in their order", visited, TAB_ORDER)
     verdict("the Tab key has fewer than 80 stops", tab_count < 80, True)
     browser.script("document.querySelector('#program-editor .cm-editor').lineEditor.focus()")
     text_before = browser.script(GET_TEXT_OF_EDITOR, "#program-editor")
-    browser.keys([ESCAPE, TAB])
+    browser.type_keys([ESCAPE, TAB])
     verdict("Escape and then Tab leave the editor", browser.script(IS_FOCUS_IN_EDITOR), False)
     verdict("the text after Escape and Tab is unchanged", browser.script(GET_TEXT_OF_EDITOR, "#program-editor"), text_before)
 
@@ -85,7 +85,7 @@ def value_of(node, key):
 
 def nodes_of(browser):
     """Yields the role, the name and the properties of each node that a screen reader receives."""
-    nodes = browser.command("Accessibility.getFullAXTree")["nodes"]
+    nodes = browser.send_command("Accessibility.getFullAXTree")["nodes"]
     for node in nodes:
         if not node.get("ignored"):
             properties = {entry["name"]: entry["value"].get("value") for entry in node.get("properties", [])}
@@ -108,10 +108,10 @@ def check_names(browser, view):
 def check_contrast(browser, view):
     """Checks that all elements have enough contrast in the light and the dark scheme."""
     for scheme in ("light", "dark"):
-        browser.command("Emulation.setEmulatedMedia", features=[{"name": "prefers-color-scheme", "value": scheme}])
-        browser.until(f"return matchMedia('(prefers-color-scheme: {scheme})').matches", True)
+        browser.send_command("Emulation.setEmulatedMedia", features=[{"name": "prefers-color-scheme", "value": scheme}])
+        browser.wait_until(f"return matchMedia('(prefers-color-scheme: {scheme})').matches", True)
         verdict(f"{view}: elements with too little contrast, {scheme} scheme", browser.script(FIND_LOW_CONTRAST), [])
-    browser.command("Emulation.setEmulatedMedia", features=[])
+    browser.send_command("Emulation.setEmulatedMedia", features=[])
 
 
 def check_view(browser, view):
@@ -127,14 +127,14 @@ EXPAND_ALL = "for (const each of document.querySelectorAll(`${arguments[0]} deta
 
 def check_views(browser):
     """Checks that all views and dialogs of the page have names that a screen reader can speak, and enough contrast."""
-    browser.command("Accessibility.enable")
+    browser.send_command("Accessibility.enable")
     # Switch off transitions, so that the final colours are measured.
     browser.script("const still = new CSSStyleSheet(); still.replaceSync('* { transition: none !important }'); "
                    "document.adoptedStyleSheets = [still]")
     check_board(browser)
     check_other_views(browser)
     check_dialogs(browser)
-    browser.command("Accessibility.disable")
+    browser.send_command("Accessibility.disable")
 
 
 def check_board(browser):
@@ -223,7 +223,7 @@ def check_dialogs(browser):
     browser.click("#from-rom")
     eventually(browser, "a question is open", "return document.querySelectorAll('#ask[open]').length", 1)
     check_view(browser, "a question")
-    browser.keys([ESCAPE])
+    browser.type_keys([ESCAPE])
     eventually(browser, "Escape closes the question", "return document.querySelectorAll('#ask[open]').length", 0)
 
 

@@ -3,9 +3,9 @@ and tooltips, the theme, the notes on examples, and the first visit with its car
 
 import re
 
-from driven import ELEMENT
+from browser_driver import ELEMENT_KEY
 from page_access import check_view
-from page_in_browser import DOWN, ENTER, ESCAPE, GET_STATUS, IS_READY, STEPPED, TAB, TOP, choose_example, reopen_page, show_text, pause_running_time, until_ready
+from page_basics import DOWN, ENTER, ESCAPE, GET_STATUS, IS_READY, STEPPED, TAB, TOP, choose_example, reopen_page, show_text, pause_running_time, wait_until_ready
 from verdicts import eventually, verdict
 from web_driver import Chromium
 
@@ -27,24 +27,24 @@ GET_FRONT_TAB = "return document.querySelector('#text-tabs [aria-selected=true]'
 # The buttons that need no command, each with the reason. They open a menu, belong to an open dialog or to the field next to them, or do the same as
 # another command.
 BUTTONS_WITHOUT_COMMAND = {
-    "menu-button": "opens the menu of files", "view-button": "opens the menu of panels", "cancel": "of work that goes on",
-    "tour-close": "of the tour", "tour-back": "of the tour", "tour-put": "of the tour", "tour-next": "of the tour", "first-program": "as help.tour",
-    "hello-program": "as help.tour", "first-example": "as project.all", "help-close": "of the help", "close-sessions": "of the dialog",
-    "delete-chosen": "of the dialog", "explore": "as properties.search", "send": "as Enter in the console",
-    "step-many": "as Enter beside it", "until-change": "as Enter beside it",
+    "menu-button": "opens the menu of files", "view-button": "opens the menu of panels", "cancel": "belongs to running work",
+    "tour-close": "belongs to the tour", "tour-back": "belongs to the tour", "tour-put": "belongs to the tour", "tour-next": "belongs to the tour", "first-program": "same as help.tour",
+    "hello-program": "same as help.tour", "first-example": "same as project.all", "help-close": "belongs to the help", "close-sessions": "belongs to the dialog",
+    "delete-chosen": "belongs to the dialog", "explore": "same as properties.search", "send": "same as Enter in the console",
+    "step-many": "same as Enter in the field next to it", "until-change": "same as Enter in the field next to it",
 }
 
 
 def press_chord(browser, *keys):
     """Presses keys one after the other, then releases them in reverse order."""
-    browser.actions({"type": "key", "id": "keyboard", "actions": [
+    browser.perform_actions({"type": "key", "id": "keyboard", "actions": [
         *({"type": "keyDown", "value": key} for key in keys), *({"type": "keyUp", "value": key} for key in reversed(keys))]})
 
 
 def open_palette(browser, query=""):
     """Opens the palette with Ctrl+K, and types a query if there is one."""
     press_chord(browser, CONTROL, "k")
-    browser.until(IS_PALETTE_OPEN, True)
+    browser.wait_until(IS_PALETTE_OPEN, True)
     if query:
         browser.type_into("#palette input", query)
 
@@ -52,8 +52,8 @@ def open_palette(browser, query=""):
 def execute_command(browser, query):
     """Executes the first command that the palette finds for a query."""
     open_palette(browser, query)
-    browser.keys([ENTER])
-    browser.until(IS_PALETTE_OPEN, False)
+    browser.type_keys([ENTER])
+    browser.wait_until(IS_PALETTE_OPEN, False)
 
 
 def check_palette_contents(browser):
@@ -70,8 +70,8 @@ def check_palette_contents(browser):
     verdict("the commands that the palette lacks", sorted(set(command_names.values()) - listed_commands), [])
     verdict("the texts, panels, themes, speeds, examples and keys that the palette lacks", {"Show Source", "Show RAM", "Theme: dark", "Speed: full speed",
                                                               "Open the example three lamps", "Press C"} - listed_commands, set())
-    browser.keys([ESCAPE])
-    browser.until(IS_PALETTE_OPEN, False)
+    browser.type_keys([ESCAPE])
+    browser.wait_until(IS_PALETTE_OPEN, False)
     commands = (TOP / "js/page/commands/command_table.js").read_text()
     bench_html = (TOP / "page/bench.html").read_text()
     buttons = set(re.findall(r'<button[^>]* id="([\w-]+)"', bench_html))
@@ -93,9 +93,9 @@ def check_listbox(browser):
     labels_script = "return ['', ' input', ' ul'].map((node) => document.querySelector(`#palette${node}`).getAttribute('aria-label'))"
     verdict("the names of the palette's parts", browser.script(labels_script), ["Commands", "Type a command", "Commands"])
     verdict("the first command is selected", browser.script(GET_ACTIVE_OPTION), 0)
-    browser.keys([DOWN, DOWN, UP])
+    browser.type_keys([DOWN, DOWN, UP])
     verdict("the arrow keys select another command", browser.script(GET_ACTIVE_OPTION), 1)
-    browser.keys([UP, UP])
+    browser.type_keys([UP, UP])
     last_index_script = "return document.querySelectorAll('#palette-list li').length - 1"
     verdict("the Up arrow wraps around to the last command", browser.script(GET_ACTIVE_OPTION), browser.script(last_index_script))
     browser.type_into("#palette input", "step ov")
@@ -103,7 +103,7 @@ def check_listbox(browser):
     verdict("the field keeps the focus", browser.script("return document.activeElement.getAttribute('role')"), "combobox")
     browser.type_into("#palette input", " qqq")
     eventually(browser, "a search without results shows a message", GET_FIRST_COMMAND, "Nothing is named step ov qqq")
-    browser.keys([ESCAPE])
+    browser.type_keys([ESCAPE])
     eventually(browser, "Escape closes the palette", IS_PALETTE_OPEN, False)
     verdict("the focused element after the palette was closed", browser.script(GET_FOCUSED_ID), "name")
     browser.script("document.activeElement.blur()")
@@ -114,42 +114,42 @@ def check_unavailable_command(browser):
     open_palette(browser, "redo what")
     verdict("an unavailable command shows the reason", browser.script(GET_FIRST_COMMAND), "Redo what was undonenothing was undone")
     verdict("an unavailable command is marked", browser.script("return document.querySelector('#palette-list li').getAttribute('aria-disabled')"), "true")
-    browser.keys([ENTER])
+    browser.type_keys([ENTER])
     verdict("Enter on an unavailable command does nothing", browser.script(IS_PALETTE_OPEN), True)
-    browser.keys([ESCAPE])
+    browser.type_keys([ESCAPE])
 
 
 def check_keys(browser):
     """Checks that the function keys execute their commands instead of the browser's own actions."""
     choose_example(browser, "three lamps")
-    browser.until(GET_STATUS, re.compile("^Running"))
+    browser.wait_until(GET_STATUS, re.compile("^Running"))
     browser.script("document.activeElement.blur()")
-    browser.keys([F5])
+    browser.type_keys([F5])
     eventually(browser, "F5 pauses the program", GET_STATUS, re.compile("^Paused"))
-    browser.keys([F11])
+    browser.type_keys([F11])
     eventually(browser, "F11 steps", GET_STATUS, STEPPED)
     status_after_step = browser.script(GET_STATUS)
     press_chord(browser, CONTROL, F11)
     eventually(browser, "Ctrl+F11 steps back", f"return document.getElementById('status').textContent !== {status_after_step!r}", True)
-    browser.keys([F10])
+    browser.type_keys([F10])
     eventually(browser, "F10 steps over", GET_STATUS, STEPPED_OVER)
     press_chord(browser, SHIFT, F11)
     eventually(browser, "Shift+F11 steps out, or reports that no call waits for its return", GET_STATUS, STEPPED_OUT)
     show_text(browser, "program")
     browser.script("document.querySelector('#program-editor .cm-editor').lineEditor.setCursor({ line: 12, ch: 0 })")
     browser.script("document.activeElement.blur()")
-    browser.keys([F9])
+    browser.type_keys([F9])
     breakpoint_count_script = "return document.querySelectorAll('#breakpoint-list li').length"
     eventually(browser, "F9 sets a breakpoint at the caret", breakpoint_count_script, 1)
-    browser.keys([F9])
+    browser.type_keys([F9])
     eventually(browser, "F9 clears the breakpoint", breakpoint_count_script, 0)
-    browser.keys([F5])
+    browser.type_keys([F5])
     eventually(browser, "F5 continues", GET_STATUS, re.compile("^Running"))
-    browser.keys([F8])
+    browser.type_keys([F8])
     eventually(browser, "F8 pauses the program", GET_STATUS, re.compile("^Paused"))
-    browser.keys([F1])
+    browser.type_keys([F1])
     eventually(browser, "F1 opens the help", "return document.getElementById('help').hidden", False)
-    browser.keys([ESCAPE])
+    browser.type_keys([ESCAPE])
 
 
 def check_place_palette(browser):
@@ -161,21 +161,21 @@ def check_place_palette(browser):
     browser.type_into("#palette input", "wiring" + ENTER)
     eventually(browser, "the chosen tab is in front", GET_FRONT_TAB, "wiring-tab")
     press_chord(browser, CONTROL, "p")
-    browser.until(IS_PALETTE_OPEN, True)
+    browser.wait_until(IS_PALETTE_OPEN, True)
     browser.type_into("#palette input", ":3" + ENTER)
     eventually(browser, "the source is in front after a line is chosen", GET_FRONT_TAB, "program-tab")
     caret_line_script = "return document.querySelector('#program-editor .cm-editor').lineEditor.getCursor().line"
     eventually(browser, "the chosen source line has the caret", caret_line_script, 2)
     browser.script("document.activeElement.blur()")
     press_chord(browser, CONTROL, "p")
-    browser.until(IS_PALETTE_OPEN, True)
+    browser.wait_until(IS_PALETTE_OPEN, True)
     browser.type_into("#palette input", "00C" + ENTER)
     eventually(browser, "the disassembly shows the chosen address", "return document.getElementById('lines-of-program').textContent", re.compile("00C"))
     press_chord(browser, CONTROL, "p")
-    browser.until(IS_PALETTE_OPEN, True)
+    browser.wait_until(IS_PALETTE_OPEN, True)
     browser.type_into("#palette input", ">stop")
     eventually(browser, "`>` changes the palette to commands", "return document.getElementById('palette').getAttribute('aria-label')", "Commands")
-    browser.keys([ESCAPE])
+    browser.type_keys([ESCAPE])
 
 
 IS_WATCH_SHOWN = "return isShown(document.getElementById('watched'))"
@@ -205,7 +205,7 @@ def check_command_effects(browser):
     eventually(browser, "the command reopens the panel", IS_WATCH_SHOWN, True)
     execute_command(browser, "list of keys")
     eventually(browser, "the help lists the keys", GET_KEY_ROWS, re.compile(r"F5, F8Continue\|F10Step over.*Ctrl\+Shift\+P, Ctrl\+KShow all commands"))
-    browser.keys([ESCAPE])
+    browser.type_keys([ESCAPE])
     execute_command(browser, "open the example stopwatch")
     eventually(browser, "the command opens the example", "return document.title", re.compile("^stopwatch"))
     pause_running_time(browser)
@@ -223,14 +223,14 @@ def check_theme(browser):
     scheme_script = "return getComputedStyle(document.documentElement).colorScheme"
     verdict("the browser's controls are dark, too", browser.script(scheme_script), "dark")
     browser.reload()
-    until_ready(browser)
+    wait_until_ready(browser)
     eventually(browser, "the theme after a reload", GET_PAGE_COLOUR, dark_colour)
-    browser.command("Emulation.setEmulatedMedia", features=[{"name": "prefers-color-scheme", "value": "dark"}])
+    browser.send_command("Emulation.setEmulatedMedia", features=[{"name": "prefers-color-scheme", "value": "dark"}])
     execute_command(browser, "theme light")
     eventually(browser, "the chosen light theme is used although the system is dark", GET_PAGE_COLOUR, light_colour)
     execute_command(browser, "theme system")
     eventually(browser, "the system theme is dark in a dark system", GET_PAGE_COLOUR, dark_colour)
-    browser.command("Emulation.setEmulatedMedia", features=[])
+    browser.send_command("Emulation.setEmulatedMedia", features=[])
     eventually(browser, "the system theme changes with the system", GET_PAGE_COLOUR, light_colour)
 
 
@@ -241,15 +241,15 @@ def check_tooltips(browser):
     """Checks that a button's tooltip, which names its key, appears on focus, under a resting pointer, and on a long touch. It must also disappear
     again."""
     browser.script("document.getElementById('back-instruction').focus()")
-    browser.keys([TAB, TAB])
+    browser.type_keys([TAB, TAB])
     eventually(browser, "a tooltip appears at the focused button", GET_TOOLTIP, "Step over: one instruction; a subroutine that it calls runs whole F10")
-    browser.keys([ESCAPE])
+    browser.type_keys([ESCAPE])
     eventually(browser, "Escape hides the tooltip", GET_TOOLTIP, "")
     browser.script("document.activeElement.blur()")
-    move_to_step = {"type": "pointerMove", "duration": 0, "x": 0, "y": 0, "origin": {ELEMENT: browser.find("#step")}}
-    browser.actions({**MOUSE_POINTER, "actions": [move_to_step]})
+    move_to_step = {"type": "pointerMove", "duration": 0, "x": 0, "y": 0, "origin": {ELEMENT_KEY: browser.find("#step")}}
+    browser.perform_actions({**MOUSE_POINTER, "actions": [move_to_step]})
     eventually(browser, "a tooltip appears under the pointer", GET_TOOLTIP, re.compile("^Step into.* F11$"))
-    browser.actions({**MOUSE_POINTER, "actions": [{"type": "pointerMove", "duration": 0, "x": 300, "y": 300}]})
+    browser.perform_actions({**MOUSE_POINTER, "actions": [{"type": "pointerMove", "duration": 0, "x": 300, "y": 300}]})
     eventually(browser, "the tooltip disappears when the pointer leaves", GET_TOOLTIP, "")
     status_before = browser.script(GET_STATUS)
     browser.touch("#out", 900)
@@ -271,8 +271,8 @@ IS_MENU_EXPANDED = "return document.getElementById('menu-button').getAttribute('
 
 
 def check_toolbar(browser):
-    """Checks that the toolbar is 44 pixels high, and that exactly one button is filled. Each button must have a name, a size of at least 24 pixels, and
-    (except for TEST) an icon. Also checks the File menu by keyboard, and the theme menu."""
+    """Checks that the toolbar is 44 pixels high, and that exactly one button is filled. Each button must have a name, a size of at least 24 pixels,
+    and (except for TEST) an icon. Also checks the File menu by keyboard, and the theme menu."""
     verdict("the height of the toolbar", browser.script("return document.getElementById('toolbar').offsetHeight"), 44)
     tools = browser.script(MEASURE_TOOLS)
     verdict("the buttons without an icon", [tool["id"] for tool in tools if tool["icons"] == 0 and tool["id"] != "test"], [])
@@ -280,14 +280,14 @@ def check_toolbar(browser):
     verdict("the buttons that are too small for a finger", [tool["id"] for tool in tools if tool["size"] < 24], [])
     verdict("the number of filled buttons", browser.script(GET_PRIMARY_BUTTONS), 1)
     browser.script("document.getElementById('menu-button').focus()")
-    browser.keys([ENTER])
+    browser.type_keys([ENTER])
     eventually(browser, "Enter opens the File menu", IS_MENU_EXPANDED, "true")
     verdict("the first item of the menu has the focus", browser.script(GET_FOCUSED_ID), "open-button")
     roles_script = "return [...document.querySelectorAll('#menu button')].map((node) => node.getAttribute('role')).join(' ')"
     verdict("the roles of the menu's items", set(browser.script(roles_script).split()), {"menuitem"})
-    browser.keys([UP])
+    browser.type_keys([UP])
     verdict("the Up arrow wraps around to the last item of the menu", browser.script(GET_FOCUSED_ID), "projects-button")
-    browser.keys([ESCAPE])
+    browser.type_keys([ESCAPE])
     eventually(browser, "Escape closes the menu", IS_MENU_EXPANDED, "false")
     verdict("the focused element after the menu was closed", browser.script(GET_FOCUSED_ID), "menu-button")
     browser.script("document.activeElement.blur()")
@@ -301,17 +301,17 @@ def check_toolbar(browser):
 
 def check_accessibility(browser):
     """Checks that the palette, a menu and the welcome cards have names and enough contrast in both colour schemes."""
-    browser.command("Accessibility.enable")
+    browser.send_command("Accessibility.enable")
     open_palette(browser)
     check_view(browser, "the palette")
-    browser.keys([ESCAPE])
+    browser.type_keys([ESCAPE])
     browser.click("#menu-button")
     check_view(browser, "the menu of files")
-    browser.keys([ESCAPE])
+    browser.type_keys([ESCAPE])
     execute_command(browser, "first steps")
     check_view(browser, "the first steps")
-    browser.keys([ESCAPE])
-    browser.command("Accessibility.disable")
+    browser.type_keys([ESCAPE])
+    browser.send_command("Accessibility.disable")
 
 
 GET_WELCOME_CARDS = "return [...document.querySelectorAll('#welcome b')].map((node) => node.textContent)"
@@ -322,8 +322,8 @@ def check_first_visit(browser, page):
     """Checks that there are six welcome cards, that the first card's tour turns a lamp on with three clicks, and that the cards do not appear at the
     next visit. Returns early in a browser that cannot list its databases."""
     browser.script("localStorage.clear()")
-    browser.go("about:blank")
-    browser.go(page.as_uri())
+    browser.open("about:blank")
+    browser.open(page.as_uri())
     eventually(browser, "the page is ready", IS_READY, True, 90)
     if browser.script("return indexedDB.databases === undefined"):
         return
@@ -348,9 +348,9 @@ def check_first_visit(browser, page):
     eventually(browser, "the tour scrolls its target into view", IS_RAM_CELL_IN_RING, True)
     browser.click("#tour-close")
     eventually(browser, "the ring disappears with the tour", "return document.getElementById('tour-ring').hidden", True)
-    browser.go("about:blank")
-    browser.go(page.as_uri())
-    until_ready(browser)
+    browser.open("about:blank")
+    browser.open(page.as_uri())
+    wait_until_ready(browser)
     verdict("the welcome cards do not appear again", browser.script(welcome_open_script), False)
 
 
@@ -363,7 +363,7 @@ const box = ring.getBoundingClientRect();
 const within = document.elementFromPoint(box.left + box.width / 2, box.top + box.height / 2);
 const button = within && within.closest('button');
 return button ? button.id || button.className : ''"""
-# Returns whether the tour's ring surrounds the first RAM cell, and this cell is in view.
+# Returns true if the tour's ring surrounds the first RAM cell, and this cell is in view.
 IS_RAM_CELL_IN_RING = """
 const ring = document.getElementById('tour-ring').getBoundingClientRect();
 const cell = document.querySelector('#banks .ram button').getBoundingClientRect();

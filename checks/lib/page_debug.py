@@ -7,7 +7,7 @@ An earlier version of the page moved breakpoints of PROGRAM away from their line
 import re
 import time
 
-from page_in_browser import ENTER, ESCAPE, GET_NOTICE, GET_STATUS, GET_WHOLE_STATUS, TAB, choose_example, send_lines, until_ready
+from page_basics import ENTER, ESCAPE, GET_NOTICE, GET_STATUS, GET_WHOLE_STATUS, TAB, choose_example, send_lines, wait_until_ready
 from page_names import CLICK_MARGIN, GET_BREAKPOINT_LINES
 from page_texts import UNDO_BUTTON
 from verdicts import eventually, verdict
@@ -59,11 +59,11 @@ const row = document.querySelector(".breakpoint-row");
 row.querySelectorAll("input")[arguments[0]].value = arguments[1];
 row.requestSubmit()"""
 CONDITION, HIT_COUNT, LOG_MESSAGE = range(3)
-# Sets the condition of the first breakpoint to each argument in turn, and then starts time, without letting the page run in between.
+# Sets the condition of the first breakpoint to each argument in turn, and then resumes the program, before the page can do anything else.
 CHANGE_AND_RUN = """
-for (const words of arguments) {
+for (const condition of arguments) {
   document.querySelector("#breakpoint-list .edit").click();
-  document.querySelector(".breakpoint-row input").value = words;
+  document.querySelector(".breakpoint-row input").value = condition;
   document.querySelector(".breakpoint-row").requestSubmit();
 }
 document.getElementById("run").click()"""
@@ -93,12 +93,12 @@ def load_program(browser):
     """Loads the program in a new session with the board that an empty bench offers, and pauses time."""
     choose_example(browser, "empty bench")
     browser.click("#first-board")
-    browser.until("return document.querySelectorAll('#keys button').length", 2)
+    browser.wait_until("return document.querySelectorAll('#keys button').length", 2)
     browser.script(SET_PROGRAM, PROGRAM)
     browser.click(SEND_BUTTON)
-    browser.until(GET_STATUS, re.compile("^Running"))
+    browser.wait_until(GET_STATUS, re.compile("^Running"))
     browser.click("#run")
-    browser.until(GET_RUN_LABEL, "Continue")
+    browser.wait_until(GET_RUN_LABEL, "Continue")
 
 
 def check_moves_with_line(browser):
@@ -129,7 +129,7 @@ def check_moves_to_instruction(browser):
     load_program(browser)
     browser.script(INSERT_LINE, JUN_LINE, "; what comes next")
     browser.click(SEND_BUTTON)
-    browser.until(GET_STATUS, re.compile("^Running"))
+    browser.wait_until(GET_STATUS, re.compile("^Running"))
     browser.script(CLICK_MARGIN, JUN_LINE)
     eventually(browser, "the message about a breakpoint at a line without bytes", GET_POPUP,
                f"Line {JUN_LINE} puts no bytes into ROM: its breakpoint is at the next instruction, line {JUN_LINE + 1}.")
@@ -152,7 +152,7 @@ def check_conditions_and_counts(browser):
     browser.script(OPEN_CONDITION_ROW, INC_LINE - 1)
     eventually(browser, "Shift+F9 sets a breakpoint, and its condition has the caret, below the line", GET_LINE_ABOVE_FOCUSED_ROW, INC_LINE_PATTERN)
     verdict("the line of the breakpoint with the condition", browser.script(GET_BREAKPOINT_LINES), str(INC_LINE))
-    browser.keys([*"r9 = 9", ENTER])
+    browser.type_keys([*"r9 = 9", ENTER])
     eventually(browser, "a breakpoint with a condition has its own mark", GET_BREAKPOINTS, re.compile("^\u25c6 "))
     browser.click("#run")
     eventually(browser, "the program stops when the condition is true", GET_STATUS, "Paused at 011, at a breakpoint, when r9 = 9.")
@@ -178,7 +178,7 @@ def check_conditions_and_counts(browser):
     browser.click("#breakpoints-hits")
     browser.script(FILL_ROW, HIT_COUNT, "50")
     browser.click("#reset")
-    browser.until(GET_STATUS, re.compile("^The board was reset"))
+    browser.wait_until(GET_STATUS, re.compile("^The board was reset"))
     browser.click("#run")
     eventually(browser, "the hit count in the list", GET_HITS, "50 hits")
     eventually(browser, "the program stops at the hit count", GET_STATUS, "Paused at 011, at a breakpoint, at hit 50.")
@@ -187,18 +187,18 @@ def check_conditions_and_counts(browser):
     browser.script(FILL_ROW, LOG_MESSAGE, "R9 is {r9}, {lamps}")
     eventually(browser, "a breakpoint with a log message has its own mark", GET_BREAKPOINTS, re.compile("^\u25b8 "))
     browser.click("#reset")
-    browser.until(GET_STATUS, re.compile("^The board was reset"))
+    browser.wait_until(GET_STATUS, re.compile("^The board was reset"))
     browser.click("#run")
     eventually(browser, "the message is logged instead of a stop", GET_NOTES, re.compile(r"^011 \(wait, line \d+\) R9 is [0-9A-F], [*.]{4}; "))
     verdict("the program still runs after the log message", browser.script(GET_RUN_LABEL), "Pause")
     browser.click("#breakpoints-off")
     eventually(browser, "a disabled breakpoint is kept", GET_BREAKPOINTS, re.compile("^\u25cb "))
     browser.click("#run")
-    browser.until(GET_RUN_LABEL, "Continue")
+    browser.wait_until(GET_RUN_LABEL, "Continue")
 
 
 def check_console_run(browser):
-    """Checks that a `run` typed at the console also stops at a breakpoint, with a message."""
+    """Checks that a `run` typed in the console also stops at a breakpoint, with a message."""
     browser.script(FILL_ROW, CONDITION, "r9 = 9")
     send_lines(browser, "reset")
     verdict("a `run` line stops when the condition is true", send_lines(browser, "run 100000"), re.compile(r"run (\d+)ok \d+ ran \1 end$"))
@@ -218,9 +218,9 @@ def check_going_back(browser):
                re.compile(r"^Back at 011, 77 cycles, .* earlier, at a breakpoint, when r9 = 9\.$"))
     verdict("R9 after going back", send_lines(browser, "regs"), re.compile(" r .{9}9.{6} "))
     browser.click("#forward")
-    browser.until(GET_STATUS, re.compile("^Forward again"))
+    browser.wait_until(GET_STATUS, re.compile("^Forward again"))
     browser.click("#back-breakpoint")
-    browser.until(GET_STATUS, re.compile("at a breakpoint, when r9 = 9"))
+    browser.wait_until(GET_STATUS, re.compile("at a breakpoint, when r9 = 9"))
     browser.click("#back-breakpoint")
     eventually(browser, "the status after going back to the previous arrival", GET_STATUS, re.compile("^Back at 011, 176 cycles, "))
     browser.script(FILL_ROW, CONDITION, "r9 = 9 and r9 = 8")
@@ -237,14 +237,14 @@ def check_reload(browser):
     browser.script(FILL_ROW, CONDITION, "at wait")
     time.sleep(0.3)
     browser.reload()
-    until_ready(browser)
+    wait_until_ready(browser)
     eventually(browser, "a reload keeps the list of breakpoints", GET_BREAKPOINTS, list_before)
     verdict("the conditions after a reload", browser.script(GET_BREAKPOINT_DETAILS), 'if at wait: logs "R9 is {r9}, {lamps}" and continues')
     browser.click("#breakpoint-list .edit")
-    browser.keys([*"r9 ="])
-    browser.until(GET_ROW_VALUES, "r9 =; ; R9 is {r9}, {lamps}")
+    browser.type_keys([*"r9 ="])
+    browser.wait_until(GET_ROW_VALUES, "r9 =; ; R9 is {r9}, {lamps}")
     browser.reload()
-    until_ready(browser)
+    wait_until_ready(browser)
     eventually(browser, "a reload keeps a condition that was typed but not applied", GET_BREAKPOINT_DETAILS, re.compile('^if r9 =: logs "R9 is'))
     browser.click("#breakpoints-remove")
     eventually(browser, "all breakpoints are removed", GET_BREAKPOINT_LINES, "")
@@ -254,18 +254,18 @@ def check_replaced_source(browser, folder):
     """Checks that restoring a replaced source also restores its breakpoints with their details, through the notice and through Ctrl+Z."""
     load_program(browser)
     browser.script(OPEN_CONDITION_ROW, INC_LINE - 1)
-    browser.until(GET_LINE_ABOVE_FOCUSED_ROW, INC_LINE_PATTERN)
-    browser.keys([*"r9 = 9", ENTER])
+    browser.wait_until(GET_LINE_ABOVE_FOCUSED_ROW, INC_LINE_PATTERN)
+    browser.type_keys([*"r9 = 9", ENTER])
     browser.script(CLICK_MARGIN, WMP_LINE)
     both_lines = f"{WMP_LINE} {INC_LINE}"
-    browser.until(GET_LINES_IN_MARGIN, both_lines)
+    browser.wait_until(GET_LINES_IN_MARGIN, both_lines)
     list_before = browser.script(GET_BREAKPOINTS), browser.script(GET_BREAKPOINT_DETAILS)
     for length, text in (("short", "; a\n NOP\n"), ("long", "; a\n" + " NOP\n" * 40)):
         other = folder / f"{length}.asm"
         other.write_text(text)
         for action, undo in (("Undo", lambda: browser.click(UNDO_BUTTON)), ("Ctrl+Z", lambda: browser.script(UNDO_EDIT))):
             browser.type_into("#file", str(other))
-            browser.until(GET_NOTICE, re.compile(f"{length}.asm"))
+            browser.wait_until(GET_NOTICE, re.compile(f"{length}.asm"))
             eventually(browser, f"a {length} source has none of the breakpoints of the source before it", GET_LINES_IN_MARGIN, "")
             undo()
             eventually(browser, f"{action} restores the lines of the breakpoints", GET_LINES_IN_MARGIN, both_lines)
@@ -273,14 +273,14 @@ def check_replaced_source(browser, folder):
             verdict("the conditions after an undo", browser.script(GET_BREAKPOINT_DETAILS), list_before[1])
     browser.script("for (const each of document.querySelectorAll('#notice .dismiss')) each.click()")
     browser.script(CLICK_MARGIN, WMP_LINE)
-    browser.until(GET_LINES_IN_MARGIN, str(INC_LINE))
+    browser.wait_until(GET_LINES_IN_MARGIN, str(INC_LINE))
     browser.click("#reset")
-    browser.until(GET_STATUS, re.compile("^The board was reset"))
+    browser.wait_until(GET_STATUS, re.compile("^The board was reset"))
     browser.click("#run")
     eventually(browser, "the program stops when the condition is true", GET_STATUS, "Paused at 011, at a breakpoint, when r9 = 9.")
     time.sleep(1)
     browser.reload()
-    until_ready(browser)
+    wait_until_ready(browser)
     eventually(browser, "a reload keeps the breakpoint", GET_BREAKPOINT_DETAILS, "if r9 = 9")
 
 
@@ -288,31 +288,31 @@ def check_breakpoint_form(browser):
     """Checks that a breakpoint's details are edited below its line. Enter applies them, Escape cancels, and an error stays at its field."""
     load_program(browser)
     browser.script(OPEN_CONDITION_ROW, INC_LINE - 1)
-    browser.until(GET_LINE_ABOVE_FOCUSED_ROW, INC_LINE_PATTERN)
-    browser.keys([*"r44 = 9", ENTER])
+    browser.wait_until(GET_LINE_ABOVE_FOCUSED_ROW, INC_LINE_PATTERN)
+    browser.type_keys([*"r44 = 9", ENTER])
     eventually(browser, "an error in a condition is shown in the row", GET_ROW_ERROR,
                "It stops every time, because of an error: r44: no such place; the registers are r0 to r15 (column 1).")
     verdict("the form keeps the focus after an error", browser.script(GET_LINE_ABOVE_FOCUSED_ROW), INC_LINE_PATTERN)
-    browser.keys([*[BACKSPACE] * 7, *"r9 = 9", TAB, *"0", ENTER])
+    browser.type_keys([*[BACKSPACE] * 7, *"r9 = 9", TAB, *"0", ENTER])
     eventually(browser, "an invalid hit count is marked", "return document.activeElement.getAttribute('aria-invalid')", "true")
     verdict("nothing is applied after an error", browser.script(GET_BREAKPOINT_DETAILS), "if r44 = 9")
-    browser.keys([BACKSPACE, "2", ENTER])
+    browser.type_keys([BACKSPACE, "2", ENTER])
     eventually(browser, "Enter applies the typed values", GET_BREAKPOINT_DETAILS, "if r9 = 9 from hit 2 on")
     verdict("the form closes", browser.script(GET_ROW_VALUES), "")
     verdict("the source has the focus again", browser.script(IS_FOCUS_IN_SOURCE), True)
     browser.press_chord(SHIFT, F9)
     eventually(browser, "Shift+F9 opens the form again", GET_ROW_VALUES, "r9 = 9; 2; ")
-    browser.keys([*"at loop", TAB, TAB, *"seen"])
+    browser.type_keys([*"at loop", TAB, TAB, *"seen"])
     verdict("a field that lost the focus is not applied yet", browser.script(GET_BREAKPOINT_DETAILS), "if r9 = 9 from hit 2 on")
-    browser.keys([F10, F10])
+    browser.type_keys([F10, F10])
     eventually(browser, "steps keep the form open with its values", GET_ROW_VALUES, "at loop; 2; seen")
     verdict("the form keeps the focus", browser.script(GET_LINE_ABOVE_FOCUSED_ROW), INC_LINE_PATTERN)
-    browser.keys([ESCAPE])
+    browser.type_keys([ESCAPE])
     eventually(browser, "Escape closes the form", GET_ROW_VALUES, "")
     verdict("Escape restores the condition", browser.script(GET_BREAKPOINT_DETAILS), "if r9 = 9 from hit 2 on")
     browser.script(OPEN_CONDITION_ROW, INC_LINE - 1)
-    browser.until(GET_LINE_ABOVE_FOCUSED_ROW, INC_LINE_PATTERN)
-    browser.keys([*"at wait"])
+    browser.wait_until(GET_LINE_ABOVE_FOCUSED_ROW, INC_LINE_PATTERN)
+    browser.type_keys([*"at wait"])
     browser.click("#step")
     eventually(browser, "a click outside the form applies it", GET_BREAKPOINT_DETAILS, "if at wait from hit 2 on")
     browser.script("document.querySelector('#program-editor .cm-editor').lineEditor.replaceRange('\\n NOP', { line: arguments[0], ch: Infinity })", INC_LINE - 1)
@@ -329,25 +329,25 @@ def check_menu(browser):
     load_program(browser)
     browser.script(OPEN_MARGIN_MENU, INC_LINE)
     eventually(browser, "the margin menu has the focus", GET_FOCUSED_TEXT, "Add breakpointF9")
-    browser.keys([DOWN, DOWN, DOWN, ENTER])
+    browser.type_keys([DOWN, DOWN, DOWN, ENTER])
     eventually(browser, "Log message sets a breakpoint and opens its form", GET_LINE_ABOVE_FOCUSED_ROW, INC_LINE_PATTERN)
-    browser.keys([*"R9 is {r9}", ENTER])
+    browser.type_keys([*"R9 is {r9}", ENTER])
     eventually(browser, "the breakpoint has the log message", GET_BREAKPOINT_DETAILS, 'logs "R9 is {r9}" and continues')
     browser.script(OPEN_MARGIN_MENU, INC_LINE)
-    browser.until(GET_FOCUSED_TEXT, "Remove breakpointF9")
-    browser.keys([UP, UP, ENTER])
+    browser.wait_until(GET_FOCUSED_TEXT, "Remove breakpointF9")
+    browser.type_keys([UP, UP, ENTER])
     eventually(browser, "Disable breakpoint keeps the breakpoint", GET_BREAKPOINTS, re.compile("^\u25cb "))
     verdict("the margin menu is closed", browser.script("return document.getElementById('margin-menu').hidden"), True)
     browser.script(OPEN_MARGIN_MENU, INC_LINE)
-    browser.until(GET_FOCUSED_TEXT, "Remove breakpointF9")
-    browser.keys([ESCAPE])
+    browser.wait_until(GET_FOCUSED_TEXT, "Remove breakpointF9")
+    browser.type_keys([ESCAPE])
     eventually(browser, "Escape closes the margin menu, and the source has the focus", IS_FOCUS_IN_SOURCE, True)
     browser.click("#breakpoints-remove")
     send_lines(browser, "break 0x200")
-    browser.until(GET_BREAKPOINTS, re.compile("200"))
+    browser.wait_until(GET_BREAKPOINTS, re.compile("200"))
     browser.click("#breakpoint-list .edit")
     eventually(browser, "the form of a breakpoint without a line is in the list", "return document.activeElement.closest('#breakpoint-list .breakpoint-row') !== null", True)
-    browser.keys([*"r9 = 1", ENTER])
+    browser.type_keys([*"r9 = 1", ENTER])
     eventually(browser, "the form in the list is applied", GET_BREAKPOINT_DETAILS, "if r9 = 1")
     eventually(browser, "the breakpoint's Edit button has the focus", GET_FOCUSED_TEXT, "Edit")
     choose_example(browser, "three lamps")
@@ -355,8 +355,8 @@ def check_menu(browser):
 
 
 def check(browser, page, folder, *_):
-    browser.go(page.as_uri())
-    until_ready(browser)
+    browser.open(page.as_uri())
+    wait_until_ready(browser)
     load_program(browser)
     check_moves_with_line(browser)
     check_moves_to_instruction(browser)

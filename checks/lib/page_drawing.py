@@ -4,8 +4,8 @@ Each action edits the board's text and can be undone like any edit. Also checks 
 import re
 import time
 
-from page_in_browser import (ENTER, ESCAPE, GET_NOTICE, GET_STATUS, GET_TEXT_OF_EDITOR, PUT_INTO_EDITOR, TAB, choose_example, move_focus_until, show_text,
-                             until_ready)
+from page_basics import (ENTER, ESCAPE, GET_NOTICE, GET_STATUS, GET_TEXT_OF_EDITOR, PUT_INTO_EDITOR, TAB, choose_example, move_focus_until, show_text,
+                         wait_until_ready)
 from verdicts import eventually, verdict
 
 CONTROL, SHIFT, DELETE, LEFT, UP, RIGHT, DOWN = "\ue009", "\ue008", "\ue017", "\ue012", "\ue013", "\ue014", "\ue015"
@@ -84,7 +84,7 @@ def pin_selector(label):
     return f"#wiring-picture .at-pin[aria-label^='{label}']"
 
 
-def text_of(browser):
+def board_text(browser):
     """Returns the text in the board's editor."""
     return browser.script(GET_TEXT_OF_EDITOR, BOARD_EDITOR)
 
@@ -95,9 +95,9 @@ def drag(browser, from_selector, target, kind="mouse"):
     time.sleep(browser.settle_seconds)
     start = browser.script(GET_CENTRE, from_selector)
     end = browser.script(GET_CENTRE, target) if isinstance(target, str) else [start[0] + target[0], start[1] + target[1]]
-    places = [[round(start[axis] + fraction * (end[axis] - start[axis])) for axis in (0, 1)] for fraction in (0, 0.5, 1)]
-    first_move, *other_moves = [{"type": "pointerMove", "duration": 80, "x": x, "y": y} for x, y in places]
-    browser.actions({"type": "pointer", "id": f"drawing {kind}", "parameters": {"pointerType": kind}, "actions": [
+    points = [[round(start[axis] + fraction * (end[axis] - start[axis])) for axis in (0, 1)] for fraction in (0, 0.5, 1)]
+    first_move, *other_moves = [{"type": "pointerMove", "duration": 80, "x": x, "y": y} for x, y in points]
+    browser.perform_actions({"type": "pointer", "id": f"drawing {kind}", "parameters": {"pointerType": kind}, "actions": [
         first_move, {"type": "pointerDown", "button": 0}, *other_moves, {"type": "pointerUp", "button": 0}]})
 
 
@@ -117,7 +117,7 @@ def check_drawing_by_mouse(browser):
     for lamp in range(4):
         browser.click("#shelf-lamp")
         eventually(browser, f"lamp {lamp} is added", GET_DRAWING_STATUS, re.compile(f"^Lamp {lamp} was added"))
-    verdict("the text of the drawn board", text_of(browser), DRAWN_BOARD)
+    verdict("the text of the drawn board", board_text(browser), DRAWN_BOARD)
     verdict("the shelf disables a second key matrix, with the reason", browser.script(GET_DISABLED_BUTTONS),
             ["Keys: A board has one key matrix: give it more rows and columns."])
     verdict("the picture reports that the board is not applied yet", browser.script(GET_DRAWING_STATE), re.compile("^Not applied yet"))
@@ -125,7 +125,7 @@ def check_drawing_by_mouse(browser):
     eventually(browser, "the lamp has a new name", GET_DRAWING_STATUS, "Lamp 3 is called fourth one.")
     browser.type_into("#chosen [aria-label=colour]", "green")
     eventually(browser, "the lamp has a colour", GET_DRAWING_STATUS, "Lamp 3 is green.")
-    verdict("the comments of the front panel have the name and the colour", text_of(browser).split("\n")[:3], ["# lamp 3: fourth_one", "# colour 3: green", ""])
+    verdict("the comments of the front panel have the name and the colour", board_text(browser).split("\n")[:3], ["# lamp 3: fourth_one", "# colour 3: green", ""])
     browser.click("#drawing-wire")
     eventually(browser, "the drawn board is applied", GET_DRAWING_STATUS, "Board applied.")
     eventually(browser, "the number of keys", COUNT_KEYS, 4)
@@ -139,7 +139,7 @@ def check_drawing_by_mouse(browser):
     browser.script("window.seen = new Set(); new MutationObserver(() => window.seen.add([...document.querySelectorAll('#front .bulb')]"
                    ".map((bulb) => (bulb.classList.contains('lit') ? '*' : '.')).join(''))).observe(document.getElementById('lamps'),"
                    " { subtree: true, attributes: true })")
-    browser.keys(["3"], 400)
+    browser.type_keys(["3"], 400)
     eventually(browser, "a key turns its lamp on", "return [...window.seen].join(' ')", re.compile(r"\.\.\*\."))
 
 
@@ -147,11 +147,11 @@ def check_wires(browser):
     """Checks that wires can be drawn by dragging and by clicks, and undone, and that impossible wires are not drawn."""
     choose_example(browser, "lock")
     show_text(browser, "wiring")
-    text_before = text_of(browser)
+    text_before = board_text(browser)
     eventually(browser, "the lines at 1 are coloured", "return document.querySelectorAll('#wiring-picture .high').length > 0", True)
     drag(browser, f"{pin_selector('ROM 0 · 4001, out 2')} circle", f"{pin_selector('Lamps · 3, open')} circle")
     eventually(browser, "dragging from pin to pin draws a wire", GET_DRAWING_STATUS, "Line rom0.2 is wired to lamp 1.")
-    verdict("the wire changes one word of the text", text_of(browser), text_before.replace('"ram0.0.1"', '"rom0.2"'))
+    verdict("the wire changes one word of the text", board_text(browser), text_before.replace('"ram0.0.1"', '"rom0.2"'))
     eventually(browser, "the picture has the wire", GET_WIRING_LINES, re.compile("open is at rom0.2"))
     verdict("the picture of a board that is not applied shows no levels", browser.script(COUNT_HIGH_LINES) <= 1, True)
     drag(browser, f"{pin_selector('ROM 1 · 4001, in 0')} circle", f"{pin_selector('Chain 0 · 1 × 4003, clock')} circle")
@@ -164,7 +164,7 @@ def check_wires(browser):
     eventually(browser, "Undo removes the last wire", GET_DRAWING_STATUS, "Undone.")
     browser.click("#drawing-undo")
     eventually(browser, "Undo removes the wire before it", GET_WIRING_LINES, re.compile("open is at ram0.0.1"))
-    verdict("the text is the same as before the wires", text_of(browser), text_before)
+    verdict("the text is the same as before the wires", board_text(browser), text_before)
     browser.click("#drawing-redo")
     eventually(browser, "Redo restores the wire", GET_WIRING_LINES, re.compile("open is at rom0.2"))
     browser.click("#shelf-ram")
@@ -173,7 +173,7 @@ def check_wires(browser):
     eventually(browser, "Ctrl+Z removes the RAM chip", GET_DRAWING_STATUS, "Undone.")
     verdict("the wire is still there after Ctrl+Z", browser.script(GET_WIRING_LINES), re.compile("open is at rom0.2"))
     check_moving_part(browser)
-    check_chain_keeps_its_place(browser)
+    check_chain_keeps_its_position(browser)
 
 
 def check_buzzer(browser):
@@ -183,27 +183,27 @@ def check_buzzer(browser):
     verdict("a board without a buzzer has no sound button", browser.script(GET_SOUND_LABEL), "")
     browser.click("#shelf-buzzer")
     eventually(browser, "the buzzer is added with the parts that it needs", GET_DRAWING_STATUS, "The buzzer was added, with ROM 0.")
-    verdict("the comment of the buzzer in the text", text_of(browser).split("\n")[0], "# buzzer rom0.0: buzzer")
+    verdict("the comment of the buzzer in the text", board_text(browser).split("\n")[0], "# buzzer rom0.0: buzzer")
     verdict("the shelf disables a second buzzer, with the reason", browser.script(GET_DISABLED_BUTTONS), ["Buzzer: A board has one buzzer: delete that one first."])
     drag(browser, f"{pin_selector('ROM 0 · 4001, out 3')} circle", f"{pin_selector('Buzzer, buzzer')} circle")
     eventually(browser, "dragging draws a wire to the buzzer", GET_DRAWING_STATUS, "Line rom0.3 is wired to the buzzer.")
     eventually(browser, "the picture has the wire to the buzzer", GET_WIRING_LINES, re.compile("buzzer sounds the edges of rom0.3"))
     browser.script("const name = document.querySelector('#chosen [aria-label=name]'); name.focus(); name.select()")
-    browser.keys([*"the horn", ENTER], 10, 10)
+    browser.type_keys([*"the horn", ENTER], 10, 10)
     eventually(browser, "the buzzer has a new name", GET_DRAWING_STATUS, "The buzzer is called the horn.")
-    verdict("the comment of the buzzer has the new name", text_of(browser).split("\n")[0], "# buzzer rom0.3: the horn")
+    verdict("the comment of the buzzer has the new name", board_text(browser).split("\n")[0], "# buzzer rom0.3: the horn")
     browser.click("#drawing-wire")
     eventually(browser, "the sound button of the applied board", GET_SOUND_LABEL, "Sound of the horn")
-    browser.until(GET_DRAWING_STATUS, "Board applied.")
+    browser.wait_until(GET_DRAWING_STATUS, "Board applied.")
     browser.script("document.querySelector('#wiring-picture .of-buzzer').focus()")
-    browser.keys([DELETE])
+    browser.type_keys([DELETE])
     eventually(browser, "the Delete key deletes the buzzer", GET_DRAWING_STATUS, "The buzzer was deleted.")
     browser.press_chord(CONTROL, "z")
     eventually(browser, "Ctrl+Z restores the buzzer", GET_WIRING_LINES, re.compile("the horn sounds the edges of rom0.3"))
     browser.script("document.querySelector(arguments[0]).focus()", pin_selector("Buzzer, the horn"))
-    browser.keys([ENTER])
+    browser.type_keys([ENTER])
     eventually(browser, "Enter begins a wire at the buzzer", GET_DRAWING_STATUS, "Wire from the buzzer: it can end at 3 pins.")
-    browser.keys([UP, ENTER])
+    browser.type_keys([UP, ENTER])
     eventually(browser, "Enter ends the wire at another line", GET_DRAWING_STATUS, "Line rom0.2 is wired to the buzzer.")
     if browser.can_multitouch:
         browser.touch_together([f"{pin_selector('ROM 0 · 4001, out 1')} circle"], 60)
@@ -219,13 +219,13 @@ def check_moving_part(browser):
     new_position = browser.script(GET_POSITION_OF_KEYS)
     time.sleep(1)
     browser.reload()
-    until_ready(browser)
+    wait_until_ready(browser)
     eventually(browser, "a reload keeps the position of the part", GET_POSITION_OF_KEYS, new_position)
     browser.click("#drawing-tidy")
     eventually(browser, "Tidy moves the part back", GET_POSITION_OF_KEYS, position_before)
 
 
-def check_chain_keeps_its_place(browser):
+def check_chain_keeps_its_position(browser):
     """Checks that deleting a chain leaves the later chain at its position in the picture."""
     choose_example(browser, "calculator")
     show_text(browser, "wiring")
@@ -238,7 +238,7 @@ def check_chain_keeps_its_place(browser):
     eventually(browser, "Shift and the Down arrow move the second chain", f"{chain_positions_script}[1] > {second_position}", True)
     _, moved_position = browser.script(chain_positions_script)
     browser.script("document.querySelector('#wiring-picture .of-chain').focus()")
-    browser.keys([DELETE])
+    browser.type_keys([DELETE])
     eventually(browser, "the first chain is deleted", GET_DRAWING_STATUS, re.compile("^Chain 0 was deleted"))
     eventually(browser, "the second chain keeps its position", chain_positions_script, [moved_position])
     browser.click("#drawing-undo")
@@ -249,44 +249,44 @@ def check_drawing_by_keyboard(browser):
     """Checks that the keyboard alone suffices to add a part, begin and end a wire, delete, and undo."""
     choose_example(browser, "lock")
     browser.script("document.getElementById('wiring-tab').click(); document.getElementById('wiring-tab').focus()")
-    text_before = text_of(browser)
+    text_before = board_text(browser)
     verdict("the Tab key reaches the shelf", move_focus_until(browser, TAB, "e.id === 'shelf-lamp'", 14), True)
-    browser.keys([ENTER])
+    browser.type_keys([ENTER])
     eventually(browser, "Enter adds a lamp", GET_DRAWING_STATUS, "Lamp 3 was added.")
     verdict("the Tab key reaches the picture", move_focus_until(browser, TAB, "e.closest('#wiring-picture') !== null", 20), True)
     eventually(browser, "the focus is at the new lamp", GET_FOCUSED_LABEL, re.compile("^Lamps · 4, lamp 3"))
-    browser.keys([UP, UP, UP, UP])
+    browser.type_keys([UP, UP, UP, UP])
     eventually(browser, "the Up arrow moves the focus from the pin to the part", GET_FOCUSED_LABEL, re.compile("^Lamps · 4: locked is at"))
-    browser.keys([LEFT, LEFT, LEFT])
+    browser.type_keys([LEFT, LEFT, LEFT])
     eventually(browser, "the Left arrow moves the focus from part to part", GET_FOCUSED_LABEL, re.compile("^RAM 0.0 · 4002: line"))
-    browser.keys([RIGHT])
+    browser.type_keys([RIGHT])
     eventually(browser, "the Right arrow moves the focus back", GET_FOCUSED_LABEL, re.compile("^Chain 0"))
-    browser.keys([DOWN])
+    browser.type_keys([DOWN])
     eventually(browser, "the Down arrow moves the focus to the clock", GET_FOCUSED_LABEL, re.compile("clock, at rom0.0$"))
-    browser.keys([ENTER])
+    browser.type_keys([ENTER])
     eventually(browser, "Enter begins a wire", GET_DRAWING_STATUS, re.compile("^Wire from the clock of chain 0: it can end at 8 pins"))
-    browser.keys([UP])
+    browser.type_keys([UP])
     eventually(browser, "the Up arrow moves the focus to the next pin at which the wire can end", GET_FOCUSED_LABEL, "RAM 0.0 · 4002, out 3, wired to lamp 3")
-    browser.keys([ENTER])
+    browser.type_keys([ENTER])
     eventually(browser, "Enter ends the wire", GET_DRAWING_STATUS, "Line ram0.0.3 is wired to the clock of chain 0.")
     eventually(browser, "the pin keeps the focus", GET_FOCUSED_LABEL, "RAM 0.0 · 4002, out 3, wired to clock 0 and lamp 3")
-    browser.keys([ENTER])
+    browser.type_keys([ENTER])
     eventually(browser, "Enter begins another wire", GET_DRAWING_STATUS, re.compile("^Wire from"))
-    browser.keys([ESCAPE])
+    browser.type_keys([ESCAPE])
     eventually(browser, "Escape cancels the wire", GET_DRAWING_STATUS, "No wire was drawn.")
-    browser.keys([DELETE])
+    browser.type_keys([DELETE])
     eventually(browser, "a line cannot be deleted without its chip", GET_DRAWING_STATUS, re.compile("is deleted only with its chip"))
     browser.press_chord(CONTROL, "z")
     eventually(browser, "Ctrl+Z removes the wire", GET_DRAWING_STATUS, "Undone.")
     browser.press_chord(CONTROL, "z")
     eventually(browser, "Ctrl+Z removes the lamp", GET_WIRING_LINES, re.compile("Lamps · 3"))
-    verdict("the text is the same as before", text_of(browser), text_before)
+    verdict("the text is the same as before", board_text(browser), text_before)
     browser.script("document.querySelector('#wiring-picture .of-chain').focus()")
-    browser.keys([DELETE])
+    browser.type_keys([DELETE])
     eventually(browser, "deleting a chain also deletes the keys that need it", GET_DRAWING_STATUS, "Chain 0 was deleted, and with it the keys.")
     browser.press_chord(CONTROL, "z")
     eventually(browser, "Ctrl+Z also restores the keys", GET_WIRING_LINES, re.compile("Keys · 4 × 3"))
-    verdict("the text is unchanged after Ctrl+Z", text_of(browser), text_before)
+    verdict("the text is unchanged after Ctrl+Z", board_text(browser), text_before)
 
 
 GET_WIDTH = "return Math.round(document.querySelector('#wiring-picture svg').getBoundingClientRect().width)"
@@ -324,26 +324,26 @@ def check_zoom(browser):
     browser.click("#picture-fit")
     verdict("Fit restores the width of the picture", browser.script(GET_WIDTH), width_before)
     browser.script("document.querySelector('#wiring-picture .of-rom').focus()")
-    browser.keys("--")
+    browser.type_keys("--")
     verdict("two presses of - reduce the picture", abs(browser.script(GET_WIDTH) - width_before / 1.25 ** 2) <= 1, True)
     drag(browser, f"{pin_selector('RAM 0.0 · 4002, out 3')} circle", f"{pin_selector('Lamps · 3, alarm')} circle")
     eventually(browser, "a wire can be drawn in the smaller picture", GET_DRAWING_STATUS, "Line ram0.0.3 is wired to lamp 2.")
     browser.click("#drawing-undo")
     eventually(browser, "the wire is undone", GET_DRAWING_STATUS, "Undone.")
     browser.script("document.querySelector('#wiring-picture .of-rom').focus()")
-    browser.keys("-" * 20, 2, 2)
+    browser.type_keys("-" * 20, 2, 2)
     smallest_width = browser.script(GET_WIDTH)
-    browser.keys("-", 2, 2)
+    browser.type_keys("-", 2, 2)
     verdict("the picture has a minimum size, at which the button is disabled", (browser.script(GET_WIDTH), browser.script(GET_ZOOM_BOUNDS)), (smallest_width, ["true", "false"]))
     verdict("the smallest picture is completely visible, and readable", (browser.script(IS_WHOLE_PICTURE_IN_VIEW), smallest_width >= width_before / 3), (True, True))
     browser.script("document.getElementById('picture-smaller').focus()")
-    browser.keys([ENTER])
+    browser.type_keys([ENTER])
     verdict("the disabled button does not change the picture, and keeps the focus", (browser.script(GET_WIDTH), browser.script("return document.activeElement.id")),
             (smallest_width, "picture-smaller"))
     browser.script("document.querySelector('#wiring-picture .of-rom').focus()")
-    browser.keys("+" * 20, 2, 2)
+    browser.type_keys("+" * 20, 2, 2)
     verdict("+ enlarges the picture to the maximum size", browser.script(GET_WIDTH), largest_width)
-    browser.keys("0")
+    browser.type_keys("0")
     verdict("0 restores the width of the picture", browser.script(GET_WIDTH), width_before)
     browser.script("document.getElementById('picture-fit').click()")
     part_under_pointer = browser.script(GET_PART_AT_POINT, 50, 40)
@@ -381,17 +381,17 @@ def drag_from_shelf(browser, part, target, kind="mouse", key=""):
     """Drags a part from the shelf to a point of the window. `kind` is the kind of pointer: mouse or touch. If `key` is not empty, presses this key
     before the drop."""
     start = [round(axis) for axis in browser.script(GET_CENTRE, f"#shelf-{part}")]
-    places = [[round(start[axis] + fraction * (target[axis] - start[axis])) for axis in (0, 1)] for fraction in (0, 0.3, 0.7, 1)]
-    first_move, *other_moves = [{"type": "pointerMove", "duration": 60, "x": x, "y": y} for x, y in places]
+    points = [[round(start[axis] + fraction * (target[axis] - start[axis])) for axis in (0, 1)] for fraction in (0, 0.3, 0.7, 1)]
+    first_move, *other_moves = [{"type": "pointerMove", "duration": 60, "x": x, "y": y} for x, y in points]
     pause = {"type": "pause", "duration": 60}
     keys = [{"type": "key", "id": "while dragged", "actions": [
         *[pause] * 5, {"type": "keyDown", "value": key}, {"type": "keyUp", "value": key}]}] if key else []
-    browser.actions({"type": "pointer", "id": f"shelf {kind}", "parameters": {"pointerType": kind}, "actions": [
+    browser.perform_actions({"type": "pointer", "id": f"shelf {kind}", "parameters": {"pointerType": kind}, "actions": [
         first_move, {"type": "pointerDown", "button": 0}, *other_moves, *[pause] * (4 if key else 0), {"type": "pointerUp", "button": 0}]}, *keys)
 
 
 def is_near(point, expected):
-    """Returns whether each coordinate of a point differs by less than 2 from the expected coordinate. Returns False if the point is None."""
+    """Returns true if each coordinate of a point differs by less than 2 from the expected coordinate. Returns false if the point is None."""
     return point is not None and all(abs(coordinate - expected_coordinate) < 2 for coordinate, expected_coordinate in zip(point, expected))
 
 
@@ -407,18 +407,18 @@ def check_drag_from_shelf(browser, kind):
     drag_from_shelf(browser, "rom", target, kind)
     eventually(browser, f"dragging with the {kind} adds a chip", GET_DRAWING_STATUS, "ROM 0 was added.")
     verdict("the chip is at the point where it was dropped", is_near(browser.script(GET_HEADING_CENTRE, "ROM 0"), expected), True)
-    verdict("the text has one chip", text_of(browser), '[[rom]]\nchip = 0\nport = "0000"\n')
-    drag_from_shelf(browser, "lamp", [round(each) for each in browser.script(GET_CENTRE, f"{pin_selector('ROM 0 · 4001, out 3')} circle")], kind)
+    verdict("the text has one chip", board_text(browser), '[[rom]]\nchip = 0\nport = "0000"\n')
+    drag_from_shelf(browser, "lamp", [round(coordinate) for coordinate in browser.script(GET_CENTRE, f"{pin_selector('ROM 0 · 4001, out 3')} circle")], kind)
     eventually(browser, "a lamp that is dropped on a pin is wired to it", GET_WIRING_LINES, re.compile("lamp 0 is at rom0.3"))
     browser.click("#drawing-undo")
     eventually(browser, "one step undoes the lamp", GET_DRAWING_STATUS, "Undone.")
-    verdict("the text still has the chip", text_of(browser), '[[rom]]\nchip = 0\nport = "0000"\n')
+    verdict("the text still has the chip", board_text(browser), '[[rom]]\nchip = 0\nport = "0000"\n')
     if kind == "mouse":
         drag_from_shelf(browser, "ram", target, kind, ESCAPE)
-        verdict("Escape cancels the drag", "ram" in text_of(browser), False)
-    left, top = (round(each) for each in browser.script(GET_CENTRE, "#text-tabs"))
+        verdict("Escape cancels the drag", "ram" in board_text(browser), False)
+    left, top = (round(coordinate) for coordinate in browser.script(GET_CENTRE, "#text-tabs"))
     drag_from_shelf(browser, "ram", [left, top], kind)
-    verdict("a part that is dropped outside the sheet is not added", "ram" in text_of(browser), False)
+    verdict("a part that is dropped outside the sheet is not added", "ram" in board_text(browser), False)
     browser.click("#shelf-ram")
     eventually(browser, "a click on the shelf adds a part", GET_DRAWING_STATUS, "RAM 0.0 was added.")
 
@@ -482,14 +482,14 @@ def check_scan(browser):
 def check_text_with_errors(browser):
     """Checks that the picture reports errors in the board's text, and that the report is gone when they are corrected. A title that is typed in the
     text must appear in the picture."""
-    text = text_of(browser)
+    text = board_text(browser)
     browser.script(PUT_INTO_EDITOR, BOARD_EDITOR, f"{text}\n[[lamp]]\n")
     eventually(browser, "the picture reports that the bench rejects the text", GET_DRAWING_STATE, re.compile("^The bench rejects the board's text"))
     verdict("the number of disabled buttons", len(browser.script(GET_DISABLED_BUTTONS)), 12)
     browser.script(PUT_INTO_EDITOR, BOARD_EDITOR, text.replace("# title: Lock", "# title: Other"))
     eventually(browser, "the report is gone when the text has no errors", GET_DRAWING_STATE, "")
     browser.script("document.querySelector('#wiring-picture [tabindex=\"0\"]').focus()")
-    browser.keys([ESCAPE])
+    browser.type_keys([ESCAPE])
     eventually(browser, "the picture shows a title that is typed in the text", "const field = document.querySelector('#chosen [aria-label=title]'); return field && field.value",
                "Other")
 
@@ -503,8 +503,8 @@ def check_other_boards(browser):
 
 
 def check(browser, page, _folder, _mcs4):
-    browser.go(page.as_uri())
-    until_ready(browser)
+    browser.open(page.as_uri())
+    wait_until_ready(browser)
     check_drawing_by_mouse(browser)
     check_buzzer(browser)
     check_wires(browser)

@@ -3,7 +3,7 @@
 import re
 import time
 
-from page_in_browser import GET_ALL_NOTICES, GET_STATUS, GET_TEXT_OF_EDITOR, PUT_INTO_EDITOR, STEPPED, choose_example, reopen_page, show_text, pause_running_time
+from page_basics import GET_ALL_NOTICES, GET_STATUS, GET_TEXT_OF_EDITOR, PUT_INTO_EDITOR, STEPPED, choose_example, reopen_page, show_text, pause_running_time
 from verdicts import eventually, verdict
 
 CONTROL, SHIFT, ALT, ENTER, ESCAPE, TAB = "\ue009", "\ue008", "\ue00a", "\ue007", "\ue00c", "\ue004"
@@ -91,7 +91,7 @@ def check_errors(browser):
     verdict("the caret and the selection are unchanged", browser.script(GET_CARET, PROGRAM_EDITOR), [1, 3, ""])
     verdict("the number of errors in the margin",
             browser.script("return document.querySelectorAll('#program-editor .mark-faults').length"), 5)
-    verdict("the tab shows the number of errors", browser.text("#program-tab"), re.compile("5 errors$"))
+    verdict("the tab shows the number of errors", browser.text_of("#program-tab"), re.compile("5 errors$"))
     browser.click(f"{PROGRAM_EDITOR} .send")
     eventually(browser, "a program with errors is not assembled", GET_STATUS_OF.format(PROGRAM_EDITOR), re.compile("^line 1: LDX is not an instruction.*4 more$"))
     browser.click(f"{PROGRAM_EDITOR} .fault-list li:nth-child(3) button")
@@ -111,23 +111,23 @@ def check_typing(browser):
     set_text(browser, PROGRAM_EDITOR, "loop:\tNOP\n")
     browser.script(SET_CARET, PROGRAM_EDITOR, 1, 0)
     # Press a key in the editor first, so that Tab indents and does not move the focus.
-    browser.keys([DOWN, TAB, "l", "d"], 5, 5)
+    browser.type_keys([DOWN, TAB, "l", "d"], 5, 5)
     browser.press_chord(CONTROL, " ")
     eventually(browser, "completion offers the words with the typed beginning", "return [...document.querySelectorAll('.cm-tooltip-autocomplete li')]"
                ".map((each) => each.textContent.slice(0, 3)).join()", "LD ,LDM")
-    browser.keys([DOWN, ENTER, " ", "5", ENTER, "J", "U", "N", " ", "l", "o"], 5, 5)
+    browser.type_keys([DOWN, ENTER, " ", "5", ENTER, "J", "U", "N", " ", "l", "o"], 5, 5)
     browser.press_chord(CONTROL, " ")
-    browser.until("return document.querySelectorAll('.cm-tooltip-autocomplete li').length", 1)
-    browser.keys([ENTER], 5, 5)
+    browser.wait_until("return document.querySelectorAll('.cm-tooltip-autocomplete li').length", 1)
+    browser.type_keys([ENTER], 5, 5)
     eventually(browser, "Tab indents, and the chosen words are inserted", GET_TEXT_OF_EDITOR.replace("arguments[0]", f"'{PROGRAM_EDITOR}'"),
                "loop:\tNOP\n\tLDM 5\n\tJUN loop")
     browser.script(SET_CARET, PROGRAM_EDITOR, 1, 2)
     eventually(browser, "the instruction at the caret is explained", GET_EXPLANATION.format(PROGRAM_EDITOR),
                re.compile(r"^(acc 0, cy 0\. )?LDM d: 1 word, 1 cycle\. Load immediate: d into ACC\. The carry stays\.$"))
     browser.press_chord(CONTROL, "f")
-    browser.keys([*"jun", ENTER, ESCAPE], 5, 5)
+    browser.type_keys([*"jun", ENTER, ESCAPE], 5, 5)
     eventually(browser, "the found word is selected", GET_CARET.replace("arguments[0]", f"'{PROGRAM_EDITOR}'"), [2, 4, "JUN"])
-    browser.keys([ESCAPE, TAB], 5, 5)
+    browser.type_keys([ESCAPE, TAB], 5, 5)
     verdict("Escape and then Tab leave the editor", browser.script(IS_FOCUS_IN_PROGRAM), False)
     verdict("the text is unchanged", browser.script(GET_TEXT_OF_EDITOR, PROGRAM_EDITOR), "loop:\tNOP\n\tLDM 5\n\tJUN loop")
 
@@ -139,21 +139,21 @@ def check_name_commands(browser):
     caret_script = GET_CARET.replace("arguments[0]", f"'{PROGRAM_EDITOR}'")
     set_text(browser, PROGRAM_EDITOR, "loop:\tNOP ; loop\n\tFIM P0, loop\n\tJUN loop")
     browser.script(SET_CARET, PROGRAM_EDITOR, 2, 7)
-    browser.keys([F12], 5, 5)
+    browser.type_keys([F12], 5, 5)
     eventually(browser, "F12 selects the definition of a name", caret_script, [0, 4, "loop"])
     browser.press_chord(SHIFT, F12)
     eventually(browser, "Shift+F12 lists the references to a name", "return [...document.querySelectorAll('#program-editor .places li')].map((node) => node.textContent).join('|')",
                "loop is at 3 places Close|line 1, where it is defined loop:\tNOP ; loop|line 2 FIM P0, loop|line 3 JUN loop")
     browser.click(f"{PROGRAM_EDITOR} .places li:nth-child(3) button")
     eventually(browser, "a click in the list selects a reference", caret_script, [1, 13, "loop"])
-    browser.keys([F2], 5, 5)
-    browser.keys([*"jun", ENTER], 5, 5)
+    browser.type_keys([F2], 5, 5)
+    browser.type_keys([*"jun", ENTER], 5, 5)
     eventually(browser, "a name that is an instruction is rejected with a message", "return document.querySelector('#program-editor .search:not([hidden]) p').textContent",
                "jun is an instruction.")
-    browser.keys([BACKSPACE, BACKSPACE, BACKSPACE, *"again", ENTER], 5, 5)
+    browser.type_keys([BACKSPACE, BACKSPACE, BACKSPACE, *"again", ENTER], 5, 5)
     eventually(browser, "the name is replaced in all places except comments", text_script, "again:\tNOP ; loop\n\tFIM P0, again\n\tJUN again")
     browser.press_chord(CONTROL, "g")
-    browser.keys(["3", ENTER], 5, 5)
+    browser.type_keys(["3", ENTER], 5, 5)
     eventually(browser, "Ctrl+G goes to a line by its number", caret_script, [2, 0, ""])
     browser.press_chord(CONTROL, "/")
     eventually(browser, "Ctrl+/ makes a line a comment", text_script, "again:\tNOP ; loop\n\tFIM P0, again\n; \tJUN again")
@@ -161,11 +161,11 @@ def check_name_commands(browser):
     eventually(browser, "Ctrl+/ restores the line", text_script, "again:\tNOP ; loop\n\tFIM P0, again\n\tJUN again")
     browser.script(SET_CARET, PROGRAM_EDITOR, 0, 0)
     browser.press_chord(CONTROL, "h")
-    browser.keys([*"again"], 5, 5)
+    browser.type_keys([*"again"], 5, 5)
     browser.script(f"document.querySelector('{PROGRAM_EDITOR} [aria-label=\"Replace with\"]').value = 'loop'")
     browser.script(f"[...document.querySelectorAll('{PROGRAM_EDITOR} .search button')].find((node) => node.textContent === 'Replace all').click()")
     eventually(browser, "Replace all replaces the name", text_script, "loop:\tNOP ; loop\n\tFIM P0, loop\n\tJUN loop")
-    browser.keys([ESCAPE], 5, 5)
+    browser.type_keys([ESCAPE], 5, 5)
 
 
 GET_FOLDED_LINES = "return [...document.querySelectorAll('#program-editor .folded-lines')].map((node) => node.textContent).join()"
@@ -185,20 +185,20 @@ def check_folding(browser):
     """Checks that parts of the source can be folded by mouse and by keyboard, that folding loses no text, and that a part unfolds when it must be
     visible."""
     set_text(browser, PROGRAM_EDITOR, FOLDABLE_PROGRAM)
-    browser.until("return document.querySelectorAll('#program-editor .fold-open').length", 4)
+    browser.wait_until("return document.querySelectorAll('#program-editor .fold-open').length", 4)
     browser.click(f"{PROGRAM_EDITOR} .fold-open")
     eventually(browser, "a click in the margin folds a part", GET_FOLDED_LINES, "\u2026 1 line")
     verdict("the click sets no breakpoint", browser.script(f"return document.querySelector('{PROGRAM_EDITOR} .mark-breakpoints') === null"), True)
     browser.script(SET_CARET, PROGRAM_EDITOR, 5, 8)
     keys = [CONTROL, SHIFT, "["]
-    browser.actions({"type": "key", "id": "keyboard", "actions": [
+    browser.perform_actions({"type": "key", "id": "keyboard", "actions": [
         *[{"type": "keyDown", "value": key} for key in keys], *[{"type": "keyUp", "value": key} for key in reversed(keys)]]})
     eventually(browser, "Ctrl+Shift+[ folds the part at the caret", GET_FOLDED_LINES, "\u2026 1 line,\u2026 1 line")
     verdict("the innermost part is folded, and the caret is in its first line", browser.script(GET_CARET, PROGRAM_EDITOR)[:1], [4])
     verdict("folding does not change the text", browser.script(GET_TEXT_OF_EDITOR, PROGRAM_EDITOR), FOLDABLE_PROGRAM)
     browser.script(SET_CARET, PROGRAM_EDITOR, 7, 2)
     keys = [CONTROL, SHIFT, ALT, "["]
-    browser.actions({"type": "key", "id": "keyboard", "actions": [
+    browser.perform_actions({"type": "key", "id": "keyboard", "actions": [
         *[{"type": "keyDown", "value": key} for key in keys], *[{"type": "keyUp", "value": key} for key in reversed(keys)]]})
     browser.script(SET_CARET, PROGRAM_EDITOR, 7, 2)
     eventually(browser, "Ctrl+Shift+Alt+[ folds all parts", GET_FOLDED_LINES, "\u2026 1 line,\u2026 2 lines,\u2026 1 line")
@@ -207,7 +207,7 @@ def check_folding(browser):
     pause_running_time(browser)
     # On a busy machine, time can be paused before the first instruction, whose line is not folded.
     browser.click("#step")
-    browser.until(GET_STATUS, STEPPED)
+    browser.wait_until(GET_STATUS, STEPPED)
     # Time is paused either at the loop's label or at the line below it. In the first case, the line below the label stays folded.
     eventually(browser, "the line at which the program is paused is unfolded", GET_FOLDED_LINES, re.compile("^\u2026 1 line(,\u2026 1 line){1,2}$"))
 
@@ -265,7 +265,7 @@ def check_undo_history(browser):
     choose_example(browser, "die")
     text_before = browser.script(GET_TEXT_OF_EDITOR, PROGRAM_EDITOR)
     browser.click("#from-rom")
-    browser.until("return document.getElementById('ask').open", True)
+    browser.wait_until("return document.getElementById('ask').open", True)
     browser.click("#ask .bar button:first-child")
     time.sleep(0.5)
     browser.script(SET_CARET, PROGRAM_EDITOR, 0, 0)
@@ -278,7 +278,7 @@ def check_undo_history(browser):
 def check_running(browser):
     """Checks that Ctrl+Enter assembles the source and runs it, and that the message of the button "assemble only" says what stays unchanged."""
     choose_example(browser, "traffic light")
-    browser.until(GET_STATUS, re.compile("^Running"))
+    browser.wait_until(GET_STATUS, re.compile("^Running"))
     set_text(browser, PROGRAM_EDITOR, "\tLDM 7\nstop:\tJUN stop\n")
     browser.click("#assemble-only")
     eventually(browser, "the message of \"assemble only\" says what stays unchanged", GET_STATUS_OF.format(PROGRAM_EDITOR), re.compile(
@@ -287,7 +287,7 @@ def check_running(browser):
     browser.press_chord(CONTROL, ENTER)
     eventually(browser, "Ctrl+Enter assembles and runs the source", GET_STATUS_OF.format(PROGRAM_EDITOR), "Assembled 3 bytes; running from 000.")
     eventually(browser, "the program is running", GET_STATUS, re.compile("^Running"))
-    browser.until("return document.querySelector('#registers').textContent", re.compile("^acc7"))
+    browser.wait_until("return document.querySelector('#registers').textContent", re.compile("^acc7"))
     pause_running_time(browser)
     eventually(browser, "the machine is at the end of the program", "return document.querySelector('#registers').textContent", re.compile("^acc7.*pc00[12]"))
     browser.script("document.getElementById('lines').value = 'list 3 40'")
@@ -320,7 +320,7 @@ size = 3
 [[lamp]]
 lime = "rom0.0"
 """
-# The corrections in order: the wrong text, the corrected text, the error before the correction, and the text that is underlined.
+# The corrections in order. Each has the wrong text, the corrected text, the error before the correction, and the underlined text.
 BOARD_CORRECTIONS = [("size = 3\n", "", "line 4: size is not a key of rom, which has chip, port", "size"),
                 ("lime", "line", "line 6: lime is not a key of lamp; line?", "lime"),
                 ("77", "7", "line 2: chip must be a unique number from 0 to 15", "77")]
@@ -341,12 +341,12 @@ def check_board_text(browser):
     browser.script(SET_CARET, BOARD_EDITOR, 0, 0)
     for text in ("[[rom]]\nchip = 0\nport = \"0000\"", "[[lamp]]\nline = \"rom0.0\""):
         browser.press_chord(CONTROL, " ")
-        browser.until("return document.querySelectorAll('.cm-tooltip-autocomplete li').length", 5)
+        browser.wait_until("return document.querySelectorAll('.cm-tooltip-autocomplete li').length", 5)
         browser.script("[...document.querySelectorAll('.cm-tooltip-autocomplete li')].find((node) => node.textContent.startsWith(arguments[0]))"
                        ".dispatchEvent(new MouseEvent('mousedown', { bubbles: true, cancelable: true }))",
                        text.split("\n")[0])
         verdict("completion in an empty line inserts a part", browser.script(GET_TEXT_OF_EDITOR, BOARD_EDITOR).endswith(text), True)
-        browser.keys([ENTER])
+        browser.type_keys([ENTER])
     eventually(browser, "a board of inserted parts has no errors", GET_ERRORS.format(BOARD_EDITOR), "")
     set_text(browser, BOARD_EDITOR, "[[rom]]\nchip = 0\nport = 0000\n")
     eventually(browser, "the error about a text that is not TOML", GET_ERRORS.format(BOARD_EDITOR), 'line 3: a number has no leading zero; write a text in quotes: "0000"')
@@ -358,10 +358,10 @@ def compose(browser, *words, replaced_range=None):
     `replaced_range`, from the first offset to the second, if this range is not None."""
     range_parameters = {"replacementStart": replaced_range[0], "replacementEnd": replaced_range[1]} if replaced_range else {}
     for word in words:
-        browser.command("Input.imeSetComposition", text=word, selectionStart=len(word), selectionEnd=len(word), **range_parameters)
+        browser.send_command("Input.imeSetComposition", text=word, selectionStart=len(word), selectionEnd=len(word), **range_parameters)
         # The editor marks errors during this time.
         time.sleep(0.4)
-    browser.command("Input.insertText", text=words[-1])
+    browser.send_command("Input.insertText", text=words[-1])
 
 
 def check_phone_keyboard(browser, page):
@@ -382,7 +382,7 @@ def check_phone_keyboard(browser, page):
     eventually(browser, "a word that the keyboard corrects appears once", text_script, "label:\tNOP\n")
     set_text(browser, PROGRAM_EDITOR, "one:\tNOP\ntwo:\tNOP\n\tNOP\n")
     browser.script(f"{FIND_EDITOR}editor.focus(); editor.setSelection({{ line: 0, ch: 5 }}, {{ line: 1, ch: 8 }})", PROGRAM_EDITOR)
-    browser.command("Input.insertText", text="I")
+    browser.send_command("Input.insertText", text="I")
     eventually(browser, "text typed over selected lines replaces them", text_script, "one:\tI\n\tNOP\n")
 
 

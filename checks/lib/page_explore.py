@@ -11,8 +11,8 @@ import re
 import subprocess
 import time
 
-from page_in_browser import (GET_NOTICE, GET_TEXT_OF_EDITOR, IS_READY, PUT_INTO_EDITOR, TOP, choose_example, send_lines, choose_from_file_menu,
-                             reopen_page, show_text)
+from page_basics import (GET_NOTICE, GET_TEXT_OF_EDITOR, IS_READY, PUT_INTO_EDITOR, TOP, choose_example, send_lines, choose_from_file_menu,
+                         reopen_page, show_text)
 from page_layout import MEASURE_OVERFLOW, set_size
 from page_tests import GET_ERRORS as GET_TESTS_FAULTS
 from page_tests import GET_TESTS_STATUS
@@ -37,7 +37,7 @@ LOCK = TOP / "examples/lock"
 SEARCH_SECONDS = 10
 
 
-def text_of(browser, name):
+def text_of_tab(browser, name):
     """Returns the text in the editor of a tab, such as `properties`."""
     return browser.script(GET_TEXT_OF_EDITOR, f"#{name}-editor")
 
@@ -81,7 +81,7 @@ def check_counterexample(browser, folder, mcs4):
     explore`."""
     program = faulty_program()
     choose_example(browser, "lock")
-    verdict("the example has its properties", text_of(browser, "properties"), (LOCK / "lock.props").read_text())
+    verdict("the example has its properties", text_of_tab(browser, "properties"), (LOCK / "lock.props").read_text())
     set_text(browser, "program", program)
     start_search(browser, SEARCH_SECONDS)
     eventually(browser, "the button has the label Stop during the search", GET_BUTTON_LABEL, "Stop")
@@ -101,7 +101,7 @@ def check_counterexample(browser, folder, mcs4):
     verdict("mcs4 explore reports only the same broken property", re.findall("^not ok (.*) - ", output, re.M), ["1"])
     tests_of_tool = (folder / "finds.test").read_text()
     verdict("the counterexample is the same as that of mcs4 explore", browser.script(GET_COUNTEREXAMPLE_TEST), tests_of_tool[tests_of_tool.index("\ntest ") + 1:].rstrip("\n"))
-    verdict("the page reports the number of instructions that ran", browser.text("#explored-instructions"), re.compile(r"1\d\d of 125 instructions were run"))
+    verdict("the page reports the number of instructions that ran", browser.text_of("#explored-instructions"), re.compile(r"1\d\d of 125 instructions were run"))
 
 
 def check_line_never_run(browser):
@@ -117,13 +117,13 @@ return [isShown(editor.view.dom), editor.getCursor('from').line + 1]"""), [True,
 def check_test_added(browser):
     """Checks that the counterexample's test is added to the tests only once, at the end, and that it fails there."""
     add_button = "#property-list .bar button:nth-of-type(2)"
-    tests_before = text_of(browser, "tests")
+    tests_before = text_of_tab(browser, "tests")
     test = browser.script(GET_COUNTEREXAMPLE_TEST)
     browser.click(add_button)
     verdict("the test is added to Tests", browser.script(GET_PROPERTIES_STATUS), "It is at the end of Tests, where Run tests runs it.")
-    verdict("the test is at the end of Tests", text_of(browser, "tests"), f"{tests_before.rstrip()}\n\n{test}\n")
+    verdict("the test is at the end of Tests", text_of_tab(browser, "tests"), f"{tests_before.rstrip()}\n\n{test}\n")
     browser.click(add_button)
-    verdict("the test is not added a second time", (browser.script(GET_PROPERTIES_STATUS), text_of(browser, "tests").count(test)), ("Tests has it already.", 1))
+    verdict("the test is not added a second time", (browser.script(GET_PROPERTIES_STATUS), text_of_tab(browser, "tests").count(test)), ("Tests has it already.", 1))
     set_text(browser, "tests", test)
     show_text(browser, "tests")
     browser.click("#tests-editor .send")
@@ -138,11 +138,11 @@ def check_counterexample_opened(browser):
     eventually(browser, "the counterexample is opened as a session", GET_NAME, re.compile("^lamp open on only after press 4"))
     eventually(browser, "a notice offers to go back to the session", GET_NOTICE, re.compile('"lock" is saved'))
     verdict("the lamp is on in the counterexample's session", "lamps .*." in send_lines(browser, "lamps"), True)
-    verdict("the texts of the counterexample's session", (text_of(browser, "properties"), text_of(browser, "program") == faulty_program()),
+    verdict("the texts of the counterexample's session", (text_of_tab(browser, "properties"), text_of_tab(browser, "program") == faulty_program()),
             ((LOCK / "lock.props").read_text(), True))
     verdict("the new session has no search results", browser.script("return isShown(document.getElementById('explore-results'))"), False)
     browser.click("#sessions-button")
-    browser.until("return document.getElementById('sessions').open", True)
+    browser.wait_until("return document.getElementById('sessions').open", True)
     browser.click("#kept button[aria-label='open lock']")
     eventually(browser, "the old session is open again", GET_NAME, "lock")
     eventually(browser, "the old session still shows its results", GET_ROWS, re.compile("^.'not ok . lamp open on only after"))
@@ -154,7 +154,7 @@ def check_stop_button(browser):
     # The page first attempts a proof, for a tenth of the time.
     eventually(browser, "the search runs", GET_FIGURES, re.compile("^[1-9][0-9,]* steps"), 120)
     start = time.monotonic()
-    browser.hold("#explore", 400)
+    browser.hold_mouse("#explore", 400)
     eventually(browser, "the search stops", GET_BUTTON_LABEL, "Search", 5)
     verdict("the search stops at once", time.monotonic() - start < 3, True)
     verdict("the status reports that the search was stopped", browser.script(GET_PROPERTIES_STATUS), re.compile("^Stopped. "))
@@ -163,7 +163,7 @@ def check_stop_button(browser):
     eventually(browser, "Ctrl+Enter starts the search", GET_BUTTON_LABEL, "Stop")
     eventually(browser, "the search runs", GET_FIGURES, re.compile("^[1-9][0-9,]* steps"), 120)
     browser.script("document.getElementById('explore').focus()")
-    browser.keys([ENTER])
+    browser.type_keys([ENTER])
     eventually(browser, "Enter on the button stops the search", GET_BUTTON_LABEL, "Search", 5)
     verdict("the button keeps the focus", browser.script("return document.activeElement.id"), "explore")
     browser.click("#clear-finds")
@@ -185,7 +185,7 @@ def check_errors(browser):
     for seconds, seed, message in ((0, 1, "Seconds must be a number from 1 to 86,400."), ("x", -1, re.compile("^Seconds .* The seed must be a number"))):
         start_search(browser, seconds, seed)
         verdict(f"{seconds} seconds are rejected", browser.script(GET_PROPERTIES_STATUS), message)
-    board = text_of(browser, "board")
+    board = text_of_tab(browser, "board")
     set_text(browser, "board", f"{board}[rom]\n")
     start_search(browser, 5)
     eventually(browser, "the error in the board's text is reported", GET_PROPERTIES_STATUS, re.compile("^Nothing was run: Board: no 20: the text is not TOML"))
@@ -249,7 +249,7 @@ def check_saving(browser, folder):
     set_text(browser, "properties", "never lamp 1 on")
     time.sleep(1)
     browser.reload()
-    browser.until(IS_READY, True)
+    browser.wait_until(IS_READY, True)
     show_text(browser, "properties")
     eventually(browser, "the properties are unchanged after a reload", GET_TEXT_OF_EDITOR.replace("arguments[0]", f"'{EDITOR}'"), "never lamp 1 on")
     rename_session(browser, "with properties")

@@ -3,7 +3,7 @@
 import re
 import time
 
-from page_in_browser import ENTER, ESCAPE, GET_STATUS, choose_example, key, send_lines, show_text, until_ready
+from page_basics import ENTER, ESCAPE, GET_STATUS, choose_example, key, send_lines, show_text, wait_until_ready
 from verdicts import eventually, verdict
 
 F1, UP, DOWN, CONTROL = "\ue031", "\ue013", "\ue015", "\ue009"
@@ -21,12 +21,12 @@ GET_SELECTED = "return document.querySelector('#board-editor .cm-editor').lineEd
 def check_help(browser):
     """Checks that F1 opens the help, that a search shows only the matching row of the manual, and that Escape closes the help."""
     browser.script("document.activeElement.blur()")
-    browser.keys([F1])
+    browser.type_keys([F1])
     eventually(browser, "F1 opens the help", IS_HELP_SHOWN, True)
     browser.type_into("#help-search", "decimal adjust")
     eventually(browser, "a search shows only the matching row", COUNT_ROWS, 1)
-    verdict("the row is from the manual", browser.text("#help-sections tbody tr"), re.compile("^DAAFBdecimal adjust: 6 is added to ACC if CY"))
-    browser.keys([ESCAPE])
+    verdict("the row is from the manual", browser.text_of("#help-sections tbody tr"), re.compile("^DAAFBdecimal adjust: 6 is added to ACC if CY"))
+    browser.type_keys([ESCAPE])
     eventually(browser, "Escape closes the help", IS_HELP_SHOWN, False)
     verdict("the help button has the focus again", browser.script("return document.activeElement.id"), "help-button")
 
@@ -43,11 +43,11 @@ def check_console_input(browser):
     eventually(browser, "Enter sends the line and empties the field", GET_LINES, "")
     browser.type_into("#lines", "seq" + ENTER)
     eventually(browser, "Enter sends the second line", GET_LINES, "")
-    browser.keys([UP, UP])
+    browser.type_keys([UP, UP])
     eventually(browser, "the Up arrow recalls the line before the last one", GET_LINES, "poke r5 9")
-    browser.keys([DOWN])
+    browser.type_keys([DOWN])
     eventually(browser, "the Down arrow recalls the last line", GET_LINES, "seq")
-    browser.keys([DOWN])
+    browser.type_keys([DOWN])
     eventually(browser, "the Down arrow after the last line empties the field", GET_LINES, "")
     browser.type_into("#lines", "unb")
     browser.press_chord(CONTROL, " ")
@@ -67,14 +67,14 @@ def check_wiring(browser):
     browser.click("#wiring-tab")
     eventually(browser, "the picture of the wiring has its parts", "return document.querySelectorAll('#wiring-picture .part').length >= 4", True)
     eventually(browser, "lines at 1 are coloured while the program is running", COUNT_HIGH_LINES, re.compile("[1-9]"))
-    verdict("the lines are also described in words", browser.text("#wiring-words"), re.compile("ROM 0 · 4001: line rom0.0, an (in|out)put, "))
+    verdict("the lines are also described in words", browser.text_of("#wiring-words"), re.compile("ROM 0 · 4001: line rom0.0, an (in|out)put, "))
     browser.script("document.querySelector('#wiring-picture .part.of-rom').focus()")
-    browser.keys([ENTER])
+    browser.type_keys([ENTER])
     browser.click(SHOW_IN_BOARD)
     eventually(browser, "a part that was selected with Enter is shown in the board's text", GET_SELECTED, re.compile(r"^\[\[rom\]\]\nchip = 0\n"))
     browser.click("#wiring-tab")
     browser.script("document.querySelector('#wiring-picture .of-test').focus()")
-    browser.keys([ENTER])
+    browser.type_keys([ENTER])
     browser.click(SHOW_IN_BOARD)
     eventually(browser, "the button at TEST is shown in the board's text", GET_SELECTED, "# test: button WALK")
     browser.click("#wiring-tab")
@@ -88,8 +88,8 @@ def run_program(browser):
     browser.click("#tour-put")
     browser.script("document.querySelector('#program-editor .status-text').firstChild.data = ''")
     browser.click("#program-editor .send")
-    browser.until("return document.querySelector('#program-editor .status-text').textContent", re.compile("running from 000"))
-    browser.until(GET_STATUS, re.compile("^Running"))
+    browser.wait_until("return document.querySelector('#program-editor .status-text').textContent", re.compile("running from 000"))
+    browser.wait_until(GET_STATUS, re.compile("^Running"))
 
 
 def check_tour(browser):
@@ -130,8 +130,8 @@ def check_cell_tooltips(browser):
 
 
 def check(browser, page, _folder, _mcs4):
-    browser.go(page.as_uri())
-    until_ready(browser)
+    browser.open(page.as_uri())
+    wait_until_ready(browser)
     choose_example(browser, "calculator")
     check_help(browser)
     check_cell_tooltips(browser)

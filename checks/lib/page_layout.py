@@ -4,8 +4,8 @@ covers the marks of changes, cells that are edited in place, printing, and acces
 import re
 import time
 
-from page_in_browser import (ENTER, ESCAPE, GET_STATUS, IS_AT_COUNTER, STEPPED, choose_example, key, send_lines, reopen_page, show_text,
-                             step_with_marks, pause_running_time, until_ready)
+from page_basics import (ENTER, ESCAPE, GET_STATUS, IS_AT_COUNTER, STEPPED, choose_example, key, send_lines, reopen_page, show_text,
+                         step_with_marks, pause_running_time, wait_until_ready)
 from page_workbench import (check_arrangement, check_touch_targets, check_first_glance, check_phone_details, check_first_tasks, check_layout_shifts,
                             check_details)
 from page_waves import record
@@ -58,12 +58,12 @@ def check_tabs(browser):
     show_text(browser, "board")
     verdict("a click shows the board's text", browser.script(GET_SHOWN_EDITOR), "board-editor")
     browser.script("document.getElementById('board-tab').focus()")
-    browser.keys([HOME])
+    browser.type_keys([HOME])
     verdict("Home selects the first tab", browser.script(GET_FRONT_TAB), "program-tab")
-    browser.keys([RIGHT])
+    browser.type_keys([RIGHT])
     verdict("the Right arrow shows the next tab", (browser.script(GET_FRONT_TAB), browser.script(GET_SHOWN_EDITOR)), ("board-tab", "board-editor"))
     verdict("the number of tabs that the Tab key reaches", browser.script("return document.querySelectorAll('#text-tabs [tabindex=\"0\"]').length"), 1)
-    browser.keys([LEFT])
+    browser.type_keys([LEFT])
     verdict("the Left arrow shows the previous tab", browser.script(GET_SHOWN_EDITOR), "program-editor")
 
 
@@ -75,7 +75,7 @@ def check_folds(browser):
     show_text(browser, "board")
     show_text(browser, "console")
     browser.reload()
-    until_ready(browser)
+    wait_until_ready(browser)
     verdict("the panel is still folded after a reload", browser.script(fold_state_script), "falsefalse")
     verdict("the selected text tab after a reload", browser.script(GET_FRONT_TAB), "board-tab")
     verdict("the selected tab of the dock after a reload", browser.script("return isShown(document.getElementById('talk'))"), True)
@@ -108,32 +108,32 @@ def check_disassembly_keys(browser):
     to."""
     pause_running_time(browser)
     focus_row(browser, 3)
-    browser.keys([HOME])
+    browser.type_keys([HOME])
     eventually(browser, "Home shows address 000", GET_FOCUSED_ROW, "000")
     verdict("Home switches Follow off", browser.script("return document.getElementById('follow').checked"), False)
     first_addresses = shown_addresses(browser)
-    browser.keys([DOWN])
+    browser.type_keys([DOWN])
     eventually(browser, "the Down arrow selects the next row", GET_FOCUSED_ROW, first_addresses[1])
-    browser.keys([UP, UP])
+    browser.type_keys([UP, UP])
     eventually(browser, "the Up arrow stays at the first row", GET_FOCUSED_ROW, "000")
     seen_addresses = set(first_addresses)
     for _ in range(200):
         last_address = shown_addresses(browser)[-1]
-        browser.keys([PAGE_DOWN], 1, 1)
-        browser.until(GET_FOCUSED_ROW, re.compile("."))
-        browser.until(GET_LAST_ROW, re.compile(f"^(?!{last_address})"), 5)
+        browser.type_keys([PAGE_DOWN], 1, 1)
+        browser.wait_until(GET_FOCUSED_ROW, re.compile("."))
+        browser.wait_until(GET_LAST_ROW, re.compile(f"^(?!{last_address})"), 5)
         rows = shown_addresses(browser)
         seen_addresses.update(rows)
         if last_address > "2FF":
             break
     verdict("the instructions of the program that PageDown did not show", program_addresses(browser) - seen_addresses, set())
     focus_row(browser, 3)
-    browser.keys([END])
+    browser.type_keys([END])
     eventually(browser, "End shows the last address", GET_FOCUSED_ROW, re.compile("FF[EF]"))
     for _ in range(4):
-        browser.keys([PAGE_DOWN], 1, 1)
+        browser.type_keys([PAGE_DOWN], 1, 1)
     verdict("PageDown stays at the last address", browser.script(GET_FOCUSED_ROW)[:2], "FF")
-    browser.keys([PAGE_UP, PAGE_UP])
+    browser.type_keys([PAGE_UP, PAGE_UP])
     eventually(browser, "PageUp goes back", "return Number(document.activeElement.textContent.slice(0, 4) < '\u25cfFF') && 1", re.compile("[01]"))
     check_scroll_bar(browser)
 
@@ -167,7 +167,7 @@ def check_follow(browser):
     browser.click("#follow")
     eventually(browser, "Follow shows the row of the program counter", GET_NEXT_LINE, re.compile("."))
     for _ in range(5):
-        value_before = text_of(browser, "pc")
+        value_before = cell_text(browser, "pc")
         browser.click("#step")
         eventually(browser, "a step changes the program counter", f"return document.getElementById('value-pc').textContent !== '{value_before}'", True)
         eventually(browser, "a row begins at the program counter after each step", IS_AT_COUNTER, True)
@@ -176,7 +176,7 @@ def check_follow(browser):
     pause_running_time(browser)
 
 
-def text_of(browser, name):
+def cell_text(browser, name):
     """Returns the text of a cell of the processor, such as `pc` or `R5`."""
     return browser.script("return document.getElementById(arguments[0]).textContent", f"value-{name}")
 
@@ -205,7 +205,7 @@ def check_change_marks(browser):
     verdict("a register that changed at the beginning of the run is marked", "R5" in browser.script(GET_MARKED_REGISTERS).split(), True)
     verdict("a register that has its old value again is not marked", "R0" in browser.script(GET_MARKED_REGISTERS).split(), False)
     browser.click("#step")
-    browser.until(GET_STATUS, STEPPED)
+    browser.wait_until(GET_STATUS, STEPPED)
     verdict("a step removes the mark of a register that it does not change", "R5" in browser.script(GET_MARKED_REGISTERS).split(), False)
     browser.click("#reset")
     eventually(browser, "the status after Reset", GET_STATUS, "The board was reset; the program counter is at 000.")
@@ -218,9 +218,9 @@ GET_CELL_STATUS = "return document.getElementById('cell-status').textContent"
 def edit_cell(browser, cell, opening_key, typed_keys):
     """Opens the editor of a cell with a key, and types keys into it."""
     browser.script("document.querySelector(arguments[0]).focus()", cell)
-    browser.keys([opening_key])
-    browser.until(GET_EDITED_CELL, re.compile("."))
-    browser.keys([*typed_keys])
+    browser.type_keys([opening_key])
+    browser.wait_until(GET_EDITED_CELL, re.compile("."))
+    browser.type_keys([*typed_keys])
 
 
 def double_click(browser, selector):
@@ -240,19 +240,19 @@ def check_edited_cells(browser):
     edit_cell(browser, "#value-cy", ENTER, ["2", ENTER])
     eventually(browser, "a value out of range is rejected at the cell", GET_CELL_STATUS, re.compile("."))
     verdict("the message about the value", browser.script(GET_CELL_STATUS), re.compile("value|range|number", re.I))
-    browser.keys([ESCAPE])
+    browser.type_keys([ESCAPE])
     eventually(browser, "Escape cancels the edit", GET_EDITED_CELL, "")
-    verdict("the value is unchanged after Escape", text_of(browser, "cy"), "0")
+    verdict("the value is unchanged after Escape", cell_text(browser, "cy"), "0")
     edit_cell(browser, "#value-acc", ENTER, ["x", ENTER])
     eventually(browser, "a character that is not a digit is rejected", GET_CELL_STATUS, re.compile("hexadecimal"))
-    browser.keys([ESCAPE])
+    browser.type_keys([ESCAPE])
     nibble = ".ram button:nth-child(3)"
     double_click(browser, nibble)
     eventually(browser, "a double click edits a RAM nibble", GET_EDITED_CELL, re.compile(r"bank 0, chip 0, register 0, character 2: SRC byte 02"))
-    browser.keys(["9", ENTER])
+    browser.type_keys(["9", ENTER])
     eventually(browser, "Enter sets the RAM nibble", f"return document.querySelector('{nibble}').textContent", "9")
     verdict("the double click does not watch the nibble", browser.script(f"return document.querySelector('{nibble}').getAttribute('aria-pressed')"), "false")
-    verdict("the log has the line that sets the nibble", "poke ram.0.0x02 0x9" in browser.text("#log"), True)
+    verdict("the log has the line that sets the nibble", "poke ram.0.0x02 0x9" in browser.text_of("#log"), True)
     edit_cell(browser, ".ram button.status", F2, ["4", ENTER])
     eventually(browser, "a status nibble can be edited", "return document.querySelector('.ram button.status').textContent", "4")
     double_click(browser, ".ram .port span")
@@ -262,9 +262,9 @@ def check_edited_cells(browser):
 def check_click_on_changing_text(browser):
     """Checks that a click on an element works even if its text changes during the click. (In WebKit, a click is lost if the page replaces the text
     node.)"""
-    browser.until(GET_STATUS, re.compile("^Running"))
+    browser.wait_until(GET_STATUS, re.compile("^Running"))
     browser.script("window.pressed = 0; document.getElementById('value-acc').addEventListener('click', () => { window.pressed++; })")
-    browser.hold("#value-acc", 400)
+    browser.hold_mouse("#value-acc", 400)
     eventually(browser, "a click on a changing value works while the program is running", "return window.pressed", 1)
 
 
@@ -324,7 +324,7 @@ COUNT_KEYS_DOWN = "return document.querySelectorAll(\"#keys [aria-pressed='true'
 def check_swipe(browser):
     """Checks that a fast or slow swipe that begins on a key leaves no key down, while time is running and while it is paused."""
     choose_example(browser, "calculator")
-    browser.until(GET_STATUS, re.compile("^Running"))
+    browser.wait_until(GET_STATUS, re.compile("^Running"))
     answer_before = send_lines(browser, "seq")
     verdict("a finger can scroll on a key", browser.script("return getComputedStyle(document.querySelector('.key')).touchAction"), "pan-y")
     for speed, milliseconds in (("quick", 20), ("slow", 200)):
@@ -461,13 +461,13 @@ def check_controls(browser):
     record(browser, 20000)
     for width, height in ((1279, 720), (1024, 640), (820, 1180), (390, 844)):
         set_size(browser, width, height, width < 700)
-        browser.command("Emulation.setTouchEmulationEnabled", enabled=width < 700)
+        browser.send_command("Emulation.setTouchEmulationEnabled", enabled=width < 700)
         for tab in ("program", "board", "wiring", "tests", "properties", "waves"):
             if width < 700:
                 browser.click(f"#region-{'more' if tab == 'waves' else 'source'}")
             show_text(browser, tab)
             verdict(f"controls of {tab} that are cut off or overlap at {width}", browser.script(FIND_WRONG_CONTROLS), [])
-    browser.command("Emulation.setTouchEmulationEnabled", enabled=False)
+    browser.send_command("Emulation.setTouchEmulationEnabled", enabled=False)
     browser.restore_size()
 
 
@@ -481,7 +481,7 @@ def check_drawer(browser):
     browser.click("#drawer-button")
     verdict("the drawer's button opens it", browser.script(IS_DRAWER_SHOWN), True)
     browser.script("document.getElementById('value-acc').focus()")
-    browser.keys([ESCAPE])
+    browser.type_keys([ESCAPE])
     verdict("Escape closes the drawer", browser.script(IS_DRAWER_SHOWN), False)
 
 
@@ -493,7 +493,7 @@ return box.top >= -1 && box.bottom <= innerHeight + 1 && box.height > 0"""
 def swipe_up(browser, x, y):
     """Swipes up by 180 pixels, in ten steps of 16 milliseconds."""
     moves = [{"type": "pointerMove", "duration": 16, "x": int(x), "y": int(y) - 18 * step} for step in range(11)]
-    browser.actions({"type": "pointer", "id": "swipe", "parameters": {"pointerType": "touch"},
+    browser.perform_actions({"type": "pointer", "id": "swipe", "parameters": {"pointerType": "touch"},
                      "actions": [moves[0], {"type": "pointerDown", "button": 0}, *moves[1:], {"type": "pointerUp", "button": 0}]})
 
 
@@ -507,7 +507,7 @@ def check_menu(browser):
     verdict("the menu is closed", browser.script(GET_MENU_STATE), "false false")
     browser.click("#menu-button")
     verdict("the button opens the menu", browser.script(GET_MENU_STATE), "true true")
-    browser.keys([ESCAPE])
+    browser.type_keys([ESCAPE])
     verdict("Escape closes the menu", browser.script(GET_MENU_STATE), "false false")
     browser.click("#menu-button")
     browser.click("#help-narrow")
@@ -528,9 +528,9 @@ def check_phone(browser):
     """Checks that a phone shows one region at a time, selected with the tabs at the bottom, and that a swipe that begins on a key scrolls."""
     choose_example(browser, "calculator")
     set_size(browser, 375, 667, True)
-    browser.command("Emulation.setTouchEmulationEnabled", enabled=True)
+    browser.send_command("Emulation.setTouchEmulationEnabled", enabled=True)
     browser.reload()
-    until_ready(browser)
+    wait_until_ready(browser)
     check_menu(browser)
     for width, height in ((390, 844), (360, 640), (320, 640), (375, 667)):
         set_size(browser, width, height, True)
@@ -552,14 +552,14 @@ def check_phone(browser):
     swipe_up(browser, *box)
     eventually(browser, "a swipe that begins on a key scrolls the front panel", "return document.getElementById('front').scrollTop > 50", True)
     eventually(browser, "no key is down after the swipe", COUNT_KEYS_DOWN, 0)
-    browser.command("Emulation.setTouchEmulationEnabled", enabled=False)
+    browser.send_command("Emulation.setTouchEmulationEnabled", enabled=False)
     browser.restore_size()
 
 
 def emulate_media(browser, media="", **features):
     """Emulates a medium such as print and media features such as forced colours. Without arguments, ends the emulation."""
     media_features = [{"name": name.replace("_", "-"), "value": value} for name, value in features.items()]
-    browser.command("Emulation.setEmulatedMedia", media=media, features=media_features)
+    browser.send_command("Emulation.setEmulatedMedia", media=media, features=media_features)
     time.sleep(0.2)
 
 
@@ -589,7 +589,7 @@ def check_print(browser):
     has_board = browser.script("return document.querySelector('#board-title') !== null")
     emulate_media(browser, media="print")
     eventually(browser, "the number of printed texts", "return document.querySelectorAll('#print h2').length", 2)
-    printed_text = browser.text("#print")
+    printed_text = browser.text_of("#print")
     verdict("the printout has the source", "JMS" in printed_text or "JUN" in printed_text, True)
     verdict("the printout has the board's text", has_board and "lamp = [" in printed_text and "[[rom]]" in printed_text, True)
     verdict("the printout has the lamps", browser.script("return isShown(document.querySelector('.bulb'))"), True)

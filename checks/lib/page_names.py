@@ -5,7 +5,7 @@ import pathlib
 import re
 import subprocess
 
-from page_in_browser import ENTER, GET_NOTICE, GET_STATUS, PUT_INTO_EDITOR, choose_example, send_lines, show_text, pause_running_time, until_ready
+from page_basics import ENTER, GET_NOTICE, GET_STATUS, PUT_INTO_EDITOR, choose_example, send_lines, show_text, pause_running_time, wait_until_ready
 from verdicts import eventually, verdict
 
 TOP = pathlib.Path(__file__).resolve().parent.parent.parent
@@ -28,7 +28,7 @@ GET_LABELS = "return [...document.querySelectorAll('#lines-of-program .labels')]
 GET_BREAKPOINT_LINES = """
 return document.querySelector("#program-editor .cm-editor").lineEditor.marksIn("breakpoints").map((line) => line + 1).join(" ")"""
 
-# Executes as many steps as the argument says. Returns for each step the program counter, and the marked source line with its number, or `not seen` if
+# Executes a number of steps, which is the argument. Returns for each step the program counter, and the marked source line with its number, or `not seen` if
 # the line is out of view.
 STEP_THROUGH = """
 // Omits the values that the page shows after a line, which are not a part of the line.
@@ -161,7 +161,7 @@ def check_margin_clicks(browser, source, values):
     browser.script(CLICK_MARGIN, 1)
     eventually(browser, "a breakpoint at a line without bytes moves to the next instruction, with a message", GET_POPUP,
                re.compile("^Line 1 puts no bytes into ROM: its breakpoint is at the next instruction, line "))
-    breakpoint_line = browser.until(GET_BREAKPOINT_LINES, re.compile("[0-9]"))
+    breakpoint_line = browser.wait_until(GET_BREAKPOINT_LINES, re.compile("[0-9]"))
     browser.script(CLICK_MARGIN, int(breakpoint_line))
     eventually(browser, "a click at its new line clears the breakpoint", GET_BREAKPOINT_LINES, "")
 
@@ -182,7 +182,7 @@ def check_breakpoint_inside_instruction(browser, source, values, lines):
     eventually(browser, "a click in the margin clears the breakpoint", GET_BREAKPOINT_LINES, "")
     verdict("the bench has no breakpoints", send_lines(browser, "breaks"), re.compile("breaks -$"))
     send_lines(browser, f"break 0x{address}")
-    browser.until(GET_BREAKPOINT_LINES, str(call))
+    browser.wait_until(GET_BREAKPOINT_LINES, str(call))
     browser.script("document.querySelector('#lines-of-program button[aria-pressed=true]').click()")
     eventually(browser, "a click on its row in the disassembly clears the breakpoint", GET_BREAKPOINT_LINES, "")
 
@@ -190,7 +190,7 @@ def check_breakpoint_inside_instruction(browser, source, values, lines):
 def point_at(browser, line, word):
     """Moves the pointer to a word of the source and leaves it there."""
     x, y = browser.script(SCROLL_TO_WORD, line, word)
-    browser.actions({"type": "pointer", "id": "mouse", "parameters": {"pointerType": "mouse"}, "actions": [
+    browser.perform_actions({"type": "pointer", "id": "mouse", "parameters": {"pointerType": "mouse"}, "actions": [
         {"type": "pointerMove", "duration": 0, "x": int(x) + shift, "y": int(y)} for shift in (1, 2)]})
 
 
@@ -268,8 +268,8 @@ def check_source_differs_from_rom(browser, source, lines):
 def check(browser, page, _folder, mcs4):
     source, values = read_listing(mcs4)
     lines = PROGRAM.read_text().splitlines()
-    browser.go(page.as_uri())
-    until_ready(browser)
+    browser.open(page.as_uri())
+    wait_until_ready(browser)
     choose_example(browser, "calculator")
     show_text(browser, "program")
     check_marked_lines(browser, source)

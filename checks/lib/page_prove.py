@@ -9,8 +9,8 @@ import subprocess
 import time
 
 from page_commands import press_chord
-from page_explore import GET_MARK, GET_PROPERTIES_STATUS, set_text, text_of
-from page_in_browser import GET_NOTICE, GET_STATUS, TOP, choose_example, send_lines, reopen_page, show_text
+from page_explore import GET_MARK, GET_PROPERTIES_STATUS, set_text, text_of_tab
+from page_basics import GET_NOTICE, GET_STATUS, TOP, choose_example, send_lines, reopen_page, show_text
 from page_layout import MEASURE_OVERFLOW, set_size
 from page_texts import GET_NAME
 from verdicts import eventually, verdict
@@ -55,7 +55,7 @@ def prove_with_tool(browser, folder, mcs4):
     mistake."""
     names = [("board", "board.toml"), ("program", "program.asm"), ("properties", "some.props")]
     for name, file in names:
-        (folder / file).write_text(text_of(browser, name))
+        (folder / file).write_text(text_of_tab(browser, name))
     command = ["./mcs4", "prove", *(folder / file for _, file in names)]
     result = subprocess.run(command, cwd=TOP, env=dict(os.environ, MCS4=str(mcs4)), stdout=subprocess.PIPE, text=True, check=False)
     return re.findall(r"^ok \d+ - (.*) # proved for all inputs \((.*)\)$", result.stdout, re.M)
@@ -65,7 +65,7 @@ def check_example(browser, folder, mcs4):
     """Checks that the page proves the stopwatch's properties with the same numbers of states as `mcs4 prove`. This example has one state more than
     the page's first, short search may visit."""
     choose_example(browser, "stopwatch")
-    properties = [line for line in text_of(browser, "properties").splitlines() if line.startswith(("never", "every"))]
+    properties = [line for line in text_of_tab(browser, "properties").splitlines() if line.startswith(("never", "every"))]
     results_of_tool = prove_with_tool(browser, folder, mcs4)
     verdict("the properties that mcs4 prove proves", [text for text, _ in results_of_tool][: len(properties)], properties)
     verdict("the number of common mistakes that mcs4 prove reports", len(results_of_tool) - len(properties), MISTAKE_COUNT)
@@ -86,14 +86,14 @@ def check_marks_after_edits(browser):
     """Checks that an edit of the program, the board or the property removes a mark, and that undoing the edit restores it."""
     count = browser.script(COUNT_LIT_ROWS)
     for name, comment_sign in (("program", ";"), ("board", "#")):
-        text = text_of(browser, name)
+        text = text_of_tab(browser, name)
         set_text(browser, name, f"{text}{comment_sign} another one\n")
         eventually(browser, f"an edit of the {name} removes the marks", COUNT_LIT_ROWS, 0)
         verdict("the rows report the reason", {row.split(" | ")[-1] for row in browser.script(GET_ROWS)}, {CHANGED_NOTE})
         verdict("the tab shows nothing", browser.script(GET_MARK), "")
         set_text(browser, name, text)
         eventually(browser, "undoing the edit restores the marks", COUNT_LIT_ROWS, count)
-    properties = text_of(browser, "properties")
+    properties = text_of_tab(browser, "properties")
     first_property, second_property = [row.split(" | ")[1] for row in browser.script(GET_ROWS)][:2]
     set_text(browser, "properties", f"# one more\nnever r0 = 1 and r0 = 2\n{properties.replace(first_property, first_property.replace('9', '8'))}")
     eventually(browser, "an edited property loses its mark, and the others keep theirs", COUNT_LIT_ROWS, count - 1)
@@ -107,11 +107,11 @@ return editor.getLine(editor.getCursor('from').line).trim()"""), second_property
 def check_counterexample(browser):
     """Checks that the counterexample to `never lamp lit on` can be added to the tests, and that it opens as a session before the step that turns the
     lamp on."""
-    tests_before = text_of(browser, "tests")
+    tests_before = text_of_tab(browser, "tests")
     button = "#proof-list li:nth-of-type(2) .bar button"
     browser.click(f"{button}:nth-of-type(2)")
     eventually(browser, "the test of the counterexample is added to Tests", GET_PROPERTIES_STATUS, "It is at the end of Tests, where Run tests runs it.")
-    verdict("the added test is the one that is shown", text_of(browser, "tests"),
+    verdict("the added test is the one that is shown", text_of_tab(browser, "tests"),
             f"{tests_before}{browser.script('return document.querySelector(`#proof-list li:nth-of-type(2) pre`).textContent')}\n")
     browser.click(button)
     eventually(browser, "the counterexample opens as a session", GET_NAME, "never lamp lit on")
@@ -150,7 +150,7 @@ def check_all_verdicts(browser):
     verdict("the number of marked rows", browser.script(COUNT_LIT_ROWS), 2 + MISTAKE_COUNT)
     check_counterexample(browser)
     browser.click("#sessions-button")
-    browser.until("return document.getElementById('sessions').open", True)
+    browser.wait_until("return document.getElementById('sessions').open", True)
     browser.click("#kept button[aria-label='open empty bench']")
     eventually(browser, "the old session still has its verdicts", COUNT_LIT_ROWS, 2 + MISTAKE_COUNT)
     prove_to_end(browser, "the proof with at most 20 states ends", 20)
@@ -183,7 +183,7 @@ def check_cancelling(browser):
     start_proof(browser, 999999999)
     eventually(browser, "the proof runs", GET_PROGRESS, re.compile("more than .* states so far"), MAX_SECONDS)
     start = time.monotonic()
-    browser.hold("#prove", 300)
+    browser.hold_mouse("#prove", 300)
     eventually(browser, "the proof stops", GET_BUTTON_LABEL, "Prove", 10)
     verdict("the proof stops at once", time.monotonic() - start < 8, True)
     verdict("the status reports that the proof was cancelled", browser.script(GET_PROPERTIES_STATUS), "It was cancelled before anything was proved.")
@@ -192,7 +192,7 @@ def check_cancelling(browser):
     press_chord(browser, CONTROL, SHIFT, ENTER)
     eventually(browser, "Ctrl+Shift+Enter starts the proof", GET_BUTTON_LABEL, "Cancel")
     browser.script("document.getElementById('prove').focus()")
-    browser.keys([ENTER])
+    browser.type_keys([ENTER])
     eventually(browser, "Enter on the button cancels the proof", GET_BUTTON_LABEL, "Prove", 10)
     choose_example(browser, "three lamps")
     show_text(browser, "properties")

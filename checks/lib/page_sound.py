@@ -4,7 +4,7 @@ other than real time, and without Web Audio."""
 import re
 import time
 
-from page_in_browser import SET_SPEED, choose_example, status_of, until_ready
+from page_basics import SET_SPEED, choose_example, status_of, wait_until_ready
 from verdicts import eventually, verdict
 
 BOARD = '# buzzer rom0.0: the buzzer\n[[rom]]\nchip = 0\nport = "0000"\n'
@@ -60,7 +60,7 @@ def is_first_block_early(browser, block):
         browser.click("#sound-button")
         browser.script("window.played = []")
         browser.click("#sound-button")
-        browser.until(COUNT_PLAYED, re.compile("^[1-9]"))
+        browser.wait_until(COUNT_PLAYED, re.compile("^[1-9]"))
         block = browser.script("return window.played[0]")
     return block["when"] - block["now"] > MIN_LEAD_SECONDS
 
@@ -71,7 +71,7 @@ def check_tone(browser):
     status_of(browser, "#board-editor", BOARD)
     status_of(browser, "#program-editor", TONE_PROGRAM)
     eventually(browser, "a board with a buzzer has a sound button", "return document.getElementById('sound').hidden", False)
-    verdict("the sound button has a name, and is not pressed", [browser.text("#sound-button"), browser.script(IS_SOUND_PRESSED)], ["Sound of the buzzer", "false"])
+    verdict("the sound button has a name, and is not pressed", [browser.text_of("#sound-button"), browser.script(IS_SOUND_PRESSED)], ["Sound of the buzzer", "false"])
     browser.script(RECORD_SOUND)
     browser.click("#sound-button")
     eventually(browser, "several blocks are played after a press of the button", COUNT_PLAYED, re.compile("^[5-9]$|^..$"))
@@ -109,8 +109,8 @@ def check_sound_at_speeds(browser):
 
 
 def check(browser, page, _folder, _mcs4):
-    browser.go(page.as_uri() + "#example=empty%20bench")
-    until_ready(browser)
+    browser.open(page.as_uri() + "#example=empty%20bench")
+    wait_until_ready(browser)
     verdict("a board without a buzzer has no sound button", browser.script("return document.getElementById('sound').hidden"), True)
     check_tone(browser)
     check_sound_at_speeds(browser)

@@ -5,8 +5,8 @@ without tests, a run that is cancelled, and saving the tests with the session an
 import re
 import time
 
-from page_in_browser import (GET_STATUS, GET_TEXT_OF_EDITOR, PUT_INTO_EDITOR, choose_example, send_lines, choose_from_file_menu, reopen_page, show_text,
-                             until_ready)
+from page_basics import (GET_STATUS, GET_TEXT_OF_EDITOR, PUT_INTO_EDITOR, choose_example, send_lines, choose_from_file_menu, reopen_page, show_text,
+                         wait_until_ready)
 from page_texts import GET_NAME, wait_for_download, rename_session
 from verdicts import eventually, verdict
 
@@ -37,7 +37,7 @@ def check_passing_tests(browser):
     verdict("the results of both tests", browser.script(GET_RESULTS), ["ok the light goes", "ok each lamp is"])
     verdict("the tab reports that the tests passed", browser.script(GET_MARK), "passed")
     verdict("the program is paused", browser.script(GET_STATUS), re.compile("^Paused"))
-    verdict("the page reports the coverage", browser.text("#coverage-status"),
+    verdict("the page reports the coverage", browser.text_of("#coverage-status"),
             "20 of 20 instructions were run (100.0 %), 6 of 6 branch directions (100.0 %). Counts are in the margin.")
     browser.click("#profile summary")
     verdict("the cycles below each label", browser.script(GET_LABELS),
@@ -59,7 +59,7 @@ def check_failing_test(browser):
     browser.click("#test-list .wrong button")
     verdict("a click on the failure selects its line", browser.script(GET_SELECTED), "  expect cycles 538")
     browser.click("#test-list details summary")
-    trace_lines = browser.text("#test-list pre").split("\n")
+    trace_lines = browser.text_of("#test-list pre").split("\n")
     verdict("the first and the last line of the failure's trace", (trace_lines[0], trace_lines[-1]), ("lamps .*.", "     536  007 50 14 JMS wait         comes next"))
     browser.click("#test-list .bar button")
     eventually(browser, "the failure opens as a session", GET_NAME, "each lamp is lit for 538 cycles, line 14")
@@ -101,7 +101,7 @@ def insert_sample(browser):
     """Inserts the board's sample test into an empty editor."""
     browser.script(PUT_INTO_EDITOR, EDITOR, "")
     browser.click("#first-test")
-    browser.until(f"{GET_TEXT_OF_EDITOR.replace('arguments[0]', repr(EDITOR))}.includes('expect')", True)
+    browser.wait_until(f"{GET_TEXT_OF_EDITOR.replace('arguments[0]', repr(EDITOR))}.includes('expect')", True)
 
 
 GET_EXAMPLES = """return [...document.querySelectorAll("#examples button[aria-label^='new session: ']")]
@@ -128,7 +128,7 @@ def check_cancelling(browser):
     """Checks that a test that would take very long can be cancelled."""
     browser.script(PUT_INTO_EDITOR, EDITOR, "test for ever\n  until r15 9 within 10000 s\n")
     browser.click(f"{EDITOR} .send")
-    browser.until("return isShown(document.getElementById('work'))", True)
+    browser.wait_until("return isShown(document.getElementById('work'))", True)
     browser.click("#cancel")
     eventually(browser, "a test that does not end can be cancelled", GET_TESTS_STATUS, "It was cancelled; the results shown are from the previous run.")
 
@@ -138,7 +138,7 @@ def check_saved_tests(browser, folder):
     browser.script(PUT_INTO_EDITOR, EDITOR, "test mine\n  run 5")
     time.sleep(1)
     browser.reload()
-    until_ready(browser)
+    wait_until_ready(browser)
     show_text(browser, "tests")
     eventually(browser, "the tests are unchanged after a reload", GET_TEXT_OF_EDITOR.replace("arguments[0]", f"'{EDITOR}'"), "test mine\n  run 5")
     rename_session(browser, "with tests")

@@ -7,8 +7,8 @@ import subprocess
 import time
 import zlib
 
-from page_in_browser import (ESCAPE, GET_ALL_NOTICES, GET_NOTICE, GET_STATUS, choose_example, send_lines, choose_from_file_menu, reopen_page, show_text,
-                             status_of, pause_running_time, until_ready)
+from page_basics import (ESCAPE, GET_ALL_NOTICES, GET_NOTICE, GET_STATUS, choose_example, send_lines, choose_from_file_menu, reopen_page, show_text,
+                         status_of, pause_running_time, wait_until_ready)
 from verdicts import eventually, verdict
 
 TOP = pathlib.Path(__file__).resolve().parent.parent.parent
@@ -93,7 +93,7 @@ def check_rejected_files(browser, folder, project_bytes):
     plain_file.write_text("hello")
     browser.type_into("#file", str(plain_file))
     eventually(browser, "a file with an error in each line causes a question", GET_QUESTION, "Replace the source by plain?")
-    browser.keys([ESCAPE])
+    browser.type_keys([ESCAPE])
     eventually(browser, "Escape closes the question", GET_QUESTION, "")
     verdict("the texts are unchanged", browser.script(GET_TEXTS), texts_before)
 
@@ -109,7 +109,7 @@ def check_undoing_replacement(browser):
     browser.click("#ask .bar button:last-child")
     verdict("nothing changes if the user declines", browser.script(GET_TEXTS), texts_before)
     browser.click("#from-rom")
-    browser.until(GET_QUESTION, re.compile("."))
+    browser.wait_until(GET_QUESTION, re.compile("."))
     browser.click("#ask .bar button:first-child")
     eventually(browser, "the source is disassembled from ROM", GET_PROGRAM_TEXT, rom_source)
     browser.click(UNDO_BUTTON)
@@ -117,22 +117,22 @@ def check_undoing_replacement(browser):
     browser.click(UNDO_BUTTON)
     eventually(browser, "Undo can be undone", GET_PROGRAM_TEXT, rom_source)
     browser.click(UNDO_BUTTON)
-    browser.until(GET_PROGRAM_TEXT, user_source)
+    browser.wait_until(GET_PROGRAM_TEXT, user_source)
     browser.script("document.querySelector('#program-editor .cm-editor').lineEditor.undo()")
     verdict("Ctrl+Z after Undo undoes the edit before the replacement", browser.script(GET_PROGRAM_TEXT) in (user_source, rom_source), False)
     browser.script("document.querySelector('#program-editor .cm-editor').lineEditor.undoOrRedo('redo')")
-    browser.until(GET_PROGRAM_TEXT, user_source)
+    browser.wait_until(GET_PROGRAM_TEXT, user_source)
     browser.click("#notice .dismiss")
     time.sleep(1)
     browser.reload()
-    until_ready(browser)
+    wait_until_ready(browser)
     verdict("the source is unchanged after a reload", browser.script(GET_PROGRAM_TEXT), user_source)
 
 
 def count_saved_sessions(browser):
     """Returns the number of sessions in the dialog, and leaves the dialog open."""
     browser.click("#sessions-button")
-    browser.until("return document.getElementById('sessions').open", True)
+    browser.wait_until("return document.getElementById('sessions').open", True)
     return browser.script(COUNT_SAVED)
 
 
@@ -185,10 +185,10 @@ def check_notices(browser, folder):
     choose_example(browser, "calculator")
     pause_running_time(browser)
     browser.type_into("#file", str(folder / "cut.mcsp"))
-    browser.until(GET_NOTICE, re.compile("cut off"))
+    browser.wait_until(GET_NOTICE, re.compile("cut off"))
     status_of(browser, "#program-editor", "\tNOP\n")
     browser.click("#from-rom")
-    browser.until(GET_QUESTION, re.compile("."))
+    browser.wait_until(GET_QUESTION, re.compile("."))
     browser.click("#ask .bar button:first-child")
     eventually(browser, "a notice of another kind is added", GET_NOTICE, re.compile("disassembled from ROM.*cut off"))
     browser.type_into("#file", str(folder / "changed.mcsp"))
@@ -198,7 +198,7 @@ def check_notices(browser, folder):
     eventually(browser, "all notices are dismissed", GET_NOTICE, "")
     send_lines(browser, "reset\nbreak 0x024")
     browser.click("#run")
-    browser.until(GET_STATUS, re.compile("at a breakpoint"))
+    browser.wait_until(GET_STATUS, re.compile("at a breakpoint"))
     browser.click("#reset")
     eventually(browser, "the status after a reset", GET_STATUS, "The board was reset; the program counter is at 000.")
     check_many_notices(browser, folder)
@@ -212,7 +212,7 @@ def check_many_notices(browser, folder):
         text = folder / f"{number}.asm"
         text.write_text(f" LDM {number}\n")
         browser.type_into("#file", str(text))
-        browser.until(GET_PROGRAM_TEXT, f" LDM {number}\n")
+        browser.wait_until(GET_PROGRAM_TEXT, f" LDM {number}\n")
     eventually(browser, "the newest three notices are shown", GET_NOTICE, " ".join(reversed(notices[1:])))
     eventually(browser, "the notices disappear automatically", GET_NOTICE, "", 30)
     verdict("the list has all notices", browser.script(GET_ALL_NOTICES)[:4], notices[::-1])
@@ -224,10 +224,10 @@ def check_many_notices(browser, folder):
 
 def open_link(browser, page, link):
     """Opens the page at an address that contains a link."""
-    browser.go("about:blank")
-    browser.go(f"{page.as_uri()}#{link}")
+    browser.open("about:blank")
+    browser.open(f"{page.as_uri()}#{link}")
     # The page does not become ready until the user answers its question.
-    browser.until("return Boolean(document.body.dataset.ready) || document.getElementById('ask').open", True, 90)
+    browser.wait_until("return Boolean(document.body.dataset.ready) || document.getElementById('ask').open", True, 90)
 
 
 def check_link(browser, page):
@@ -250,7 +250,7 @@ def check_link(browser, page):
     stored_count = count_saved_sessions(browser)
     open_link(browser, page, link)
     eventually(browser, "the link causes a question with the name", GET_QUESTION, 'Open "my light" from a link?')
-    verdict("the question describes the contents of the link", browser.text("#ask"), re.compile("Three lamps.*text has 1[0-9] lines, the source 3 lines.*1 ROM, 1 RAM chip, 3 lamps"))
+    verdict("the question describes the contents of the link", browser.text_of("#ask"), re.compile("Three lamps.*text has 1[0-9] lines, the source 3 lines.*1 ROM, 1 RAM chip, 3 lamps"))
     browser.click("#ask .bar button:last-child")
     eventually(browser, "the link is not opened if the user declines", "return location.hash", re.compile("^#(session|example)="))
     verdict("the number of saved sessions is unchanged", count_saved_sessions(browser), stored_count)
@@ -258,7 +258,7 @@ def check_link(browser, page):
     eventually(browser, "the same link causes the question again", GET_QUESTION, re.compile("my light"))
     browser.click("#ask .bar button:first-child")
     eventually(browser, "the link opens as a session", GET_NAME, "my light")
-    until_ready(browser)
+    wait_until_ready(browser)
     verdict("the session has the texts of the link", browser.script(GET_TEXTS), [BOARD, PROGRAM])
     verdict("the session is saved", count_saved_sessions(browser), stored_count + 1)
     browser.click("#close-sessions")
@@ -295,13 +295,13 @@ def check_foreign_links(browser, page):
     board = f"# title: {'long words ' * 20}\n# lamp 0: {' '.join(names[:400])}\n# grid 0: {' '.join(f'-{number}' for number in range(600))}\n"
     open_link(browser, page, make_link("\u202etxe\u2066\t" + "name " * 900, board, ""))
     eventually(browser, "the name in the question is shortened and has no control characters", GET_QUESTION, f'Open "txe {"name " * 10}name…" from a link?')
-    verdict("the title in the question is shortened", browser.text("#ask"), re.compile("link\\?(long words ){5}long…The board's text has 3 lines"))
+    verdict("the title in the question is shortened", browser.text_of("#ask"), re.compile("link\\?(long words ){5}long…The board's text has 3 lines"))
     browser.click("#ask .bar button:first-child")
     eventually(browser, "the link opens as a session", GET_NAME, re.compile("^txe name"))
     eventually(browser, "only the first errors of the front panel are listed", "return [...document.querySelectorAll('#face-faults li')].slice(20)"
                ".map((each) => each.textContent).join()", re.compile("^And [0-9,]+ more\\.$"))
-    browser.go("about:blank")
-    browser.go(f"{page.as_uri()}#example=%E2%80%AEhacked%2C%20go%20to%20evil.example%20{'x' * 100}")
+    browser.open("about:blank")
+    browser.open(f"{page.as_uri()}#example=%E2%80%AEhacked%2C%20go%20to%20evil.example%20{'x' * 100}")
     eventually(browser, "the name of an unknown example is shortened and has no control characters", GET_NOTICE, re.compile('^The address names an example, "hacked, go to evil.example x{32}…", that'))
 
 
@@ -363,10 +363,10 @@ def check_opened_and_exported_files(browser, folder, mcs4):
     eventually(browser, "the editors have the texts of the files", GET_TEXTS, [(example / "board.toml").read_text(), (example / "three_lamps.asm").read_text()])
     browser.click("#board-tab")
     browser.click("#board-editor .send")
-    browser.until("return document.querySelector('#board-editor .status-text').textContent", "Board applied.")
+    browser.wait_until("return document.querySelector('#board-editor .status-text').textContent", "Board applied.")
     browser.click("#program-tab")
     browser.click("#assemble-only")
-    browser.until("return document.querySelector('#program-editor .status-text').textContent", re.compile("ssembled"))
+    browser.wait_until("return document.querySelector('#program-editor .status-text').textContent", re.compile("ssembled"))
     rename_session(browser, "my light")
     verdict("the exported source", export_file(browser, folder, ".asm"), (example / "three_lamps.asm").read_bytes())
     verdict("the exported board", export_file(browser, folder, ".toml"), (example / "board.toml").read_bytes())

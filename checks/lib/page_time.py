@@ -6,7 +6,7 @@ import pathlib
 import re
 import subprocess
 
-from page_in_browser import GET_DIGITS, GET_RATE, GET_STATUS, SET_SPEED, STEPPED, choose_example, key, send_lines, pause_running_time, until_ready
+from page_basics import GET_DIGITS, GET_RATE, GET_STATUS, SET_SPEED, STEPPED, choose_example, key, send_lines, pause_running_time, wait_until_ready
 from verdicts import eventually, verdict
 
 TOP = pathlib.Path(__file__).resolve().parent.parent.parent
@@ -90,10 +90,10 @@ def pause_time(browser):
 def open_paused_example(browser, name):
     """Opens a new session of an example, paused after a reset."""
     choose_example(browser, name)
-    browser.until("return document.getElementById('run').textContent", "Pause", 3)
+    browser.wait_until("return document.getElementById('run').textContent", "Pause", 3)
     pause_time(browser)
     send_lines(browser, "reset")
-    browser.until(GET_CYCLES_SINCE_RESET, "0 cycles, 0.000 ms")
+    browser.wait_until(GET_CYCLES_SINCE_RESET, "0 cycles, 0.000 ms")
 
 
 def query_state(browser):
@@ -125,14 +125,14 @@ def check_step_over(browser, program, name, example):
 def step_into_and_out(browser):
     """Steps into a subroutine with F11, and out of it with Shift+F11."""
     browser.script(PRESS_KEY, "F11", False)
-    browser.until(GET_STATUS, STEPPED)
+    browser.wait_until(GET_STATUS, STEPPED)
     browser.script(PRESS_KEY, "F11", True)
 
 
 def check_run_to_row(browser):
     """Checks that Ctrl+click on a row of the disassembly runs to that row and sets no breakpoint."""
     browser.click("#back-stop")
-    browser.until(GET_STATUS, re.compile("^Back at"))
+    browser.wait_until(GET_STATUS, re.compile("^Back at"))
     address = browser.script("""
 const next = document.querySelector("#lines-of-program .next");
 const row = next.nextElementSibling;
@@ -205,7 +205,7 @@ def check_stopwatch(browser):
     for _ in range(2):
         browser.script("document.getElementById('status').firstChild.data = ''")
         browser.click("#until-change")
-        browser.until(GET_STATUS, re.compile("after lamps changed, after"))
+        browser.wait_until(GET_STATUS, re.compile("after lamps changed, after"))
         browser.click("#mark")
     verdict("the cycles between two changes of the lamps", browser.script(GET_MARKED), re.compile(r"Between the marks 926 cycles, 10\.001 ms$"))
     lamps = send_lines(browser, "lamps")
@@ -213,7 +213,7 @@ def check_stopwatch(browser):
     eventually(browser, "going back to the change of the lamps", GET_STATUS, re.compile("^Back at ..., 1 cycle, 0.011 ms earlier: this instruction changes lamps"))
     verdict("the lamps have not changed yet", send_lines(browser, "lamps") != lamps, True)
     browser.click("#step")
-    browser.until(GET_STATUS, STEPPED)
+    browser.wait_until(GET_STATUS, STEPPED)
     verdict("the next step changes the lamps", send_lines(browser, "lamps"), lamps)
     browser.script(CHANGE_FIELD, "#change-place", "chain2.0")
     browser.click("#until-change")
@@ -230,23 +230,23 @@ def check_going_back(browser):
     browser.click("#run")
     for legend in "12":
         browser.touch_together([key(legend)], 60)
-    browser.until(GET_DIGITS, "12")
+    browser.wait_until(GET_DIGITS, "12")
     pause_time(browser)
     state_before = query_state(browser)
     browser.script(READ_SAVED_FILE)
-    file = browser.until(GET_SAVED_FILE, re.compile("."))
+    file = browser.wait_until(GET_SAVED_FILE, re.compile("."))
     browser.click("#back-stop")
     eventually(browser, "going back to the stop before the run", GET_STATUS, re.compile("^Back at the stop at 000, [0-9,]+ cycles"))
     verdict("the display at that stop", browser.script(GET_DIGITS), "0")
     browser.click("#forward")
     eventually(browser, "going forward to the end of the run", GET_STATUS, re.compile("^Forward again to ..., [0-9,]+ cycles"))
     browser.script(READ_SAVED_FILE)
-    verdict("the saved file is the same as before", browser.until(GET_SAVED_FILE, re.compile(".")) == file, True)
+    verdict("the saved file is the same as before", browser.wait_until(GET_SAVED_FILE, re.compile(".")) == file, True)
     verdict("the answers are the same as before", query_state(browser), state_before)
     for _ in range(3):
         browser.script("document.getElementById('status').firstChild.data = ''")
         browser.click("#back-instruction")
-        browser.until(GET_STATUS, re.compile("^Back at ..., [12] cycles?, .* earlier: this instruction has not run yet.$"))
+        browser.wait_until(GET_STATUS, re.compile("^Back at ..., [12] cycles?, .* earlier: this instruction has not run yet.$"))
     verdict("the answers differ three instructions earlier", query_state(browser) != state_before, True)
     verdict("the button Forward is enabled", browser.script("return document.getElementById('forward').disabled"), False)
     for _ in range(3):
@@ -254,11 +254,11 @@ def check_going_back(browser):
     eventually(browser, "three steps forward reach the end", "return document.getElementById('forward').disabled", True)
     verdict("the answers at the end are the same as before", query_state(browser), state_before)
     browser.click("#back-stop")
-    browser.until("return document.getElementById('forward').disabled", False)
+    browser.wait_until("return document.getElementById('forward').disabled", False)
     send_lines(browser, "poke r5 9")
     eventually(browser, "a new command removes the way forward", "return document.getElementById('forward').disabled", True)
     browser.reload()
-    until_ready(browser)
+    wait_until_ready(browser)
     verdict("the saved session has the new command", re.search("r [0-9A-F]{5}9", send_lines(browser, "regs")) is not None, True)
     browser.click("#back-stop")
     eventually(browser, "going back after a reload leads to the stop before it", GET_STATUS, re.compile("^Back at the stop at 000"))
@@ -273,14 +273,14 @@ def check_unreachable_goal(browser):
     for action, stop in {"F8": lambda: browser.script(PRESS_KEY, "F8", False), "Stop": lambda: browser.click("#run")}.items():
         browser.click("#out")
         eventually(browser, f"Out runs towards a return that never happens, before {action}", GET_STATUS, "Running to the return from the subroutine.")
-        browser.until(GET_RATE, re.compile("^[0-9,]+ cycles"))
+        browser.wait_until(GET_RATE, re.compile("^[0-9,]+ cycles"))
         stop()
         eventually(browser, f"{action} ends the run to an unreachable goal", GET_STATUS,
                    re.compile("^Paused at 002, after [0-9,]+ cycles, .*; the return from the subroutine was not reached.$"))
     browser.click("#out")
-    browser.until(GET_STATUS, re.compile("^Running to"))
+    browser.wait_until(GET_STATUS, re.compile("^Running to"))
     browser.reload()
-    until_ready(browser)
+    wait_until_ready(browser)
     eventually(browser, "a reload ends the run, and the status reports that", GET_STATUS, re.compile("^Paused at 002: the return from the subroutine was not reached, because "
                                                                               "the page was reloaded"))
     browser.click("#back-stop")
@@ -313,11 +313,11 @@ def check_wait_for_key(browser):
     call, and over a jump to itself."""
     choose_example(browser, "empty bench")
     browser.click("#first-board")
-    browser.until("return document.querySelectorAll('#keys button').length", 2)
+    browser.wait_until("return document.querySelectorAll('#keys button').length", 2)
     send_lines(browser, f"{WAITING_PROGRAM}\nrun 8")
     browser.script(PRESS_KEY, "F10", False)
     eventually(browser, "Over runs while the subroutine waits for a key", GET_STATUS, "Running to the return from the subroutine.")
-    browser.until(GET_RATE, re.compile("^9[0-4],"))
+    browser.wait_until(GET_RATE, re.compile("^9[0-4],"))
     browser.touch_together([key("right")], 60)
     eventually(browser, "Over stops after the key is pressed", GET_STATUS, re.compile("^Returned to 00A, after [0-9,]+ cycles, "))
     verdict("no breakpoints and watches are left", query_state(browser)[-len("breaksbreaks -watcheswatches -"):], "breaksbreaks -watcheswatches -")
@@ -344,7 +344,7 @@ def check_slow_motion(browser):
     pause_time(browser)
     browser.script(SET_SPEED, "instruction")
     browser.click("#run")
-    browser.until(GET_CYCLES_SINCE_STOP, re.compile("^[3-9] cycles"))
+    browser.wait_until(GET_CYCLES_SINCE_STOP, re.compile("^[3-9] cycles"))
     pause_time(browser)
     verdict("at one instruction a second, a pause is between two instructions", re.search("owed 0", send_lines(browser, "regs")) is not None, True)
     browser.script(SET_SPEED, "real")
@@ -355,8 +355,8 @@ def check_slow_motion(browser):
 
 def check(browser, page, folder, mcs4):
     program = Program(folder, mcs4)
-    browser.go(page.as_uri())
-    until_ready(browser)
+    browser.open(page.as_uri())
+    wait_until_ready(browser)
     check_step_over(browser, program, "three lamps", "three_lamps")
     check_step_over(browser, program, "calculator", "calculator")
     check_run_to_row(browser)

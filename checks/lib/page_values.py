@@ -4,8 +4,8 @@ bench's answers."""
 
 import re
 
-from driven import matches
-from page_in_browser import GET_STATUS, GET_WHOLE_STATUS, choose_example, send_lines, reopen_page, status_of, pause_running_time
+from browser_driver import matches
+from page_basics import GET_STATUS, GET_WHOLE_STATUS, choose_example, send_lines, reopen_page, status_of, pause_running_time
 from page_names import GET_EXPLANATION, point_at
 from verdicts import eventually, verdict
 
@@ -50,7 +50,7 @@ def point_until_shown(browser, line, word, query, expected):
     """Rests the pointer on a word until its expected value is shown. Makes up to four attempts, because the page can move the word."""
     for _ in range(4):
         point_at(browser, line, word)
-        if matches(browser.until(query, expected, 5), expected):
+        if matches(browser.wait_until(query, expected, 5), expected):
             return
 
 
@@ -70,7 +70,7 @@ def run_to_add(browser):
     send_lines(browser, "reset")
     send_lines(browser, "poke ram.0.0x12 0")
     send_lines(browser, "run 11")
-    browser.until(GET_NEXT_LINE, re.compile("ADD R4"))
+    browser.wait_until(GET_NEXT_LINE, re.compile("ADD R4"))
 
 
 def check_values_at_pointer(browser):
@@ -94,11 +94,11 @@ def check_edited_value(browser):
     browser.script(SET_CARET, line_of("INC R5"), "R5")
     eventually(browser, "the value at the caret", GET_EXPLANATION, "R5 = 1. R5: the lower half of P2.")
     browser.script(f"document.querySelector('{VALUE_CELL}').focus()")
-    browser.keys([ENTER])
+    browser.type_keys([ENTER])
     browser.type_into("#cell-editor input", "g" + ENTER)
     eventually(browser, "a character that is not a digit is rejected with a message", "return document.querySelector('#cell-status').textContent", re.compile("^Type hexadec"))
     browser.type_into("#cell-editor input", ESCAPE)
-    browser.keys([ENTER])
+    browser.type_keys([ENTER])
     browser.type_into("#cell-editor input", "c" + ENTER)
     eventually(browser, "the edited value is shown", GET_EXPLANATION, "R5 = C. R5: the lower half of P2.")
     verdict("the value has the focus", browser.script(f"return document.activeElement.matches('{VALUE_CELL}')"), True)
@@ -110,7 +110,7 @@ def check_line_values(browser):
     A running program must show none."""
     for step in range(9):
         browser.click("#over")
-        browser.until(GET_NEXT_LINE, re.compile(EXPECTED_STOPS[step]))
+        browser.wait_until(GET_NEXT_LINE, re.compile(EXPECTED_STOPS[step]))
     eventually(browser, "the values that the executed lines have changed", GET_LINE_VALUES, ["acc 7", "R5 D", "acc 0", "acc 0"])
     browser.click("#run")
     eventually(browser, "no values of lines are shown while the program is running", GET_LINE_VALUES, [])
@@ -150,7 +150,7 @@ def check_last_change(browser):
     eventually(browser, "the tooltip disappears when the focus moves", GET_CHANGE_TIP, "")
     browser.script(MOVE_FOCUS, "#value-R5")
     instruction = re.compile(r"^R5: from . to . by ([0-9A-F]{3}) \(.*line \d+\), (.*) ago\.$")
-    tip = browser.until(GET_CHANGE_TIP, instruction)
+    tip = browser.wait_until(GET_CHANGE_TIP, instruction)
     verdict("the tooltip reports the instruction that changed the register last", tip, instruction)
     browser.script("document.getElementById('change-place').value = 'r5'")
     browser.click("#back-change")

@@ -8,7 +8,7 @@ import re
 import subprocess
 import time
 
-from page_in_browser import GET_NOTICE, GET_STATUS, choose_example, send_lines, choose_from_file_menu, show_text, pause_running_time, until_ready
+from page_basics import GET_NOTICE, GET_STATUS, choose_example, send_lines, choose_from_file_menu, show_text, pause_running_time, wait_until_ready
 from picture import write_picture
 from verdicts import eventually, verdict
 
@@ -44,7 +44,7 @@ def record(browser, cycles, where="after"):
     browser.script("document.getElementById('record-cycles').value = arguments[0]; document.getElementById('scope-status').firstChild.data = ''",
                    str(cycles))
     browser.click("#record")
-    return browser.until(GET_SCOPE_STATUS, re.compile("."), 60)
+    return browser.wait_until(GET_SCOPE_STATUS, re.compile("."), 60)
 
 
 def search_lines(browser, query):
@@ -83,20 +83,20 @@ def check_stopwatch(browser):
     choose_example(browser, "stopwatch")
     send_lines(browser, "test 0")
     verdict("the status after a recording", record(browser, 30000), "30,000 cycles recorded, 324.000 ms.")
-    verdict("the program is paused after the recording", browser.text("#run"), "Continue")
+    verdict("the program is paused after the recording", browser.text_of("#run"), "Continue")
     browser.script(CHOOSE_LINES, ["lamp15"])
     eventually(browser, "the selected line", GET_NAMES, "lamp15")
     browser.script(FOCUS_CANVAS)
-    browser.keys(["n", "n", "b", HOME, "n"], 1, 1)
+    browser.type_keys(["n", "n", "b", HOME, "n"], 1, 1)
     eventually(browser, "the distance of two edges", GET_CURSOR_DISTANCE, "A to B: 926 cycles, 10.001 ms")
-    browser.keys(["n", "n", "p"], 1, 1)
+    browser.type_keys(["n", "n", "p"], 1, 1)
     eventually(browser, "n and p move the cursor to the next and the previous edge", GET_CURSOR_DISTANCE, "A to B: 0 cycles, 0.000 ms")
-    browser.keys([*["n"] * 10], 1, 1)
+    browser.type_keys([*["n"] * 10], 1, 1)
     eventually(browser, "ten edges further", GET_CURSOR_DISTANCE, "A to B: 9,260 cycles, 100.008 ms")
-    browser.keys([LEFT], 1, 1)
+    browser.type_keys([LEFT], 1, 1)
     eventually(browser, "the Left arrow moves the cursor by one cycle", GET_CURSOR_DISTANCE, "A to B: 9,259 cycles, 99.997 ms")
     eventually(browser, "the value at the cursor, in words", GET_SPOKEN_VALUE, re.compile(r"^lamp15 is [01], cycle [0-9,]+, [0-9A-F]{3} E1 WMP; line \d+ of the source: WMP"))
-    browser.keys([RIGHT, "0", "+", "+", END], 1, 1)
+    browser.type_keys([RIGHT, "0", "+", "+", END], 1, 1)
     eventually(browser, "End moves the cursor to the end of the recording", "return document.getElementById('wave-canvas').getAttribute('aria-valuenow')", "30000")
     verdict("the canvas has several colours", browser.script(COUNT_COLOURS) > 3, True)
     browser.click("#wave-values summary")
@@ -107,7 +107,7 @@ def check_long_recording(browser):
     """Checks that in a recording of half a minute, the last hundredth of a second is as long as the first one."""
     verdict("the status after a long recording", record(browser, 3000000), "3,000,000 cycles recorded, 32.400 s.")
     browser.script(FOCUS_CANVAS)
-    browser.keys(["a", END, "p", "b", END, "p", "p"], 1, 1)
+    browser.type_keys(["a", END, "p", "b", END, "p", "p"], 1, 1)
     eventually(browser, "the distance of the last two edges", GET_CURSOR_DISTANCE, "A to B: 926 cycles, 10.001 ms")
     eventually(browser, "the cursor is at the end of the recording", GET_FIRST_CYCLE, re.compile("^A: cycle 2,999,[0-9]{3}, "))
 
@@ -115,7 +115,7 @@ def check_long_recording(browser):
 def check_click_moves_cursor(browser):
     """Checks that a click on the waves moves the cursor there."""
     browser.script(FOCUS_CANVAS)
-    browser.keys(["a", HOME, "b", HOME, "0"], 1, 1)
+    browser.type_keys(["a", HOME, "b", HOME, "0"], 1, 1)
     eventually(browser, "Home moves the cursor to the beginning", "return document.getElementById('wave-canvas').getAttribute('aria-valuenow')", "0")
     box = browser.script("const b = document.getElementById('wave-canvas').getBoundingClientRect(); return [b.width, b.height]")
     browser.scroll_to("#wave-canvas")
@@ -123,13 +123,13 @@ def check_click_moves_cursor(browser):
     # The driver clicks at the centre of the element. The names of the lines occupy `gutter` pixels on the left, and a click can snap to a near edge.
     gutter = 150 if box[0] >= 600 else 112
     expected_cycle = 30000 * (box[0] / 2 - gutter) / (box[0] - gutter)
-    cycle = int(browser.until("return document.getElementById('wave-canvas').getAttribute('aria-valuenow')", re.compile("[1-9]")))
+    cycle = int(browser.wait_until("return document.getElementById('wave-canvas').getAttribute('aria-valuenow')", re.compile("[1-9]")))
     verdict("a click moves the cursor", abs(cycle - expected_cycle) < 30000 * 12 / (box[0] - gutter), True)
     eventually(browser, "the instruction at the cursor", "return document.getElementById('wave-second').textContent",
                re.compile(rf"^B: cycle {cycle:,}, [0-9.]+ m?s: [0-9A-F]{{3}} .*line \d+ of the source: "))
-    address = browser.text("#wave-second").split("s: ")[1][:3]
+    address = browser.text_of("#wave-second").split("s: ")[1][:3]
     browser.script(FOCUS_CANVAS)
-    browser.keys([ENTER], 1, 1)
+    browser.type_keys([ENTER], 1, 1)
     eventually(browser, "Enter shows the instruction in the disassembly", "return document.getElementById('lines-of-program').textContent", re.compile(address))
 
 
@@ -173,12 +173,12 @@ def check_past_cycles(browser):
     verdict("the status after recording the cycles before the stop", record(browser, 8200, "before"), "8,200 cycles recorded, 88.560 ms.")
     browser.script(CHOOSE_LINES, ["key.7", "pc"])
     browser.script(FOCUS_CANVAS)
-    browser.keys(["a", HOME, "n"], 1, 1)
+    browser.type_keys(["a", HOME, "n"], 1, 1)
     eventually(browser, "the cursor is at the press of the key", GET_SPOKEN_VALUE, re.compile("^key.7 is 1, cycle [1-9]"))
-    browser.keys(["b", HOME, "n", "n"], 1, 1)
+    browser.type_keys(["b", HOME, "n", "n"], 1, 1)
     eventually(browser, "the cursor is at the release of the key", GET_SPOKEN_VALUE, re.compile("^key.7 is 0, cycle [1-9]"))
     verdict("the number of cycles for which the key is down", browser.script(GET_CURSOR_DISTANCE), "A to B: 5,000 cycles, 54.000 ms")
-    browser.keys([HOME], 1, 1)
+    browser.type_keys([HOME], 1, 1)
     browser.script("const f = document.getElementById('wave-search'); f.value = 'key scan = 7'; document.getElementById('find-after').click()")
     eventually(browser, "the search finds the key in the decoded key scan", GET_SPOKEN_VALUE, re.compile(r"^scan\.keys is row 0: 7, cycle [1-9]"))
 
@@ -207,11 +207,11 @@ def check_live_recording(browser, folder, mcs4):
     browser.click("#run")
     eventually(browser, "Stop works while recording", GET_STATUS, re.compile("^Paused"))
     browser.click("#record")
-    status = browser.until(GET_SCOPE_STATUS, re.compile(r"^Recorded ([0-9,]+) cycles, .*\. Stopped by you\.$"))
+    status = browser.wait_until(GET_SCOPE_STATUS, re.compile(r"^Recorded ([0-9,]+) cycles, .*\. Stopped by you\.$"))
     count = re.match(r"Recorded ([0-9,]+) ", status)[1].replace(",", "")
     browser.script(CHOOSE_LINES, ["key.7"])
     browser.script(FOCUS_CANVAS)
-    browser.keys(["a", HOME, "n", "b", HOME, "n", "n"], 1, 1)
+    browser.type_keys(["a", HOME, "n", "b", HOME, "n", "n"], 1, 1)
     eventually(browser, "the recorded key is down for at least 4,000 cycles", GET_CURSOR_DISTANCE, re.compile(r"^A to B: ([4-9],|[0-9]+[0-9],)[0-9]{3} cycles"))
     down, up = (int(browser.script(f"return document.getElementById('{id}').textContent").split("cycle ")[1].split(", ")[0].replace(",", ""))
                 for id in ("wave-first", "wave-second"))
@@ -265,16 +265,16 @@ def check_triggers(browser):
     browser.script("document.getElementById('stops-time').checked = true")
     verdict("the status before the trigger", record(browser, 3000, "live"), "Records as soon as the machine runs. Waiting for lamp15 rises.")
     browser.click("#run")
-    status = browser.until(GET_SCOPE_STATUS, re.compile(r"^Recorded [0-9,]+ cycles, .*\. The trigger was at cycle [0-9,]+\.$"))
+    status = browser.wait_until(GET_SCOPE_STATUS, re.compile(r"^Recorded [0-9,]+ cycles, .*\. The trigger was at cycle [0-9,]+\.$"))
     eventually(browser, "the trigger pauses the program", GET_STATUS, re.compile(r"^Paused at .*, because the waves after the trigger have been recorded\.$"))
     browser.script(CHOOSE_LINES, ["lamp15"])
     trigger_cycle = re.search(r"at cycle ([0-9,]+)", status)[1]
     eventually(browser, "the cursor is at the trigger", GET_FIRST_CYCLE, re.compile(f"^A: cycle {trigger_cycle}, "))
     eventually(browser, "the lamp is on at the trigger", GET_SPOKEN_VALUE, re.compile(f"^lamp15 is 1, cycle {trigger_cycle}, "))
     browser.script(FOCUS_CANVAS)
-    browser.keys(["b", END], 1, 1)
+    browser.type_keys(["b", END], 1, 1)
     eventually(browser, "the number of cycles after the trigger", GET_CURSOR_DISTANCE, "A to B: 1,000 cycles, 10.800 ms")
-    browser.keys(["a", LEFT], 1, 1)
+    browser.type_keys(["a", LEFT], 1, 1)
     eventually(browser, "the lamp is off before the trigger", GET_SPOKEN_VALUE, re.compile("^lamp15 is 0, "))
     for trigger, message in (("lamp77 rises", "The trigger is not understood: nothing here is called lamp77"),
                          ("r5 = 16", "The trigger is not understood: "), ("@nowhere", "The trigger is not understood: ")):
@@ -295,12 +295,12 @@ def check_value_search(browser):
     browser.script(CHOOSE_LINES, ["r3"])
     verdict("the status after recording a register", record(browser, 30000), re.compile("^30,000 cycles recorded"))
     browser.script(FOCUS_CANVAS)
-    browser.keys(["a", HOME, "/"], 1, 1)
+    browser.type_keys(["a", HOME, "/"], 1, 1)
     eventually(browser, "/ moves the focus to the search field", "return document.activeElement.id", "wave-search")
     browser.script(FILL_FIELDS, {"wave-search": ""})
     browser.type_into("#wave-search", "r3 = 9" + ENTER)
     eventually(browser, "the value is found", GET_SPOKEN_VALUE, re.compile("^r3 is 9, cycle [1-9]"))
-    first_position = browser.text("#wave-first")
+    first_position = browser.text_of("#wave-first")
     browser.type_into("#wave-search", ENTER)
     eventually(browser, "Enter finds the value again, at another cycle", f"return document.getElementById('wave-first').textContent === {first_position!r}", False)
     browser.click("#find-before")
@@ -313,7 +313,7 @@ def check_value_search(browser):
         eventually(browser, f"the message about the search for {query}", search_status_script, re.compile(f"^{re.escape(message)}"))
     browser.script(FILL_FIELDS, {"wave-search": "lamp0 = 1"})
     browser.script(FOCUS_CANVAS)
-    browser.keys([END], 1, 1)
+    browser.type_keys([END], 1, 1)
     browser.click("#find-after")
     eventually(browser, "a value that is not found is reported", search_status_script, "lamp0 = 1: not after cycle 30,000 of this recording.")
 
@@ -341,7 +341,7 @@ GET_MEASUREMENT = "const shown = document.getElementById('wave-measure'); return
 def act_at_row(browser, x, row, *actions, kind="mouse"):
     """Moves the pointer to a row, `x` pixels from the canvas's left edge, and performs actions there."""
     point = dict(zip(("x", "y"), browser.script(GET_ROW_CENTRE, x, row)))
-    browser.actions({"type": "pointer", "id": f"waves-{kind}", "parameters": {"pointerType": kind},
+    browser.perform_actions({"type": "pointer", "id": f"waves-{kind}", "parameters": {"pointerType": kind},
                      "actions": [{"type": "pointerMove", "duration": 0, **point}, *actions]})
 
 
@@ -353,7 +353,7 @@ def cycles_between(browser, first_x, second_x):
     edge."""
     browser.script(FOCUS_CANVAS)
     for key, x in (("a", first_x), ("b", second_x)):
-        browser.keys([key], 1, 1)
+        browser.type_keys([key], 1, 1)
         act_at_row(browser, x, -1, *CLICK)
     time.sleep(0.1)
     return int(re.search("A to B: ([0-9,]+)", browser.script(GET_CURSOR_DISTANCE))[1].replace(",", ""))
@@ -362,7 +362,7 @@ def cycles_between(browser, first_x, second_x):
 def turn_wheel(browser, x, row, delta_y, delta_x=0):
     """Turns the mouse wheel over a row, `x` pixels from the canvas's left edge."""
     x, y = browser.script(GET_ROW_CENTRE, x, row)
-    browser.actions({"type": "wheel", "id": "wheel", "actions": [
+    browser.perform_actions({"type": "wheel", "id": "wheel", "actions": [
         {"type": "scroll", "x": x, "y": y, "deltaX": delta_x, "deltaY": delta_y, "duration": 0, "origin": "viewport"}]})
 
 
@@ -394,25 +394,25 @@ def check_pointer_actions(browser):
     eventually(browser, "dragging the name moves a row", GET_NAMES, "lamp15 lamp13 lamp14")
     browser.click_secondary(*browser.script(GET_ROW_CENTRE, 40, 1))
     eventually(browser, "the secondary button opens the menu of a row", "return document.activeElement.textContent", "Rename")
-    browser.keys([ENTER])
-    browser.keys([*"tens", ENTER])
+    browser.type_keys([ENTER])
+    browser.type_keys([*"tens", ENTER])
     eventually(browser, "Rename changes the name of a row", GET_NAMES, "lamp15 tens lamp14")
     browser.press_chord("\ue00a", DOWN)
     eventually(browser, "Alt and the Down arrow move the row at the cursor", GET_NAMES, "lamp15 lamp14 tens")
     browser.click_secondary(*browser.script(GET_ROW_CENTRE, 40, 0))
-    browser.until("return document.activeElement.textContent", "Rename")
-    browser.keys([DOWN, ENTER])
-    browser.keys([*"digit", ENTER])
+    browser.wait_until("return document.activeElement.textContent", "Rename")
+    browser.type_keys([DOWN, ENTER])
+    browser.type_keys([*"digit", ENTER])
     eventually(browser, "a new group has its first line at the cursor", GET_SPOKEN_VALUE, re.compile("^lamp15 is "))
-    browser.keys(["\ue013"])
+    browser.type_keys(["\ue013"])
     eventually(browser, "the Up arrow moves to the heading of the group", GET_SPOKEN_VALUE, re.compile("^group digit, cycle "))
-    browser.keys([ENTER])
+    browser.type_keys([ENTER])
     eventually(browser, "Enter folds the group", GET_NAMES, "lamp14 tens")
-    browser.keys([ENTER])
+    browser.type_keys([ENTER])
     eventually(browser, "Enter unfolds the group", GET_NAMES, "lamp15 lamp14 tens")
     eventually(browser, "the saved arrangement of the rows", READ_STORED_ROWS, ["lamp15", "lamp14", "lamp13", "tens", "digit"])
     browser.reload()
-    until_ready(browser)
+    wait_until_ready(browser)
     record(browser, 5000)
     browser.script(CHOOSE_LINES, ["lamp13", "lamp14", "lamp15"])
     eventually(browser, "the arrangement of the rows after a reload", GET_NAMES, "lamp15 lamp14 tens")
@@ -439,9 +439,9 @@ def check_rejected_recordings(browser):
     browser.script("document.getElementById('record-cycles').value = '10000000'; document.getElementById('scope-status').firstChild.data = ''")
     browser.script("document.getElementById('record-where').value = 'after'")
     browser.click("#record")
-    browser.until("return document.getElementById('work').hidden", False)
+    browser.wait_until("return document.getElementById('work').hidden", False)
     browser.script("document.getElementById('cancel').click()")
-    verdict("a recording can be cancelled", browser.until(GET_SCOPE_STATUS, re.compile(".")), re.compile("cancelled, and nothing was recorded|10,000,000 cycles recorded"))
+    verdict("a recording can be cancelled", browser.wait_until(GET_SCOPE_STATUS, re.compile(".")), re.compile("cancelled, and nothing was recorded|10,000,000 cycles recorded"))
     choose_example(browser, "empty bench")
     pause_running_time(browser)
     verdict("another session shows no recording", browser.script("return document.getElementById('waves').hidden"), True)
@@ -450,8 +450,8 @@ def check_rejected_recordings(browser):
 
 
 def check(browser, page, folder, mcs4):
-    browser.go(page.as_uri())
-    until_ready(browser)
+    browser.open(page.as_uri())
+    wait_until_ready(browser)
     check_stopwatch(browser)
     check_click_moves_cursor(browser)
     check_long_recording(browser)
@@ -468,20 +468,20 @@ def check(browser, page, folder, mcs4):
 
 def take_picture(browser, page, path):
     """Takes a screenshot of the stopwatch with a hundredth of a second between the cursors, and writes it to a file."""
-    browser.command("Emulation.setDeviceMetricsOverride", width=1440, height=900, deviceScaleFactor=1, mobile=False)
-    browser.go(page.as_uri())
-    until_ready(browser)
+    browser.send_command("Emulation.setDeviceMetricsOverride", width=1440, height=900, deviceScaleFactor=1, mobile=False)
+    browser.open(page.as_uri())
+    wait_until_ready(browser)
     choose_example(browser, "stopwatch")
     send_lines(browser, "test 0")
     record(browser, 5000)
     browser.script(CHOOSE_LINES, ["lamp12", "lamp13", "lamp14", "lamp15", "label"])
     browser.script("document.getElementById('wave-choice').open = false")
     browser.script(FOCUS_CANVAS)
-    browser.keys(["0", "a", HOME, *[DOWN] * 3, "n", "n", "b", HOME, "n", "n", "n"], 1, 1)
-    browser.until(GET_CURSOR_DISTANCE, re.compile("926 cycles"))
+    browser.type_keys(["0", "a", HOME, *[DOWN] * 3, "n", "n", "b", HOME, "n", "n", "n"], 1, 1)
+    browser.wait_until(GET_CURSOR_DISTANCE, re.compile("926 cycles"))
     browser.script("document.activeElement.blur()")
     box = browser.script("const b = document.getElementById('scope').getBoundingClientRect(); return [b.x + scrollX, b.y + scrollY, b.width, b.height]")
     clip = dict(zip(("x", "y", "width", "height", "scale"), [*box, 1]))
-    screenshot = browser.command("Page.captureScreenshot", clip=clip, captureBeyondViewport=True)
+    screenshot = browser.send_command("Page.captureScreenshot", clip=clip, captureBeyondViewport=True)
     write_picture(base64.b64decode(screenshot["data"]), path)
     browser.restore_size()

@@ -3,7 +3,7 @@ page remembers the layout, and can reset it. The check also covers what a new us
 
 import re
 
-from page_in_browser import ENTER, ESCAPE, GET_STATUS, choose_example, reopen_page, show_text, pause_running_time, until_ready
+from page_basics import ENTER, ESCAPE, GET_STATUS, choose_example, reopen_page, show_text, pause_running_time, wait_until_ready
 from verdicts import eventually, verdict
 
 HOME, UP, RIGHT, LEFT, F1 = "\ue011", "\ue013", "\ue014", "\ue012", "\ue031"
@@ -28,7 +28,7 @@ def drag_splitter(browser, splitter, distance, kind):
     """Drags a splitter by a distance in pixels. `kind` is the kind of pointer: mouse or touch."""
     x, y = browser.script(GET_CENTRE, splitter)
     steps = [{"type": "pointerMove", "duration": 20, "x": x + distance[0] * quarter // 4, "y": y + distance[1] * quarter // 4} for quarter in range(1, 5)]
-    browser.actions({"type": "pointer", "id": f"drag-{kind}", "parameters": {"pointerType": kind}, "actions": [
+    browser.perform_actions({"type": "pointer", "id": f"drag-{kind}", "parameters": {"pointerType": kind}, "actions": [
         {"type": "pointerMove", "duration": 0, "x": x, "y": y}, {"type": "pointerDown", "button": 0}, *steps, {"type": "pointerUp", "button": 0}]})
 
 
@@ -44,14 +44,14 @@ def check_splitters(browser):
             verdict(f"{splitter}: dragging back restores the size", browser.script(MEASURE_PANEL, panel, direction), size_before)
         browser.script("document.getElementById(arguments[0]).focus()", splitter)
         enlarging_key = {"front": RIGHT, "side": LEFT, "dock": UP, "calls": "\ue015"}[panel]
-        browser.keys([enlarging_key, enlarging_key])
+        browser.type_keys([enlarging_key, enlarging_key])
         verdict(f"{splitter}: the arrow keys enlarge the panel", browser.script(MEASURE_PANEL, panel, direction), size_before + 40)
         verdict(f"{splitter}: its value is the size", browser.script("return document.activeElement.getAttribute('aria-valuenow')"), str(size_before + 40))
         browser.reload()
-        until_ready(browser)
+        wait_until_ready(browser)
         verdict(f"{splitter}: a reload keeps the size", browser.script(MEASURE_PANEL, panel, direction), size_before + 40)
         browser.script("document.getElementById(arguments[0]).focus()", splitter)
-        browser.keys([HOME])
+        browser.type_keys([HOME])
         verdict(f"{splitter}: Home restores the default size", browser.script(MEASURE_PANEL, panel, direction), size_before)
 
 
@@ -59,7 +59,7 @@ def click_in_panel_menu(browser, panel, selector):
     """Clicks a panel's checkbox in the panel menu, or its button for full size."""
     browser.click("#view-button")
     browser.script("document.querySelectorAll(`#view-menu li`)[arguments[0]].querySelector(arguments[1]).click()", PANELS.index(panel), selector)
-    browser.keys([ESCAPE])
+    browser.type_keys([ESCAPE])
 
 
 def check_panels(browser):
@@ -70,7 +70,7 @@ def check_panels(browser):
         verdict(f"{panel} is closed", browser.script(FIND_SHOWN, PANELS), [other_panel for other_panel in PANELS if other_panel != panel])
         if panel in ("front", "memory"):
             browser.reload()
-            until_ready(browser)
+            wait_until_ready(browser)
             verdict(f"{panel} is still closed after a reload", browser.script(FIND_SHOWN, [panel]), [])
         click_in_panel_menu(browser, panel, "input")
         verdict(f"{panel} is open again", browser.script(FIND_SHOWN, PANELS), PANELS)
@@ -95,7 +95,7 @@ def check_layout_reset(browser):
     verdict("a reset unfolds panels", browser.script("return document.querySelector('#memory .fold').getAttribute('aria-expanded')"), "true")
     verdict("a reset restores the sizes", browser.script(MEASURE_PANEL, "side", "vertical") <= width_before - 60, True)
     browser.reload()
-    until_ready(browser)
+    wait_until_ready(browser)
     verdict("the default layout after a reload", (browser.script(FIND_SHOWN, PANELS), browser.script(MEASURE_PANEL, "side", "vertical") <= width_before - 60), (PANELS, True))
 
 
@@ -211,12 +211,12 @@ def check_details(browser, set_size):
     show_text(browser, "wiring")
     eventually(browser, "the picture has the keys", "return document.querySelectorAll('#wiring-picture .of-keys').length", 1)
     browser.script("document.querySelector('#wiring-picture .of-keys').focus()")
-    browser.keys([ENTER])
+    browser.type_keys([ENTER])
     eventually(browser, "the number of fields of the selected keys", "return document.querySelectorAll('#chosen input').length", 20)
     verdict("the fields that are hidden behind the edge of their box", browser.script(FIND_HIDDEN_FIELDS), [])
     show_text(browser, "program")
     browser.click("#sessions-button")
-    browser.until("return document.getElementById('sessions').open", True)
+    browser.wait_until("return document.getElementById('sessions').open", True)
     verdict("the displays of the calculator and the counter have different colours", browser.script(GET_DIGIT_FILL, "calculator")
             == browser.script(GET_DIGIT_FILL, "counter"), False)
     browser.click("#close-sessions")
@@ -232,10 +232,10 @@ def check_details(browser, set_size):
     verdict("the message does not move the source", browser.script(GET_TOP_EDGE, "#program-editor .cm-scroller"), top_before)
     browser.click("#program-editor .cm-content")
     browser.script("document.querySelector('#program-editor .cm-editor').lineEditor.setCursor(arguments[0])", position_of_word(browser, "SRC"))
-    browser.keys([F1])
+    browser.type_keys([F1])
     eventually(browser, "F1 looks up the word at the caret", "return document.getElementById('help-search').value", "SRC")
     verdict("the help uses at most a third of the width", browser.script(GET_HELP_WIDTH) <= 0.34, True)
-    browser.keys([ESCAPE])
+    browser.type_keys([ESCAPE])
     check_watch_rows(browser)
     set_size(browser, 1920, 1080)
     choose_example(browser, "calculator")
@@ -311,8 +311,8 @@ def draw_board(browser):
     eventually(browser, "the number of keys on the front panel", "return document.querySelectorAll('#keys .key').length", 16)
     browser.script("document.activeElement.blur()")
     browser.press_chord(CONTROL, "k")
-    browser.until("return document.activeElement.getAttribute('role')", "combobox")
-    browser.keys([*"scan", ENTER], 5, 5)
+    browser.wait_until("return document.activeElement.getAttribute('role')", "combobox")
+    browser.type_keys([*"scan", ENTER], 5, 5)
     eventually(browser, "the source has the routine that scans the keys", GET_SOURCE, re.compile("keys_scan"))
     browser.click("#program-editor .send")
     eventually(browser, "the program is running", GET_STATUS, re.compile("^Running"))
@@ -325,7 +325,7 @@ def fix_bug(browser):
     browser.click("#over")
     eventually(browser, "the status after a step", GET_STATUS, re.compile("^At 009"))
     browser.click("#program-editor .cm-line:nth-child(24)")
-    browser.keys([END, BACKSPACE, "5"])
+    browser.type_keys([END, BACKSPACE, "5"])
     browser.click("#breakpoint-list [aria-label^='remove']")
     browser.script(RECORD_LAMPS)
     browser.click("#program-editor .send")
@@ -364,7 +364,7 @@ def check_first_tasks(browser):
     check_click_count(browser, "a bug", 6, fix_bug)
     check_click_count(browser, "a test", 3, run_test)
     check_click_count(browser, "a property", 3, search_property)
-    browser.until("return document.getElementById('work').hidden", True, 60)
+    browser.wait_until("return document.getElementById('work').hidden", True, 60)
     show_text(browser, "program")
 
 
@@ -388,9 +388,9 @@ def check_layout_shifts(browser, page, set_size):
     """Checks that nothing moves after it has been painted."""
     for width, height in ((1440, 900), (390, 844)):
         set_size(browser, width, height, width < 700)
-        browser.go("about:blank")
-        browser.go(f"{page.as_uri()}#example=calculator")
-        until_ready(browser)
+        browser.open("about:blank")
+        browser.open(f"{page.as_uri()}#example=calculator")
+        wait_until_ready(browser)
         eventually(browser, "the example is running", GET_STATUS, re.compile("^Running"))
         verdict(f"the elements that move after the first paint at {width}", browser.script(MEASURE_SHIFTS), [])
     browser.restore_size()
@@ -398,7 +398,7 @@ def check_layout_shifts(browser, page, set_size):
 
 def check_touch_targets(browser, set_size):
     """Checks that on a phone and on a tablet every visible control has at least 44 pixels, with the board and with the wiring."""
-    browser.command("Emulation.setTouchEmulationEnabled", enabled=True)
+    browser.send_command("Emulation.setTouchEmulationEnabled", enabled=True)
     for width, height in ((390, 844), (820, 1180)):
         set_size(browser, width, height, True)
         verdict(f"the controls below 44 pixels at {width}", browser.script(FIND_SMALL_CONTROLS, 44), [])
@@ -406,5 +406,5 @@ def check_touch_targets(browser, set_size):
         eventually(browser, f"the shelf is visible at {width}", "return isShown(document.getElementById('shelf'))", True)
         verdict(f"the controls of Wiring below 44 pixels at {width}", browser.script(FIND_SMALL_CONTROLS, 44), [])
         browser.script("document.getElementById('program-tab').click(); document.getElementById('region-board').click()")
-    browser.command("Emulation.setTouchEmulationEnabled", enabled=False)
+    browser.send_command("Emulation.setTouchEmulationEnabled", enabled=False)
     browser.restore_size()

@@ -17,7 +17,7 @@ def chunks_of(data):
 
 
 def paeth(left, above, corner):
-    """Returns the one of three neighbouring bytes that is closest to left + above - corner, as the Paeth filter of PNG defines it."""
+    """Returns the neighbouring byte (of the three) that is closest to left + above - corner, as the Paeth filter of PNG defines it."""
     estimate = left + above - corner
     return min((left, above, corner), key=lambda value: abs(estimate - value))
 

@@ -82,7 +82,7 @@ def fields_of(lines, index):
 
 
 @functools.cache
-def items_of_file(path):
+def declarations_of_file(path):
     """Returns the public declarations in a file, as pairs of a name and its public form."""
     lines = without_comments(path.read_text()).splitlines()
     items = []
@@ -106,7 +106,7 @@ def items_of_file(path):
 
 
 def reexported_names(text):
-    """Yields the first word of the path and the name of each item that a crate's root file re-exports by `pub use`."""
+    """Yields the first word of the path and the name of each item that a crate's root file re-exports with `pub use`."""
     for path, names in re.findall(r"^pub use ((?:\w+::)*)(\{[^}]*\}|\w+);", text, re.M):
         for name in re.findall(r"\w+", names):
             yield path.partition("::")[0], name
@@ -120,7 +120,7 @@ def calls_of(crate):
     reexports = set(reexported_names(text))
     names = {name for _, name in reexports}
     for path in sorted(source.rglob("*.rt")):
-        yield from (line for name, line in items_of_file(path) if path.stem in open_modules or name in names)
+        yield from (line for name, line in declarations_of_file(path) if path.stem in open_modules or name in names)
     yield from (f"use {name}" for first_word, name in reexports if not (source / f"{first_word}.rt").exists())
 
 

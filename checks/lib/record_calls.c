@@ -9,7 +9,7 @@
      rename F    before a lock, the file F replaces the locked file under its name
      remove      before a lock, the name of the locked file is removed
      cut K       before a read, the file is truncated to its first K bytes
-     other K     before a read, the byte of the file at offset K is changed
+     flip K      before a read, a bit of the byte at offset K of the file is inverted
 
    CALL_MAX_BYTES=M limits each read or write of a file to M bytes. With CALL_AGAIN=1, each call on a file first fails once with EINTR. These failures
    are not recorded. */
@@ -26,7 +26,7 @@
 #include <unistd.h>
 
 static char names[64][256]; /* the file name of each descriptor; empty if the program did not open it */
-static int calls;           /* the number of calls that were recorded */
+static int call_count;      /* the number of calls that were recorded */
 static int record_fd = -1;
 
 static ssize_t (*real_write)(int, const void *, size_t);
@@ -56,20 +56,20 @@ static void write_record(const char *line) {
 static const char *record_call(const char *form, ...) {
     char line[1024];
     va_list parts;
-    const char *number = getenv("CALL"), *what = getenv("CALL_DOES");
+    const char *number = getenv("CALL"), *change = getenv("CALL_DOES");
     va_start(parts, form);
     vsnprintf(line, sizeof line - 1, form, parts);
     va_end(parts);
     strcat(line, "\n");
     write_record(line);
-    calls++;
-    return number && what && atoi(number) == calls ? what : NULL;
+    call_count++;
+    return number && change && atoi(number) == call_count ? change : NULL;
 }
 
 /* Returns true and sets errno if the change is `fail`. */
-static int must_fail(const char *what) {
-    if (!what || strncmp(what, "fail ", 5) != 0) return 0;
-    errno = atoi(what + 5);
+static int must_fail(const char *change) {
+    if (!change || strncmp(change, "fail ", 5) != 0) return 0;
+    errno = atoi(change + 5);
     return 1;
 }
 
@@ -114,19 +114,19 @@ int unlink(const char *file) {
 }
 
 /* Replaces or removes the file of a descriptor under its name, if the change is `rename` or `remove`. */
-static void replace_file(int fd, const char *what) {
+static void replace_file(int fd, const char *change) {
     int (*real_unlink)(const char *) = dlsym(RTLD_NEXT, "unlink");
-    if (what && strncmp(what, "rename ", 7) == 0 && rename(what + 7, name_of(fd)) < 0) _exit(99);
-    if (what && strcmp(what, "remove") == 0 && real_unlink(name_of(fd)) < 0) _exit(99);
+    if (change && strncmp(change, "rename ", 7) == 0 && rename(change + 7, name_of(fd)) < 0) _exit(99);
+    if (change && strcmp(change, "remove") == 0 && real_unlink(name_of(fd)) < 0) _exit(99);
 }
 
 int flock(int fd, int how) {
     static int (*real)(int, int);
     if (!real) real = dlsym(RTLD_NEXT, "flock");
     if (must_interrupt(fd)) return -1;
-    const char *what = record_call("%s %s", how == (LOCK_EX | LOCK_NB) ? "lock" : "lock otherwise", name_of(fd));
-    replace_file(fd, what);
-    return must_fail(what) ? -1 : real(fd, how);
+    const char *change = record_call("%s %s", how == (LOCK_EX | LOCK_NB) ? "lock" : "lock otherwise", name_of(fd));
+    replace_file(fd, change);
+    return must_fail(change) ? -1 : real(fd, how);
 }
 
 int ftruncate(int fd, off_t size) {
@@ -150,26 +150,26 @@ int fdatasync(int fd) {
     return must_fail(record_call("sync data %s", name_of(fd))) ? -1 : real(fd);
 }
 
-/* Truncates the file of a descriptor, or changes one of its bytes, if the change is `cut` or `other`. */
-static void change_file(int fd, const char *what) {
+/* Truncates the file of a descriptor, or inverts a bit of it, if the change is `cut` or `flip`. */
+static void change_file(int fd, const char *change) {
     int (*real_ftruncate)(int, off_t) = dlsym(RTLD_NEXT, "ftruncate");
     ssize_t (*real_pread)(int, void *, size_t, off_t) = dlsym(RTLD_NEXT, "pread");
     ssize_t (*real_pwrite)(int, const void *, size_t, off_t) = dlsym(RTLD_NEXT, "pwrite");
     unsigned char byte;
-    if (what && strncmp(what, "cut ", 4) == 0 && real_ftruncate(fd, atol(what + 4)) < 0) _exit(99);
-    if (!what || strncmp(what, "other ", 6) != 0) return;
-    if (real_pread(fd, &byte, 1, atol(what + 6)) != 1) _exit(99);
+    if (change && strncmp(change, "cut ", 4) == 0 && real_ftruncate(fd, atol(change + 4)) < 0) _exit(99);
+    if (!change || strncmp(change, "flip ", 5) != 0) return;
+    if (real_pread(fd, &byte, 1, atol(change + 5)) != 1) _exit(99);
     byte ^= 1;
-    if (real_pwrite(fd, &byte, 1, atol(what + 6)) != 1) _exit(99);
+    if (real_pwrite(fd, &byte, 1, atol(change + 5)) != 1) _exit(99);
 }
 
 ssize_t pread(int fd, void *bytes, size_t length, off_t at) {
     static ssize_t (*real)(int, void *, size_t, off_t);
     if (!real) real = dlsym(RTLD_NEXT, "pread");
     if (must_interrupt(fd)) return -1;
-    const char *what = record_call("read %s %lld %zu", name_of(fd), (long long)at, length);
-    change_file(fd, what);
-    return must_fail(what) ? -1 : real(fd, bytes, limited_length(length), at);
+    const char *change = record_call("read %s %lld %zu", name_of(fd), (long long)at, length);
+    change_file(fd, change);
+    return must_fail(change) ? -1 : real(fd, bytes, limited_length(length), at);
 }
 
 ssize_t pwrite(int fd, const void *bytes, size_t length, off_t at) {
@@ -180,14 +180,14 @@ ssize_t pwrite(int fd, const void *bytes, size_t length, off_t at) {
     if (!real) real = dlsym(RTLD_NEXT, "pwrite");
     if (must_interrupt(fd)) return -1;
     for (i = 0; length <= 16 && i < length; i++) sprintf(text + 3 * i, " %02x", given[i]);
-    const char *what = record_call("write %s %lld %zu%s", name_of(fd), (long long)at, length, text);
-    if (must_fail(what)) return -1;
-    if (!what) return real(fd, bytes, limited_length(length), at);
-    k = (size_t)atol(strchr(what, ' '));
+    const char *change = record_call("write %s %lld %zu%s", name_of(fd), (long long)at, length, text);
+    if (must_fail(change)) return -1;
+    if (!change) return real(fd, bytes, limited_length(length), at);
+    k = (size_t)atol(strchr(change, ' '));
     if (k > length) k = length;
-    if (strncmp(what, "head ", 5) == 0 && real(fd, given, k, at) < 0) _exit(99);
-    if (strncmp(what, "tail ", 5) == 0 && real(fd, given + k, length - k, at + (off_t)k) < 0) _exit(99);
-    if (strncmp(what, "noise ", 6) == 0) {
+    if (strncmp(change, "head ", 5) == 0 && real(fd, given, k, at) < 0) _exit(99);
+    if (strncmp(change, "tail ", 5) == 0 && real(fd, given + k, length - k, at + (off_t)k) < 0) _exit(99);
+    if (strncmp(change, "noise ", 6) == 0) {
         unsigned char *noise = malloc(length + 1);
         for (i = 0; i < length; i++) noise[i] = i < k ? given[i] : (unsigned char)(given[i] ^ (0xA5 + i));
         if (real(fd, noise, length, at) < 0) _exit(99);

@@ -65,10 +65,10 @@ def program_with_errors(number):
     finds the errors of these lines."""
     rng = random.Random(number)
     lines = random_program(number)
-    rows = INVALID_LINES if rng.random() < 0.5 else INVALID_LINES[11:]
+    invalid_lines = INVALID_LINES if rng.random() < 0.5 else INVALID_LINES[11:]
     count = rng.choice([1, 2, 3, 5, 150])
     for _n in range(count):
-        line = rng.choice(rows)
+        line = rng.choice(invalid_lines)
         lines.insert(rng.randrange(len(lines) + 1), line if rng.random() < 0.9 else f"m{rng.randrange(4)}: {line}")
     return lines
 

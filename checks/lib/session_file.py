@@ -9,7 +9,7 @@ import dataclasses
 import json
 
 FORMAT_NAME = b"MCS4BEN1"
-SIZE = 163_856
+FILE_BYTES = 163_856
 SLOTS = (16, 81_936)
 LENGTH_BYTES = 4
 SNAPSHOT_AREA_BYTES = 16_384
@@ -19,7 +19,7 @@ MAX_CYCLES = 4_000_000
 
 
 def number(value, count):
-    """Returns a number as `count` bytes, the highest one first."""
+    """Returns a number as `count` bytes, with the most significant byte first."""
     return value.to_bytes(count, "big")
 
 
@@ -198,17 +198,17 @@ class State:
 
 @dataclasses.dataclass
 class Command:
-    """A command: its lines, and its record. The function `do` applies it to a state, and returns what the answer has after `ok N`. `cycles` is the
+    """A command: its lines, and its record. The function `apply` applies it to a state, and returns what the answer has after `ok N`. `cycles` is the
     number of cycles that it contributes to the cycles of a log."""
     text: str
     record: bytes
-    do: object
+    apply: object
     cycles: int = 0
 
 
 def wire(text, board):
     """Returns the command that replaces the board. `text` is the board's text."""
-    def do(state):
+    def apply(state):
         state.board = board
         state.chains = [bytearray(10 * chips) for _, _, chips in board.chains]
         state.keys = bytearray(board.key_count())
@@ -216,7 +216,7 @@ def wire(text, board):
         for chip in range(16):
             if chip not in board.roms:
                 state.rom[256 * chip:256 * chip + 256] = bytes(256)
-    return Command(f"wire\n{text}.\n", bytes([1]) + board.bytes(), do)
+    return Command(f"wire\n{text}.\n", bytes([1]) + board.bytes(), apply)
 
 
 def load(text, image):
@@ -227,11 +227,11 @@ def load(text, image):
         bitmap[address // 8] |= 1 << address % 8
     record = bytes([2]) + bitmap + bytes(image[address] for address in addresses)
 
-    def do(state):
+    def apply(state):
         for address in addresses:
             state.rom[address] = image[address]
         return f" bytes {len(image)}"
-    return Command(f"asm\n{text}.\n", record, do)
+    return Command(f"asm\n{text}.\n", record, apply)
 
 
 def run(cycles):
@@ -246,44 +246,44 @@ def step():
 
 def poke_register(register, value):
     """Returns the command that sets a register."""
-    def do(state):
+    def apply(state):
         state.registers[register] = value
-    return Command(f"poke r{register} {value}\n", bytes([7, 3, register, value]), do)
+    return Command(f"poke r{register} {value}\n", bytes([7, 3, register, value]), apply)
 
 
 def press(row, column):
     """Returns the command that presses a key."""
-    def do(state):
+    def apply(state):
         state.keys[row * len(state.board.keys[3]) + column] = 1
-    return Command(f"press {row} {column}\n", bytes([3, row, column]), do)
+    return Command(f"press {row} {column}\n", bytes([3, row, column]), apply)
 
 
 def test_level(level):
     """Returns the command that sets the level of TEST."""
-    def do(state):
+    def apply(state):
         state.test = level
-    return Command(f"test {level}\n", bytes([8, level]), do)
+    return Command(f"test {level}\n", bytes([8, level]), apply)
 
 
 def break_at(address):
     """Returns the command that sets a breakpoint."""
-    def do(state):
+    def apply(state):
         state.breakpoints = sorted({*state.breakpoints, address})
-    return Command(f"break {address}\n", bytes([10]) + number(address, 2), do)
+    return Command(f"break {address}\n", bytes([10]) + number(address, 2), apply)
 
 
 def watch(bank, source):
     """Returns the command that sets a watch."""
-    def do(state):
+    def apply(state):
         state.watches = sorted({*state.watches, (bank, source)})
-    return Command(f"watch {bank} {source}\n", bytes([12, bank, source]), do)
+    return Command(f"watch {bank} {source}\n", bytes([12, bank, source]), apply)
 
 
 # --- files
 
 def read(file):
     """Returns the snapshot and the records in a file, or None if the file is damaged."""
-    if len(file) != SIZE or file[:8] != FORMAT_NAME or any(file[9:16]):
+    if len(file) != FILE_BYTES or file[:8] != FORMAT_NAME or any(file[9:16]):
         return None
     slot = SLOTS[file[8] % 2]
     length = int.from_bytes(file[slot:slot + LENGTH_BYTES], "big")
@@ -305,7 +305,7 @@ def read(file):
 def file_with_snapshot(snapshot):
     """Returns a file with a snapshot in its first slot, and no records."""
     start = SLOTS[0]
-    file = bytearray(FORMAT_NAME + bytes(SIZE - len(FORMAT_NAME)))
+    file = bytearray(FORMAT_NAME + bytes(FILE_BYTES - len(FORMAT_NAME)))
     file[start:start + LENGTH_BYTES + len(snapshot)] = number(len(snapshot), LENGTH_BYTES) + snapshot
     return file
 
@@ -322,7 +322,7 @@ class ExpectedSession:
         """Starts a session at this state, with a snapshot in one of the slots."""
         self.state = state or State()
         self.version = version
-        self.file = bytearray(SIZE)
+        self.file = bytearray(FILE_BYTES)
         self.unused_ranges = [None, None]
         self.slot = slot
         self.checkpoints = 0
@@ -357,7 +357,7 @@ class ExpectedSession:
         self.log_size += 3 + len(record)
         self.cycles += command.cycles
         self.contents[1].append(record)
-        answer = command.do(self.state) or ""
+        answer = command.apply(self.state) or ""
         self.state.seq += 1
         return f"ok {self.state.seq}{answer}\n"
 
@@ -367,7 +367,7 @@ class ExpectedSession:
 
     def difference_from(self, file):
         """Describes the first difference between a file and the expected bytes, or returns "" if there is none."""
-        if len(file) != SIZE:
+        if len(file) != FILE_BYTES:
             return f"it has {len(file)} bytes"
         expected = bytearray(self.file)
         for unused_range in self.unused_ranges:
@@ -375,7 +375,7 @@ class ExpectedSession:
                 expected[unused_range[0]:unused_range[1]] = file[unused_range[0]:unused_range[1]]
         if expected == file:
             return ""
-        offset = next(offset for offset in range(SIZE) if expected[offset] != file[offset])
+        offset = next(offset for offset in range(FILE_BYTES) if expected[offset] != file[offset])
         return f"from {offset} on it has {bytes(file[offset:offset + 12]).hex(' ')}, and not {bytes(expected[offset:offset + 12]).hex(' ')}"
 
     def copy(self):

@@ -5,7 +5,7 @@ commands and answers lines.
 import re
 
 import bench4004
-from session_file import MAX_CYCLES, FORMAT_NAME, SIZE, Board, State, read
+from session_file import MAX_CYCLES, FORMAT_NAME, FILE_BYTES, Board, State, read
 
 MAX_COMMANDS = 2**32 - 1
 # The maximum numbers of chains, and of chips in a chain, by version.
@@ -20,7 +20,7 @@ COMMANDS = {3: ("press", 255, 255), 4: ("release", 255, 255), 5: ("run", 2**32 -
 
 
 class RejectedFile(Exception):
-    """Raised for a file that the program must reject, with the number of the error."""
+    """The error for a file that the program must reject, with its number."""
 
 
 def require(condition):
@@ -35,25 +35,25 @@ class Reader:
     def __init__(self, data):
         self.data, self.offset = bytes(data), 0
 
-    def take(self, count):
+    def read_bytes(self, count):
         """Reads `count` bytes."""
         self.offset += count
         require(self.offset <= len(self.data))
         return self.data[self.offset - count:self.offset]
 
-    def numbers(self, count, maximum):
+    def read_numbers(self, count, maximum):
         """Reads `count` numbers of one byte each. None may be larger than `maximum`."""
-        values = self.take(count)
+        values = self.read_bytes(count)
         require(all(byte <= maximum for byte in {*values}))
         return bytearray(values)
 
-    def number(self, maximum):
+    def read_number(self, maximum):
         """Reads a number of 1, 2 or 4 bytes, depending on its maximum."""
-        value = int.from_bytes(self.take(1 if maximum < 256 else 2 if maximum < 65536 else 4), "big")
+        value = int.from_bytes(self.read_bytes(1 if maximum < 256 else 2 if maximum < 65536 else 4), "big")
         require(value <= maximum)
         return value
 
-    def end(self):
+    def expect_end(self):
         """Rejects the file if some of the data was not read."""
         require(self.offset == len(self.data))
 
@@ -93,14 +93,14 @@ def is_board(board):
 
 def read_board(reader, version):
     """Parses the bytes of a board. Rejects an invalid board."""
-    ports = [reader.take(4).decode("latin-1") for _chip in range(16)]
+    ports = [reader.read_bytes(4).decode("latin-1") for _chip in range(16)]
     roms = {chip: port for chip, port in enumerate(ports) if port != "----"}
-    banks = {bank: chips for bank, chips in enumerate(reader.numbers(8, 4)) if chips}
-    chains = [(reader.take(4), reader.take(4), reader.number(MAX_CHIPS[version])) for _n in range(reader.number(MAX_CHAINS[version]))]
+    banks = {bank: chips for bank, chips in enumerate(reader.read_numbers(8, 4)) if chips}
+    chains = [(reader.read_bytes(4), reader.read_bytes(4), reader.read_number(MAX_CHIPS[version])) for _n in range(reader.read_number(MAX_CHAINS[version]))]
     keys = None
-    if reader.number(1):
-        keys = (*reader.take(3), [reader.take(4) for _n in range(reader.number(8))])
-    board = Board(roms, banks, chains, keys, [reader.take(4) for _n in range(reader.number(64))])
+    if reader.read_number(1):
+        keys = (*reader.read_bytes(3), [reader.read_bytes(4) for _n in range(reader.read_number(8))])
+    board = Board(roms, banks, chains, keys, [reader.read_bytes(4) for _n in range(reader.read_number(64))])
     require(is_board(board))
     return board
 
@@ -110,22 +110,22 @@ def read_board(reader, version):
 def read_state(snapshot):
     """Parses the state in a snapshot. Returns the state and its version."""
     reader = Reader(snapshot)
-    seq = reader.number(MAX_COMMANDS)
+    seq = reader.read_number(MAX_COMMANDS)
     version = 2 if snapshot[4:5] == b"\2" else 1
-    reader.take(version - 1)
+    reader.read_bytes(version - 1)
     board = read_board(reader, version)
-    state = State(seq, board, rom=bytearray(reader.take(4096)))
+    state = State(seq, board, rom=bytearray(reader.read_bytes(4096)))
     for part, count in (("ram", 2048), ("status", 512), ("ram_ports", 32), ("rom_ports", 16)):
-        setattr(state, part, reader.numbers(count, 15))
-    state.accumulator, state.carry, state.registers = reader.number(15), reader.number(1), reader.numbers(16, 15)
-    state.counter, *state.return_addresses = [reader.number(4095) for _n in range(4)]
-    state.bank, state.rom_source, state.bank_sources, state.owed = reader.number(7), reader.number(255), reader.take(8), reader.number(1)
-    state.chains = [reader.numbers(10 * chips, 1) for _clock, _data, chips in board.chains]
-    state.keys, state.test = reader.numbers(board.key_count(), 1), reader.number(1)
-    state.breakpoints = [reader.number(4095) for _n in range(reader.number(32))]
+        setattr(state, part, reader.read_numbers(count, 15))
+    state.accumulator, state.carry, state.registers = reader.read_number(15), reader.read_number(1), reader.read_numbers(16, 15)
+    state.counter, *state.return_addresses = [reader.read_number(4095) for _n in range(4)]
+    state.bank, state.rom_source, state.bank_sources, state.owed = reader.read_number(7), reader.read_number(255), reader.read_bytes(8), reader.read_number(1)
+    state.chains = [reader.read_numbers(10 * chips, 1) for _clock, _data, chips in board.chains]
+    state.keys, state.test = reader.read_numbers(board.key_count(), 1), reader.read_number(1)
+    state.breakpoints = [reader.read_number(4095) for _n in range(reader.read_number(32))]
     if version == 2:
-        state.watches = [(reader.number(7), reader.number(255)) for _n in range(reader.number(8))]
-    reader.end()
+        state.watches = [(reader.read_number(7), reader.read_number(255)) for _n in range(reader.read_number(8))]
+    reader.expect_end()
     require(all(items == sorted({*items}) for items in (state.breakpoints, state.watches)))
     require(not any(any(part) for part in absent_parts(state)))
     return state, version
@@ -170,22 +170,22 @@ def read_command(record, version):
     """Converts a record to the words of its session line, in which a text is a list of lines. Returns them with the number of cycles that the log
     counts for the record."""
     reader = Reader(record)
-    tag = reader.number(13 if version == 2 else 11)
+    tag = reader.read_number(13 if version == 2 else 11)
     if tag == 1:
         words = ["wire", read_board(reader, version).text().splitlines()]
     elif tag == 2:
-        bitmap = reader.take(512)
+        bitmap = reader.read_bytes(512)
         addresses = [address for address in range(4096) if bitmap[address // 8] >> address % 8 & 1]
-        words = ["asm", [line for address in addresses for line in (f"ORG {address}", f"DB {reader.number(255)}")]]
+        words = ["asm", [line for address in addresses for line in (f"ORG {address}", f"DB {reader.read_number(255)}")]]
     elif tag == 7:
-        name, *maxima = PLACES[reader.number(7)]
-        numbers = [reader.number(maximum) for maximum in maxima]
+        name, *maxima = PLACES[reader.read_number(7)]
+        numbers = [reader.read_number(maximum) for maximum in maxima]
         words = ["poke", name.format(*numbers[:-1]), str(numbers[-1])]
     else:
         require(tag in COMMANDS)
         name, *maxima = COMMANDS[tag]
-        words = [name, *(str(reader.number(maximum)) for maximum in maxima)]
-    reader.end()
+        words = [name, *(str(reader.read_number(maximum)) for maximum in maxima)]
+    reader.expect_end()
     return words, {"run": lambda: int(words[1]), "step": lambda: 2}.get(words[0], lambda: 0)()
 
 
@@ -194,7 +194,7 @@ class ParsedFile:
 
     def __init__(self, file):
         """Reads a file. Raises `RejectedFile` if the program must reject the file."""
-        if len(file) != SIZE or file[:8] != FORMAT_NAME:
+        if len(file) != FILE_BYTES or file[:8] != FORMAT_NAME:
             raise RejectedFile(50)
         contents = read(file)
         require(contents is not None)

@@ -18,14 +18,14 @@ def item_setter(part, index, value):
     return lambda state: getattr(state, part).__setitem__(index, value)
 
 
-def command_with_record(text, record, do):
+def command_with_record(text, record, apply):
     """Returns a command with this session line, this record, and the function that applies it."""
-    return Command(f"{text}\n", bytes(record), do)
+    return Command(f"{text}\n", bytes(record), apply)
 
 
 def wire_with_record(board, record):
     """Returns the command that wires a board, with this record."""
-    return Command(wire(board.text(), board).text, record, wire("", board).do)
+    return Command(wire(board.text(), board).text, record, wire("", board).apply)
 
 
 # Boards with their records. The first board is empty. In the second one, the order of a port's characters matters (lines 3, 2, 1, 0). The third one
@@ -44,7 +44,7 @@ LONGEST_BOARD_RECORD_BYTES = 404
 # Commands on the largest board. The first one is a program: bytes at 000, 00A and FFF.
 COMMANDS = [
     Command("asm\n DB 0xD1\n ORG 0x00A\n DB 0xD5\n ORG 0xFFF\n DB 0xF2\n.\n", bytes([2, 1, 4, *bytes(509), 0x80, 0xD1, 0xD5, 0xF2]),
-            load("", {0: 0xD1, 0x00A: 0xD5, 0xFFF: 0xF2}).do),
+            load("", {0: 0xD1, 0x00A: 0xD5, 0xFFF: 0xF2}).apply),
     command_with_record("press 0 0", [3, 0, 0], item_setter("keys", 0, 1)),
     command_with_record("press 9 7", [3, 9, 7], item_setter("keys", 79, 1)),
     command_with_record("release 0 0", [4, 0, 0], item_setter("keys", 0, 0)),
@@ -69,8 +69,8 @@ COMMANDS = [
     command_with_record("poke st.7.15.3 8", [7, 7, 7, 15, 3, 8], item_setter("status", 511, 8)),
 ]
 # The record of the empty board, and the record of a program of two bytes.
-NEW_BOARD = b"\1" + Board().bytes()
-LOAD = bytes([2, 3, *bytes(513)])
+EMPTY_BOARD_RECORD = b"\1" + Board().bytes()
+LOAD_RECORD = bytes([2, 3, *bytes(513)])
 # Invalid records. On the largest board, a parser that does not reject them would read a command that the bench accepts.
 INVALID_RECORDS = [
     *(bytes(record) for record in (
@@ -78,11 +78,11 @@ INVALID_RECORDS = [
         [7, 3, 0, 16], [7, 4, 8], [7, 6, 8, 0, 0], [7, 7, 0, 0, 4, 0], [8, 2], [10, 0x10, 0], [11, 0], [12], [12, 8, 0], [12, 0],
         [13, 0, 0, 0], [13, 8, 0])),
     # A port of one character, a bank of five chips, one byte fewer.
-    NEW_BOARD[:1] + b"i" + NEW_BOARD[2:], NEW_BOARD[:65] + b"\5" + NEW_BOARD[66:], NEW_BOARD[:75],
+    EMPTY_BOARD_RECORD[:1] + b"i" + EMPTY_BOARD_RECORD[2:], EMPTY_BOARD_RECORD[:65] + b"\5" + EMPTY_BOARD_RECORD[66:], EMPTY_BOARD_RECORD[:75],
     # A bitmap of two addresses with one byte, and a bitmap of one address with two bytes.
-    LOAD[:-1], bytes([2, 1]) + LOAD[2:],
+    LOAD_RECORD[:-1], bytes([2, 1]) + LOAD_RECORD[2:],
 ]
-VALID_RECORDS = [bytes([3, 0, 0]), bytes([5, 0, 0, 0, 1]), bytes([7, 0, 15]), NEW_BOARD, LOAD]
+VALID_RECORDS = [bytes([3, 0, 0]), bytes([5, 0, 0, 0, 1]), bytes([7, 0, 15]), EMPTY_BOARD_RECORD, LOAD_RECORD]
 # Commands that exist in version 1, and commands that only version 2 has. All records are in the format of version 2.
 COMMANDS_OF_BOTH_VERSIONS = [wire(BOARD_WITH_EACH_PART.text(), BOARD_WITH_EACH_PART), wire(state_with_chains(2, 4).board.text(), state_with_chains(2, 4).board), step(),
                   command_with_record("poke pc 1", [7, 2, 0, 1], part_setter("counter", 1)), run(1)]

@@ -3,9 +3,9 @@
 import pathlib
 import sys
 
-from driven import matches
+from browser_driver import matches
 
-CHECK = f"checks/{pathlib.Path(sys.argv[0]).name}"
+CHECK_NAME = f"checks/{pathlib.Path(sys.argv[0]).name}"
 # The maximum number of characters of a value that are printed. Only the end of a longer value is printed.
 MAX_PRINTED = 2000
 
@@ -17,7 +17,7 @@ def judge(is_right, description):
     """Counts a verdict. Prints its description if it failed."""
     counts["passed" if is_right else "failed"] += 1
     if not is_right:
-        print(f"{CHECK}: {description}", file=sys.stderr)
+        print(f"{CHECK_NAME}: {description}", file=sys.stderr)
 
 
 def verdict(description, actual, expected):
@@ -27,7 +27,7 @@ def verdict(description, actual, expected):
 
 def eventually(browser, description, code, expected, seconds=30):
     """Checks that a script returns the expected result within a number of seconds, and counts the verdict."""
-    verdict(description, browser.until(code, expected, seconds), expected)
+    verdict(description, browser.wait_until(code, expected, seconds), expected)
 
 
 def end_check():

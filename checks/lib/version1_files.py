@@ -1,14 +1,14 @@
 """Session files of version 1 with their contents. The program of commit a1f6da2, the last one that wrote version 1, wrote these files."""
 
-from session_file import SIZE, State, poke_register, run, step
+from session_file import FILE_BYTES, State, poke_register, run, step
 from session_states import WORKED_BOARD, zeros_except
 
-# A range of bytes that are not zero: an offset, bytes, and how many times these are repeated. All files have the ranges of NEW_BENCH, which are the
-# snapshot of a new bench.
-NEW_BENCH = [(0, b"MCS4BEN1", 1), (18, b"\x1A\xA6", 1), (24, b"-", 64), (6_840, b"\x01", 1)]
-POKE = b"\1\0\4\7\3\5\x09"
+# Ranges of bytes that are not zero. Each is an offset, bytes, and how many times these are repeated. All files have the ranges of NEW_BENCH_RANGES,
+# which are the snapshot of a new bench.
+NEW_BENCH_RANGES = [(0, b"MCS4BEN1", 1), (18, b"\x1A\xA6", 1), (24, b"-", 64), (6_840, b"\x01", 1)]
+POKE_RECORD = b"\1\0\4\7\3\5\x09"
 # The worked board: three ROMs, two RAM chips, a chain of ten bits, eighty keys, three lamps.
-BOARD = [(0, b"0000iiiiiiii", 1), (12, b"-", 52), (64, bytes.fromhex(
+BOARD_RANGES = [(0, b"0000iiiiiiii", 1), (12, b"-", 52), (64, bytes.fromhex(
     "0101000000000000 01 00000000 00000100 01 01 00000a08 00010000 00010100 00010200 00010300 00020000 00020100 00020200 00020300"
     "03 02000000 02000100 01000003"), 1)]
 KEYS_PROGRAM = bytes.fromhex("d3e2 d2e2 d3e2 2010 21 ea fc")
@@ -16,9 +16,9 @@ KEYS_PROGRAM = bytes.fromhex("d3e2 d2e2 d3e2 2010 21 ea fc")
 
 def file_with(ranges, boards=()):
     """Returns a file with these ranges, and with the bytes of the worked board at each offset in `boards`."""
-    file = bytearray(SIZE)
-    on_boards = [(board + offset, data, times) for board in boards for offset, data, times in BOARD]
-    for offset, data, times in [*NEW_BENCH, *on_boards, *ranges]:
+    file = bytearray(FILE_BYTES)
+    on_boards = [(board + offset, data, times) for board in boards for offset, data, times in BOARD_RANGES]
+    for offset, data, times in [*NEW_BENCH_RANGES, *on_boards, *ranges]:
         file[offset:offset + len(data) * times] = data * times
     return file
 
@@ -29,12 +29,13 @@ def worked_state(program, chain=(), down=(), **parts):
                  keys=zeros_except(80, {8 * row + column: 1 for row, column in down}), **parts)
 
 
-READ_KEYS = {"chain": (0, 1), "down": ((0, 1), (1, 2)), "rom_source": 0x10, "bank_sources": zeros_except(8, {0: 0x10}),
+# The parts of the state in which the program has read two pressed keys.
+STATE_WITH_READ_KEYS = {"chain": (0, 1), "down": ((0, 1), (1, 2)), "rom_source": 0x10, "bank_sources": zeros_except(8, {0: 0x10}),
              "rom_ports": zeros_except(16, {0: 3})}
 # For each file: a description of its commands, the active slot, the file, its state, commands to execute after opening it, and then queries with
 # their answers.
 FILES = [
-    ("poke r5 9", 0, file_with([(16_400, POKE, 1)]), State(seq=1, registers=zeros_except(16, {5: 9})),
+    ("poke r5 9", 0, file_with([(16_400, POKE_RECORD, 1)]), State(seq=1, registers=zeros_except(16, {5: 9})),
      [poke_register(5, 3)], "", ""),
     ("an addition: the worked board, ADD R2 and DAA, poke acc 9, poke r2 8, run 2", 0,
      file_with([(16_400, b"\1\0\x85\1", 1), (16_536, b"\1\2\3\2\3", 1),
@@ -44,7 +45,7 @@ FILES = [
     ("keys: the worked board, a program that drives two rows and reads their keys, press 0 1, press 1 2, run 10", 0,
      file_with([(16_400, b"\1\0\x85\1", 1), (16_536, b"\1\2\x0C\2\xFF\7", 1),
                 (17_052, KEYS_PROGRAM + bytes.fromhex("010003030001 010003030102 010005050000000a"), 1)], [16_404]),
-     worked_state(KEYS_PROGRAM, **READ_KEYS, seq=5, accumulator=6, counter=0x00A, registers=zeros_except(16, {0: 1})),
+     worked_state(KEYS_PROGRAM, **STATE_WITH_READ_KEYS, seq=5, accumulator=6, counter=0x00A, registers=zeros_except(16, {0: 1})),
      [], "lamps\nrun 1\nregs\n", "lamps **.\nok 6 ran 1 end\nacc F cy 0 pc 00B owed 0 dcl 0 test 1 r 1000000000000000 ret 000 000 000\n"),
     ("a jump with a pending cycle: the worked board, JUN 0x123, run 1", 0,
      file_with([(16_400, b"\1\0\x85\1", 1), (16_536, b"\1\2\3\2\3", 1), (17_052, bytes.fromhex("4123 0100050500000001"), 1)], [16_404]),
@@ -71,11 +72,11 @@ FILES = [
     ("all places of a snapshot", 1,
      file_with([(8, b"\1", 1), (16_400, b"\1\0\x85\1", 1), (16_536, b"\1\2\x0F\2\xFF\x3F", 1),
                 (17_052, KEYS_PROGRAM + bytes.fromhex("e0 4123 010003030001 010003030102 0100030a0200 0100020800 010005050000000d"), 1),
-                (17_097, POKE, 9_262), (81_936, bytes.fromhex("00001b3b 00002435"), 1), (82_076, KEYS_PROGRAM + b"\xE0\x41\x23", 1),
+                (17_097, POKE_RECORD, 9_262), (81_936, bytes.fromhex("00001b3b 00002435"), 1), (82_076, KEYS_PROGRAM + b"\xE0\x41\x23", 1),
                 (86_188, b"\x0F", 1), (88_764, b"\3", 1), (88_780, b"\x0F\0\1", 1), (88_787, b"\x09", 1), (88_798, b"\1\x23", 1),
                 (88_807, b"\x10\x10", 1), (88_816, b"\1\1\1", 1), (88_828, b"\1", 1), (88_837, b"\1", 1),
-                (88_908, b"\1\2", 1), (98_320, POKE + bytes.fromhex("01000407030604"), 1)], [16_404, 81_944]),
-     worked_state(KEYS_PROGRAM + b"\xE0\x41\x23", **READ_KEYS, seq=9_271, accumulator=15, counter=0x123, owed=1, test=0,
+                (88_908, b"\1\2", 1), (98_320, POKE_RECORD + bytes.fromhex("01000407030604"), 1)], [16_404, 81_944]),
+     worked_state(KEYS_PROGRAM + b"\xE0\x41\x23", **STATE_WITH_READ_KEYS, seq=9_271, accumulator=15, counter=0x123, owed=1, test=0,
                      registers=zeros_except(16, {0: 1, 5: 9, 6: 4}), ram=zeros_except(2_048, {0x10: 15}), breakpoints=[0x200]),
      [], "state\nrun 1\npoke pc 9\nrun 1\nregs\n",
      "state seq 9271 acc F cy 0 pc 123 owed 1 dcl 0 test 0 r 1000094000000000 ret 000,000,000 src 10 banks 0.10,1.00 roms 0.3.0,1.0.6,2.0.0 "

@@ -46,15 +46,16 @@ class Position {
   }
 }
 
+/** A range, constructed from two positions or from four numbers, as in the editor. */
 class Range {
   constructor(...given) {
-    const [one, two, three, four] = given;
-    [this.start, this.end] = given.length === 4 ? [new Position(one, two), new Position(three, four)] : [one, two];
+    const [a, b, c, d] = given;
+    [this.start, this.end] = given.length === 4 ? [new Position(a, b), new Position(c, d)] : [a, b];
   }
 }
 
 /** The stand-in for `TestItemCollection` of the editor: test items by their ids. */
-class Items {
+class TestItems {
   constructor(parent) {
     this.parent = parent;
     this.all = new Map();
@@ -83,20 +84,21 @@ class Items {
 
 function testItem(id, label, uri) {
   const item = { id, label, uri, range: undefined, parent: undefined };
-  return Object.assign(item, { children: new Items(item) });
+  return Object.assign(item, { children: new TestItems(item) });
 }
 
 // Returns the files below a folder that match a pattern of the form `**/NAME` or `**/*.EXTENSION`.
 function filesIn(folder, pattern) {
   const [, name] = /^\*\*\/(.*)$/.exec(pattern);
-  const matches = (each) => (name.startsWith("*") ? each.endsWith(name.slice(1)) : each === name);
-  return readdirSync(folder).sort().flatMap((each) => {
-    const path = join(folder, each);
+  const matches = (fileName) => (name.startsWith("*") ? fileName.endsWith(name.slice(1)) : fileName === name);
+  return readdirSync(folder).sort().flatMap((fileName) => {
+    const path = join(folder, fileName);
     if (statSync(path).isDirectory()) return filesIn(path, pattern);
-    return matches(each) ? [Uri.file(path)] : [];
+    return matches(fileName) ? [Uri.file(path)] : [];
   });
 }
 
+/** A stand-in for a class of the module. It only stores the arguments of its constructor. */
 class Plain {
   constructor(...given) {
     this.given = given;
@@ -113,7 +115,7 @@ const PLAIN_CLASSES = ["Location", "Diagnostic", "Hover", "CompletionItem", "Sni
  */
 export function standIn(folder, settings = {}) {
   const registered = {};
-  const shown = { errors: [], words: [], launched: [], diagnostics: new Map(), runs: [], panels: [] };
+  const shown = { errors: [], messages: [], launched: [], diagnostics: new Map(), runs: [], panels: [] };
   const events = Object.fromEntries(["open", "close", "change", "custom", "terminate"].map((name) => [name, eventOf()]));
   const documents = [];
   const register = (kind) => (...given) => {
@@ -156,7 +158,7 @@ export function standIn(folder, settings = {}) {
     tests: {
       createTestController: (id, label) => {
         const controller = {
-          id, label, items: new Items(undefined), profiles: {}, createTestItem: testItem, dispose: () => {},
+          id, label, items: new TestItems(undefined), profiles: {}, createTestItem: testItem, dispose: () => {},
           createRunProfile: (name, kind, act) => {
             controller.profiles[name] = act;
           },
@@ -177,7 +179,7 @@ export function standIn(folder, settings = {}) {
     },
     window: {
       activeTextEditor: undefined, registerWebviewViewProvider: register("view"),
-      showErrorMessage: (words) => shown.errors.push(words), showInformationMessage: (words) => shown.words.push(words),
+      showErrorMessage: (message) => shown.errors.push(message), showInformationMessage: (message) => shown.messages.push(message),
       showInputBox: async () => undefined,
       createWebviewPanel: (viewType, title, column, options) => {
         const panel = { viewType, title, column, options, webview: webview(), onDidDispose: eventOf().event };
@@ -186,13 +188,13 @@ export function standIn(folder, settings = {}) {
       },
     },
   };
-  /** Creates a webview. `posted` contains the messages that it receives, and `say` sends its messages. */
+  /** Creates a webview. `posted` contains the messages that it receives, and `sendMessage` sends its messages. */
   function webview() {
     const messageEvent = eventOf();
     const view = {
       cspSource: "vscode-resource:", html: "", options: {}, posted: [], onDidReceiveMessage: messageEvent.event,
       asWebviewUri: ({ fsPath }) => `vscode-resource:${basename(fsPath)}`,
-      postMessage: async (message) => view.posted.push(message), say: (message) => Promise.all(messageEvent.fire(message)),
+      postMessage: async (message) => view.posted.push(message), sendMessage: (message) => Promise.all(messageEvent.fire(message)),
     };
     return view;
   }

@@ -12,7 +12,7 @@ import time
 import urllib.error
 import urllib.request
 
-from driven import BEFORE_SCRIPTS, ELEMENT, BrowserDriver, DriverError
+from browser_driver import BEFORE_SCRIPTS, ELEMENT_KEY, BrowserDriver, DriverError
 
 # Scripts that dispatch the events of a touch, and of a click with the secondary mouse button, for drivers that cannot perform these actions.
 TOUCH_ELEMENT = """
@@ -31,19 +31,19 @@ for (const kind of ["pointerdown", "contextmenu", "pointerup"]) {
 
 def free_port():
     """Returns a free TCP port. (A driver could choose a port itself, but not all drivers report it.)"""
-    with socket.socket() as line:
-        line.bind(("127.0.0.1", 0))
-        return line.getsockname()[1]
+    with socket.socket() as listener:
+        listener.bind(("127.0.0.1", 0))
+        return listener.getsockname()[1]
 
 
 class WebDriver(BrowserDriver):
-    """A browser that a WebDriver server controls. `self.root` is the address of this server, and `self.session` the path of the browser's session
-    there."""
+    """A browser that a WebDriver server controls. `self.driver_address` is the address of this server, and `self.session_path` the path of the
+    browser's session there."""
 
-    def _ask(self, method, path, body=None):
+    def _request(self, method, path, body=None):
         """Sends a request to the driver, and returns the value in its answer. Raises DriverError if the driver answers with an error."""
         data = None if body is None else json.dumps(body).encode()
-        request = urllib.request.Request(self.root + path, data, {"Content-Type": "application/json"}, method=method)
+        request = urllib.request.Request(self.driver_address + path, data, {"Content-Type": "application/json"}, method=method)
         try:
             with urllib.request.urlopen(request, timeout=120) as answer:
                 return json.load(answer)["value"]
@@ -51,79 +51,79 @@ class WebDriver(BrowserDriver):
             error_value = json.load(http_error)["value"]
             raise DriverError(f"{error_value['error']}: {error_value['message']}".split("\n")[0]) from None
 
-    def do(self, method, path, body=None):
+    def _request_session(self, method, path, body=None):
         """Sends a request for the browser's session, and returns the value in the answer."""
-        return self._ask(method, self.session + path, body)
+        return self._request(method, self.session_path + path, body)
 
-    def go(self, address):
+    def open(self, address):
         """Opens a page at an address."""
-        self.do("POST", "/url", {"url": address})
+        self._request_session("POST", "/url", {"url": address})
 
     def reload(self):
         """Reloads the page."""
-        self.do("POST", "/refresh", {})
+        self._request_session("POST", "/refresh", {})
 
-    def back(self):
+    def go_back(self):
         """Goes back to the previous page."""
-        self.do("POST", "/back", {})
+        self._request_session("POST", "/back", {})
 
-    def script(self, code, *words):
+    def script(self, code, *arguments):
         """Runs a script in the page, and returns its result."""
-        return self.do("POST", "/execute/sync", {"script": BEFORE_SCRIPTS + code, "args": list(words)})
+        return self._request_session("POST", "/execute/sync", {"script": BEFORE_SCRIPTS + code, "args": list(arguments)})
 
     def find(self, selector):
         """Returns the id of the first element that a selector matches."""
-        return self.do("POST", "/element", {"using": "css selector", "value": selector})[ELEMENT]
+        return self._request_session("POST", "/element", {"using": "css selector", "value": selector})[ELEMENT_KEY]
 
     def click_element(self, element):
         """Clicks the element with an id."""
-        self.do("POST", f"/element/{element}/click", {})
+        self._request_session("POST", f"/element/{element}/click", {})
 
     def send_to_element(self, element, text):
         """Types text into the element with an id."""
-        self.do("POST", f"/element/{element}/value", {"text": text})
+        self._request_session("POST", f"/element/{element}/value", {"text": text})
 
-    def actions(self, *sources):
+    def perform_actions(self, *sources):
         """Performs sequences of input actions, one for each input device, at the same time."""
-        self.do("POST", "/actions", {"actions": list(sources)})
+        self._request_session("POST", "/actions", {"actions": list(sources)})
 
     def window_size(self):
         """Returns the width and the height of the window in pixels."""
-        rect = self.do("GET", "/window/rect")
+        rect = self._request_session("GET", "/window/rect")
         return rect["width"], rect["height"]
 
     def set_window_size(self, width, height):
-        self.do("POST", "/window/rect", {"x": 0, "y": 0, "width": width, "height": height})
+        self._request_session("POST", "/window/rect", {"x": 0, "y": 0, "width": width, "height": height})
 
-    def tab(self):
+    def current_tab(self):
         """Returns the handle of the current tab."""
-        return self.do("GET", "/window")
+        return self._request_session("GET", "/window")
 
     def new_tab(self):
         """Opens a new tab in the foreground, and switches to it."""
-        self.show_tab(self.do("POST", "/window/new", {"type": "tab"})["handle"])
+        self.show_tab(self._request_session("POST", "/window/new", {"type": "tab"})["handle"])
 
     def show_tab(self, handle):
         """Switches to the tab with a handle."""
-        self.do("POST", "/window", {"handle": handle})
+        self._request_session("POST", "/window", {"handle": handle})
 
     def close_tab(self, handle):
         """Closes the current tab, and shows the tab `handle`."""
-        self.do("DELETE", "/window")
+        self._request_session("DELETE", "/window")
         self.show_tab(handle)
 
-    def picture(self):
+    def screenshot(self):
         """Returns a screenshot as the bytes of a PNG file."""
-        return base64.b64decode(self.do("GET", "/screenshot"))
+        return base64.b64decode(self._request_session("GET", "/screenshot"))
 
-    def process(self):
+    def process_id(self):
         """Returns the process id of the driver."""
         return self.driver.pid
 
     def end(self):
         """Closes the browser, and ends its driver."""
         try:
-            self.do("DELETE", "")
+            self._request_session("DELETE", "")
         except (DriverError, OSError):
             pass
         self.driver.terminate()
@@ -138,7 +138,7 @@ class Chromium(WebDriver):
 
     def __init__(self, folder, downloads, flags=(), **settings):
         port = free_port()
-        self.root = f"http://127.0.0.1:{port}"
+        self.driver_address = f"http://127.0.0.1:{port}"
         self.driver = subprocess.Popen(["chromedriver", f"--port={port}"], stdout=subprocess.PIPE, stderr=subprocess.DEVNULL, text=True)
         if not any("started successfully" in line for line in self.driver.stdout):
             raise DriverError("chromedriver did not start")
@@ -148,23 +148,23 @@ class Chromium(WebDriver):
             "prefs": {"download.default_directory": downloads, "download.prompt_for_download": False, **settings},
         }
         request = {"capabilities": {"alwaysMatch": {"goog:chromeOptions": options, "goog:loggingPrefs": {"browser": "ALL"}}}}
-        answer = self._ask("POST", "/session", request)
-        self.session = "/session/" + answer["sessionId"]
+        answer = self._request("POST", "/session", request)
+        self.session_path = "/session/" + answer["sessionId"]
         self.version = answer["capabilities"]["browserVersion"]
 
-    def command(self, name, **words):
+    def send_command(self, name, **parameters):
         """Sends a command of the browser's own protocol, and returns the result."""
-        return self.do("POST", "/goog/cdp/execute", {"cmd": name, "params": words})
+        return self._request_session("POST", "/goog/cdp/execute", {"cmd": name, "params": parameters})
 
     def resize(self, width, height, mobile=False):
-        self.command("Emulation.setDeviceMetricsOverride", width=width, height=height, deviceScaleFactor=1, mobile=mobile)
+        self.send_command("Emulation.setDeviceMetricsOverride", width=width, height=height, deviceScaleFactor=1, mobile=mobile)
 
     def restore_size(self):
-        self.command("Emulation.clearDeviceMetricsOverride")
+        self.send_command("Emulation.clearDeviceMetricsOverride")
 
     def log(self):
         """Returns the messages in the browser's log."""
-        return [entry["message"] for entry in self.do("POST", "/se/log", {"type": "browser"})]
+        return [entry["message"] for entry in self._request_session("POST", "/se/log", {"type": "browser"})]
 
 
 class WebKit(WebDriver):
@@ -184,36 +184,36 @@ class WebKit(WebDriver):
         home = pathlib.Path(folder)
         home.mkdir(parents=True, exist_ok=True)
         (home / "user-dirs.dirs").write_text(f'XDG_DOWNLOAD_DIR="{downloads}"\n')
-        self.screen = None
-        self.world = dict(os.environ, HOME=str(home), XDG_CONFIG_HOME=str(home), XDG_RUNTIME_DIR=str(home), GDK_BACKEND="x11",
+        self.display_server = None
+        self.environment = dict(os.environ, HOME=str(home), XDG_CONFIG_HOME=str(home), XDG_RUNTIME_DIR=str(home), GDK_BACKEND="x11",
                           WEBKIT_DISABLE_COMPOSITING_MODE="1", WEBKIT_DISABLE_SANDBOX_THIS_IS_DANGEROUS="1")
-        self.world["DISPLAY"] = self._display()
+        self.environment["DISPLAY"] = self._start_display()
         port = free_port()
-        self.root = f"http://127.0.0.1:{port}"
-        self.driver = subprocess.Popen(["WebKitWebDriver", f"--port={port}"], env=self.world, stdout=subprocess.DEVNULL,
+        self.driver_address = f"http://127.0.0.1:{port}"
+        self.driver = subprocess.Popen(["WebKitWebDriver", f"--port={port}"], env=self.environment, stdout=subprocess.DEVNULL,
                                        stderr=subprocess.DEVNULL)
-        answer = self._begin()
-        self.session = "/session/" + answer["sessionId"]
+        answer = self._start_session()
+        self.session_path = "/session/" + answer["sessionId"]
         self.version = answer["capabilities"]["browserVersion"]
         self.restore_size()
 
-    def touch(self, selector, time_down):
-        self.script(TOUCH_ELEMENT, selector, time_down)
+    def touch(self, selector, milliseconds_down):
+        self.script(TOUCH_ELEMENT, selector, milliseconds_down)
 
     def click_secondary(self, x, y):
         # Dispatch the events by script, because after a press of this button the driver would type every character without Shift.
         self.script(CLICK_SECONDARY, x, y)
 
-    def _display(self):
+    def _start_display(self):
         """Starts Xvfb, which chooses the number of its display. Returns the name of the display."""
-        self.screen = subprocess.Popen(["Xvfb", "-displayfd", "1", "-screen", "0", "1920x1200x24"], stdout=subprocess.PIPE,
+        self.display_server = subprocess.Popen(["Xvfb", "-displayfd", "1", "-screen", "0", "1920x1200x24"], stdout=subprocess.PIPE,
                                        stderr=subprocess.DEVNULL, text=True)
-        number = self.screen.stdout.readline().strip()
+        number = self.display_server.stdout.readline().strip()
         if not number:
             raise DriverError("Xvfb did not start")
         return f":{number}"
 
-    def _begin(self):
+    def _start_session(self):
         """Starts a session of the driver, which can need a minute to start. Returns the driver's answer."""
         browser = os.environ.get("MINIBROWSER") or glob.glob("/usr/lib/*/webkit2gtk-4.*/MiniBrowser")[0]
         options = {"binary": browser, "args": ["--automation"]}
@@ -221,7 +221,7 @@ class WebKit(WebDriver):
         end = time.monotonic() + 60
         while True:
             try:
-                return self._ask("POST", "/session", request)
+                return self._request("POST", "/session", request)
             except OSError:
                 if time.monotonic() > end:
                     raise DriverError("WebKitWebDriver did not start") from None
@@ -230,5 +230,5 @@ class WebKit(WebDriver):
     def end(self):
         """Closes the browser, and ends its driver and its display."""
         super().end()
-        self.screen.terminate()
-        self.screen.wait()
+        self.display_server.terminate()
+        self.display_server.wait()

@@ -102,7 +102,7 @@ def spoil_text(rng, text):
     return text
 
 
-def top_line(rng):
+def random_top_line(rng):
     """Returns a line to insert at the top of a board's text. The line is usually an error there."""
     section, value = rng.choice([*KINDS, *UNKNOWN_KEYS[:6]]), rng.choice(["1", "[1]", "[{}, 2]", "{}", "{ chip = 1 }", '"a"', "[\n]"])
     return f"{section}{rng.choice(EQUALS)}{value}{rng.choice(TEXT_ENDS)}"
@@ -119,7 +119,7 @@ def board_with_errors(number):
         rng.choice(CHANGES)(rng, tables)
     text = random_tables_text(rng, tables)
     if rng.random() < 0.1:
-        text = top_line(rng) + text
+        text = random_top_line(rng) + text
     if rng.random() < 0.25:
         text = spoil_text(rng, text)
     return text.split("\n")

@@ -26,12 +26,12 @@ case ${XDG_CACHE_HOME:-} in
     esac ;;
 esac
 names=
-rest=$top
-while [ "$rest" != "${rest#*/}" ]; do
-    names=$names${rest%%/*}%
-    rest=${rest#*/}
+remaining_path=$top
+while [ "$remaining_path" != "${remaining_path#*/}" ]; do
+    names=$names${remaining_path%%/*}%
+    remaining_path=${remaining_path#*/}
 done
-names=$cache/$names$rest.names
+names=$cache/$names$remaining_path.names
 stamps=${names%.names}.seen
 # A line for each program that this user has built, with the checksums of its sources and of its bytes. The file is outside the tree: a tree
 # from somebody else could contain a program and a forged file.
@@ -46,8 +46,8 @@ file_stamps() {
 # user could have written.
 read_cache() {
     if [ -z "$cache" ] || [ ! -O "$cache" ]; then return 1; fi
-    for each in "$names" "$stamps"; do
-        if [ -h "$each" ] || [ ! -O "$each" ]; then return 1; fi
+    for cache_file in "$names" "$stamps"; do
+        if [ -h "$cache_file" ] || [ ! -O "$cache_file" ]; then return 1; fi
     done
     file_stamps "$names" | {
         read -r mode _

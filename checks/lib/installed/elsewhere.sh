@@ -2,7 +2,7 @@
 # shellcheck shell=sh disable=SC2154
 
 make_home
-prefix=$folder/place
+prefix=$folder/prefix
 ./install --prefix "$prefix" > "$folder/output"
 mkdir "$folder/bin"
 printf '#!/bin/sh\ncase $1 in -s) echo Linux ;; *) echo riscv64 ;; esac\n' > "$folder/bin/uname"

@@ -3,7 +3,7 @@
 
 make_home
 parent=$folder/deep/er
-prefix=$parent/place
+prefix=$parent/prefix
 library_folder=$prefix/lib/fethsaim
 odd_name='a " $(b) \ '"'"'
 c'
@@ -20,7 +20,7 @@ add_user_files() {
 add_user_files
 # Changes three installed files: appends a comment to each. Argument: the text of the comment.
 change_files() {
-    for each in lib/fethsaim/examples/calculator/board.toml share/man/man1/mcs4.1 lib/fethsaim/mcs4; do echo "# $1" >> "$prefix/$each"; done
+    for name in lib/fethsaim/examples/calculator/board.toml share/man/man1/mcs4.1 lib/fethsaim/mcs4; do echo "# $1" >> "$prefix/$name"; done
 }
 change_files changed
 # Adds a file of the user that has the same name as a file that a new version installs.
@@ -29,13 +29,13 @@ cp "$folder/list" "$library_folder/installed"
 echo mine > "$library_folder/tools/lib/face.txt"
 # Prints the type, the mode, and the contents or the link's target of each of the user's files and folders.
 print_user_files() {
-    for each in examples/calculator/my.mcs examples/calculator/.hidden "$odd_name" link private empty private/mine; do
-        ls -ld "$library_folder/$each" | cut -d ' ' -f 1 | cut -c 1-10
-        if [ -h "$library_folder/$each" ]; then readlink "$library_folder/$each"; elif [ -f "$library_folder/$each" ]; then cat "$library_folder/$each"; fi
+    for name in examples/calculator/my.mcs examples/calculator/.hidden "$odd_name" link private empty private/mine; do
+        ls -ld "$library_folder/$name" | cut -d ' ' -f 1 | cut -c 1-10
+        if [ -h "$library_folder/$name" ]; then readlink "$library_folder/$name"; elif [ -f "$library_folder/$name" ]; then cat "$library_folder/$name"; fi
     done
 }
 print_user_files > "$folder/user_files"
-last_lines() { for each in "$@"; do tail -n 1 "$each"; done | tr '\n' ' '; }
+last_lines() { for file in "$@"; do tail -n 1 "$file"; done | tr '\n' ' '; }
 kept_title="Kept, because Fethsaim did not install it, or you have changed it:"
 verdict "$(PATH=$prefix/bin:$PATH outcome ./install --prefix "$prefix")" "mcs4 is installed: $prefix/bin/mcs4
 $kept_title

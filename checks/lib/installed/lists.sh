@@ -2,7 +2,7 @@
 # shellcheck shell=sh disable=SC2154
 
 make_home
-prefix=$folder/place
+prefix=$folder/prefix
 ./install --prefix "$prefix" > "$folder/output"
 list=$prefix/lib/fethsaim/installed
 cp "$list" "$folder/list"

@@ -28,16 +28,16 @@ status 1" "a package in a missing folder"
     done)" "" "authors of CodeMirror whom the package does not name"
     verdict "$(sed -n '/^License: Expat/,$p' "$folder/unpacked/usr/share/doc/mcs4/copyright" | sed '1d; s/^ //; s/^\.$//')" \
         "$(sed -n '/^Permission/,$p' page/codemirror/LICENCE)" "the text of CodeMirror's licence in the package"
-    for each in "$folder/unpacked/usr/share/doc/mcs4/copyright" editors/vscode/README.md; do
-        verdict "$(sed -n 's/^ *\(No licence .*\)$/\1/p' "$each")" "$(sed -n '/^No licence /p' README.md)" "the licence in ${each##*/}"
+    for file in "$folder/unpacked/usr/share/doc/mcs4/copyright" editors/vscode/README.md; do
+        verdict "$(sed -n 's/^ *\(No licence .*\)$/\1/p' "$file")" "$(sed -n '/^No licence /p' README.md)" "the licence in ${file##*/}"
     done
     # Checks that the package has the same files as an installation. (The parts `tools` and `testing` try all commands of an installation.)
-    ./install --prefix "$folder/place" > "$folder/output"
-    describe_files "$folder/place/lib/fethsaim" > "$folder/described"
+    ./install --prefix "$folder/prefix" > "$folder/output"
+    describe_files "$folder/prefix/lib/fethsaim" > "$folder/described"
     describe_files "$folder/unpacked/usr/lib/fethsaim" > "$folder/packed"
     verdict_of_files "$folder/packed" "$folder/described" "the files in the package"
     verdict "$(cd "$folder/unpacked/usr/share" && cat bash-completion/completions/* zsh/vendor-completions/* fish/*/* && gzip -dc man/man1/*.gz)" \
-        "$(cd "$folder/place/share" && cat bash-completion/completions/* zsh/site-functions/* fish/*/* man/man1/*)" "the completion and the manual pages in the package"
+        "$(cd "$folder/prefix/share" && cat bash-completion/completions/* zsh/site-functions/* fish/*/* man/man1/*)" "the completion and the manual pages in the package"
     for start_command in --prefix "--uninstall --prefix"; do
         # shellcheck disable=SC2086
         verdict "$(outcome ./install $start_command "$folder/unpacked/usr")" "install: $folder/unpacked/usr/lib/fethsaim belongs to Debian's package mcs4: upgrade or remove it with apt-get; nothing was changed

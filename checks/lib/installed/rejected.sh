@@ -3,17 +3,17 @@
 # shellcheck shell=sh disable=SC2154
 
 make_home
-prefix=$folder/place
+prefix=$folder/prefix
 ./install --prefix "$prefix" > "$folder/output"
 usage="usage: ./install [--prefix FOLDER] [--uninstall]"
 check_unchanged "install: there is no option --frob
 $usage" 2 ./install --frob
 check_unchanged "install: 'frob' is not an option; for a folder, write --prefix FOLDER
 $usage" 2 ./install frob
-for words in "--prefix" "--prefix --uninstall" "--prefix --help" "--prefix --" "--prefix="; do
+for arguments in "--prefix" "--prefix --uninstall" "--prefix --help" "--prefix --" "--prefix="; do
     # shellcheck disable=SC2086
     check_unchanged "install: FOLDER is missing after --prefix
-$usage" 2 ./install $words
+$usage" 2 ./install $arguments
 done
 check_unchanged "install: a folder before .. in $folder/none/../x does not exist; name the folder without .." 1 ./install --prefix "$folder/none/../x"
 verdict "$(cd "$folder/home" && outcome "$top/install" --prefix ../beside/x | sed 1q; cd "$folder/home" && outcome "$top/install" --prefix ../beside/x --uninstall; ls -d "$folder/beside" 2>&1)" \

@@ -2,7 +2,7 @@
 # shellcheck shell=sh disable=SC2154
 
 make_home
-prefix=$folder/place
+prefix=$folder/prefix
 ./install --prefix "$prefix" > "$folder/output"
 # Makes the files writable again when the part ends, because its folder is then removed.
 trap 'chmod -R u+w "$prefix"' EXIT

@@ -3,11 +3,11 @@
 # shellcheck shell=sh disable=SC2154
 
 make_home
-prefix=$folder/place
+prefix=$folder/prefix
 ./install --prefix "$prefix" > "$folder/output"
 # Makes the files writable again when the part ends, because its folder is then removed.
 trap 'chmod -R u+w "$prefix"' EXIT
 chmod -R a-w "$prefix"
-parts=$(cd checks/lib/tools && for each in *.sh; do case $each in arguments.sh | escapes.sh | module.sh) ;; *) echo "${each%.sh}" ;; esac; done)
+parts=$(cd checks/lib/tools && for script in *.sh; do case $script in arguments.sh | escapes.sh | module.sh) ;; *) echo "${script%.sh}" ;; esac; done)
 # shellcheck disable=SC2086
 run_check_on tools "$prefix/lib/fethsaim" "$prefix/bin/mcs4" $parts

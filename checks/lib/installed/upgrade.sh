@@ -2,15 +2,15 @@
 # shellcheck shell=sh disable=SC2154
 
 make_home
-prefix=$folder/place
+prefix=$folder/prefix
 ./install --prefix "$prefix" > "$folder/output"
 list=$prefix/lib/fethsaim/installed
 echo older > "$prefix/share/man/man1/mcs4-older.1"
 echo older > "$prefix/lib/fethsaim/tools/older"
 mkdir "$prefix/lib/fethsaim/older"
 echo older > "$prefix/lib/fethsaim/older/older"
-for each in share/man/man1/mcs4-older.1 lib/fethsaim/tools/older lib/fethsaim/older/older; do
-    echo "file $(sha256sum < "$prefix/$each" | cut -d ' ' -f 1) $each"
+for name in share/man/man1/mcs4-older.1 lib/fethsaim/tools/older lib/fethsaim/older/older; do
+    echo "file $(sha256sum < "$prefix/$name" | cut -d ' ' -f 1) $name"
 done >> "$list"
 echo older > "$prefix/share/man/man1/mcs4-oldest.1"
 echo "file share/man/man1/mcs4-oldest.1" >> "$list"

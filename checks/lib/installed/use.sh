@@ -2,7 +2,7 @@
 # shellcheck shell=sh disable=SC2154
 
 make_home
-prefix=$folder/place
+prefix=$folder/prefix
 verdict "$(outcome ./install --prefix "$prefix")" "mcs4 is installed: $prefix/bin/mcs4
 $prefix/bin is not on the PATH; to add it: PATH=$prefix/bin:\$PATH
 status 0" "./install"

@@ -10,19 +10,19 @@ from typing import NamedTuple
 
 
 class FileSystem(NamedTuple):
-    """A file system. `size` is the size of its disk in MiB, and `package` the Debian package of the command that creates it. `options` are the mount
-    options besides noatime, and `frequent_commit_options` make it commit every second. `modules` are its kernel modules. `atomic_blocks` is true if
-    the file system needs each block of 4 KiB to be written completely or not at all. `shows_stale_data` is true if unwritten parts of a file can
-    contain old data of the disk."""
+    """A file system. `size_mib` is the size of its disk in MiB, and `package` the Debian package of the command that creates it. `options` are the
+    mount options besides noatime, and `frequent_commit_options` make it commit every second. `modules` are its kernel modules. `needs_atomic_blocks`
+    is true if the file system needs each block of 4 KiB to be written completely or not at all. `shows_stale_data` is true if unwritten parts of a
+    file can contain old data of the disk."""
     name: str
-    size: int
+    size_mib: int
     make_command: tuple[str, ...]
     package: str
     type: str
     options: str
     frequent_commit_options: str
     modules: tuple[str, ...]
-    atomic_blocks: bool = False
+    needs_atomic_blocks: bool = False
     shows_stale_data: bool = False
 
 
@@ -38,10 +38,10 @@ def ext(name: str, options: str = "", *arguments: str) -> FileSystem:
 
 def btrfs(name: str, options: str = "") -> FileSystem:
     """Returns a btrfs file system with this name and these mount options."""
-    return FileSystem(name, 128, MAKE_BTRFS, "btrfs-progs", "btrfs", options, "commit=1", ("btrfs",), atomic_blocks=True)
+    return FileSystem(name, 128, MAKE_BTRFS, "btrfs-progs", "btrfs", options, "commit=1", ("btrfs",), needs_atomic_blocks=True)
 
 
-FILE_SYSTEMS = {kind.name: kind for kind in (
+FILE_SYSTEMS = {file_system.name: file_system for file_system in (
     ext("ext4"),
     ext("ext4-writeback", "data=writeback"),
     ext("ext4-journal", "data=journal"),
@@ -116,58 +116,60 @@ ALL_COMMANDS, MORE_COMMANDS, FEW_COMMANDS = 110, 24, 12
 
 
 class Trial(NamedTuple):
-    """A case on a kind of file system. `images` is the number of images to examine after the first cut. `generations` is how many times one of them
+    """A case on a file system. `image_count` is the number of images to examine after the first cut. `generation_count` is how many times one of them
     becomes the disk and the power is cut again. `is_busy` is true if another program writes to the file system, which then commits every second.
-    `wrong` names the error of the program or of the mount, if any: a step that is omitted or moved. The trial must then detect that data is lost."""
-    kind: str
+    `injected_error` names the error of the program or of the mount, if any: a step that is omitted or moved. The trial must then detect that data is
+    lost."""
+    file_system: str
     case: str
-    images: int
-    generations: int = 0
+    image_count: int
+    generation_count: int = 0
     is_busy: bool = False
-    wrong: str = ""
+    injected_error: str = ""
 
     @property
     def name(self) -> str:
         """The trial's name in messages."""
-        return f"{self.kind}, {self.case}{', ' * bool(self.wrong)}{self.wrong}"
+        return f"{self.file_system}, {self.case}{', ' * bool(self.injected_error)}{self.injected_error}"
 
 
 NO_BARRIER = "no barrier"
 # Trials with an omitted or moved step, which must detect that data is lost. In the last but one, `open` does not sync the file's folder.
 FAULTY_TRIALS = (
-    Trial("ext4-nobarrier", "served", 60, wrong=NO_BARRIER),
-    Trial("ext4", "served", 60, wrong="no sync"),
-    Trial("ext4", "served", 200, wrong="no first sync"),
-    Trial("xfs", "served", 60, wrong="no second sync"),
-    Trial("ext4", "carried", 300, wrong="no snapshot sync"),
-    Trial("vfat", "carried", 300, wrong="no snapshot sync"),
-    Trial("ext4", "served", 60, wrong="second sync first"),
-    Trial("xfs", "served", 60, wrong="answer first"),
-    Trial("ext4", "copied", 40, wrong="no opening sync"),
-    Trial("vfat", "long-copied", 40, wrong="no folder sync"),
-    Trial("vfat", "new-folder", 40, wrong="no folder sync"),
+    Trial("ext4-nobarrier", "served", 60, injected_error=NO_BARRIER),
+    Trial("ext4", "served", 60, injected_error="no sync"),
+    Trial("ext4", "served", 200, injected_error="no first sync"),
+    Trial("xfs", "served", 60, injected_error="no second sync"),
+    Trial("ext4", "carried", 300, injected_error="no snapshot sync"),
+    Trial("vfat", "carried", 300, injected_error="no snapshot sync"),
+    Trial("ext4", "served", 60, injected_error="second sync first"),
+    Trial("xfs", "served", 60, injected_error="answer first"),
+    Trial("ext4", "copied", 40, injected_error="no opening sync"),
+    Trial("vfat", "long-copied", 40, injected_error="no folder sync"),
+    Trial("vfat", "new-folder", 40, injected_error="no folder sync"),
 )
 
 
-def cases_of(kind: str) -> list[str]:
-    """Returns the names of the cases of NEW_CASES and OPEN_CASES for a kind of file system. Omits `new-link` for the kinds that show stale data:
+def cases_of(file_system: str) -> list[str]:
+    """Returns the names of the cases of NEW_CASES and OPEN_CASES for a file system. Omits `new-link` for those that show stale data:
     of these, only vfat is used here, and FAT has no links."""
-    return [*NEW_CASES, *([] if FILE_SYSTEMS[kind].shows_stale_data else ["new-link"]), *OPEN_CASES]
+    return [*NEW_CASES, *([] if FILE_SYSTEMS[file_system].shows_stale_data else ["new-link"]), *OPEN_CASES]
 
 
 def long_trials() -> list[Trial]:
     """Returns the trials of `checks/power --long`."""
-    trials = [Trial(kind, case, 20) for kind in ("ext4", "xfs", "btrfs", "vfat") for case in cases_of(kind)]
-    for kind in ("ext4", "ext4-writeback", "xfs", "btrfs", "vfat", "exfat"):
-        trials.append(Trial(kind, "new", 150, 1, is_busy=True))
-        trials.append(Trial(kind, "served", 60, 5, is_busy=True))
-        trials.append(Trial(kind, "carried", 60, 5))
+    trials = [Trial(file_system, case, 20) for file_system in ("ext4", "xfs", "btrfs", "vfat") for case in cases_of(file_system)]
+    for file_system in ("ext4", "ext4-writeback", "xfs", "btrfs", "vfat", "exfat"):
+        trials.append(Trial(file_system, "new", 150, 1, is_busy=True))
+        trials.append(Trial(file_system, "served", 60, 5, is_busy=True))
+        trials.append(Trial(file_system, "carried", 60, 5))
     return [*trials, *FAULTY_TRIALS]
 
 
 def short_trials() -> list[Trial]:
     """Returns the trials of `checks/power`: ext4 and vfat, each with the cases in which data is most easily lost."""
     trials = [Trial("vfat", case, 10) for case in ("new-folder", "long-copied", "folder-copied", "folder-moved")]
-    trials += [Trial(kind, "carried", 30, 2) for kind in ("ext4", "vfat")]
-    trials += [Trial(kind, "new", 60, 1, is_busy=True) for kind in ("ext4", "vfat")]
-    return [*trials, *(trial for trial in FAULTY_TRIALS if trial.wrong in ("no sync", "no second sync", "no folder sync") and trial.kind != "xfs")]
+    trials += [Trial(file_system, "carried", 30, 2) for file_system in ("ext4", "vfat")]
+    trials += [Trial(file_system, "new", 60, 1, is_busy=True) for file_system in ("ext4", "vfat")]
+    return [*trials, *(trial for trial in FAULTY_TRIALS
+                       if trial.injected_error in ("no sync", "no second sync", "no folder sync") and trial.file_system != "xfs")]

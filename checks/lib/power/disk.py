@@ -48,9 +48,9 @@ class Disk:
         os.ftruncate(self.memory, size)
         self.bytes = mmap.mmap(self.memory, size)
         self.events: list[Event] | None = None
-        self.undo: list[tuple[int, bytes]] | None = None
+        self.undo_log: list[tuple[int, bytes]] | None = None
         self.is_late = False
-        self.count = 0
+        self.request_count = 0
         self.rng = random.Random(seed)
 
     @property
@@ -64,16 +64,16 @@ class Disk:
         os.close(self.memory)
 
     def write(self, offset: int, data: bytes) -> None:
-        """Writes bytes. If `undo` is a list, adds the old bytes to it."""
-        if self.undo is not None:
-            self.undo.append((offset, self.bytes[offset:offset + len(data)]))
+        """Writes bytes. If `undo_log` is a list, adds the old bytes to it."""
+        if self.undo_log is not None:
+            self.undo_log.append((offset, self.bytes[offset:offset + len(data)]))
         self.bytes[offset:offset + len(data)] = data
 
     def undo_writes(self) -> None:
-        """Undoes all writes since `undo` was set to a list."""
-        for offset, data in reversed(self.undo or []):
+        """Undoes all writes since `undo_log` was set to a list."""
+        for offset, data in reversed(self.undo_log or []):
             self.bytes[offset:offset + len(data)] = data
-        self.undo = None
+        self.undo_log = None
 
     def add_event(self, kind: str, number: int, offset: int = 0, data: bytes = b"") -> None:
         """Adds an event to `events`, if that is a list."""
@@ -148,13 +148,13 @@ class Connection:
         if kind == READ:
             self.answer(handle, disk.bytes[offset:offset + length])
         elif kind == WRITE:
-            disk.count += 1
-            disk.add_event("write", disk.count, offset, data)
+            disk.request_count += 1
+            disk.add_event("write", disk.request_count, offset, data)
             disk.write(offset, data)
             self.queue_answer("wrote", handle, disk)
         elif kind == FLUSH:
-            disk.count += 1
-            disk.add_event("flush", disk.count)
+            disk.request_count += 1
+            disk.add_event("flush", disk.request_count)
             self.queue_answer("flushed", handle, disk)
         elif kind == DISCONNECT:
             self.on_end(self.channel)
@@ -171,7 +171,7 @@ class Connection:
     def queue_answer(self, kind: str, handle: int, disk: Disk) -> None:
         """Adds a write or a flush to the unanswered requests. Unless the disk is late, answers one of these immediately. `kind` is the kind of the
         event for the answer."""
-        self.unanswered.append((kind, disk.count, handle))
+        self.unanswered.append((kind, disk.request_count, handle))
         if not disk.is_late:
             self.answer_random_request()
 

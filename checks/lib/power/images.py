@@ -19,7 +19,7 @@ from power.disk import Disk, Event
 SECTOR, BLOCK = 512, 4096
 # After each write and each flush, IMAGES_PER_WRITE random images are drawn for each pending write, for at most MAX_PENDING pending writes.
 IMAGES_PER_WRITE, MAX_PENDING = 12, 4
-# The phase "beginning" has this number of events, from the first answer on.
+# The number of events in the phase "beginning", which starts with the first answer.
 BEGINNING_EVENTS = 20
 
 # The phase of a cut: before the program's first answer, soon after it, while a snapshot is written, or at any other time.
@@ -32,15 +32,15 @@ Part = tuple[int, int] | None
 
 @dataclasses.dataclass
 class Image:
-    """Possible contents of the disk after a power cut. Cuts after the event with the number `first`, or after a later event up to `last`, can leave
-    this image. After each of these cuts, at least `min_commands` and at most `max_commands` commands must be found. `min_commands` is None before the
-    first answer if no session existed at the beginning. `durable` is the number of durable writes, and `parts` has the parts of the pending writes
-    that are on the disk. `selection` names how the parts were selected: none, all or some."""
-    first: int
-    last: int
+    """Possible contents of the disk after a power cut. Cuts after the event with the number `first_event`, or after a later event up to `last_event`,
+    can leave this image. After each of these cuts, at least `min_commands` and at most `max_commands` commands must be found. `min_commands` is None
+    before the first answer if no session existed at the beginning. `durable_count` is the number of durable writes, and `parts` has the parts of the
+    pending writes that are on the disk. `selection` names how the parts were selected: none, all or some."""
+    first_event: int
+    last_event: int
     phase: Phase
     selection: str
-    durable: int
+    durable_count: int
     parts: dict[int, Part]
     min_commands: int | None
     max_commands: int
@@ -52,7 +52,7 @@ class Image:
 
     def add_cut(self, event_number: int, min_commands: int | None, max_commands: int) -> None:
         """Adds a cut after a later event that leaves the same image, and narrows the allowed numbers of commands."""
-        self.last = event_number
+        self.last_event = event_number
         if min_commands is not None:
             self.min_commands = min_commands if self.min_commands is None else max(self.min_commands, min_commands)
         self.max_commands = min(self.max_commands, max_commands)
@@ -61,21 +61,21 @@ class Image:
 class History:
     """The events on a disk while a session was served on it."""
 
-    def __init__(self, events: list[Event], initial_commands: int, is_durable: bool, snapshots: set[int], atomic_blocks: bool,
+    def __init__(self, events: list[Event], initial_commands: int, is_durable: bool, snapshots: set[int], needs_atomic_blocks: bool,
                  rng: random.Random) -> None:
         """`initial_commands` is the number of commands in the session at the beginning. `is_durable` is true if the session was durable then.
-        `snapshots` has the numbers of the commands at which a snapshot is written. If `atomic_blocks` is true, no block of 4,096 bytes is half
+        `snapshots` has the numbers of the commands at which a snapshot is written. If `needs_atomic_blocks` is true, no block of 4,096 bytes is half
         written."""
-        self.events, self.first, self.snapshots, self.rng = events, initial_commands, snapshots, rng
-        self.start = initial_commands if is_durable else None
-        self.atomic_blocks = atomic_blocks
+        self.events, self.initial_commands, self.snapshots, self.rng = events, initial_commands, snapshots, rng
+        self.initially_acknowledged = initial_commands if is_durable else None
+        self.needs_atomic_blocks = needs_atomic_blocks
         durable_at = self.durable_at()
         never = len(events) + 1
         self.writes = {event.number: event for event in events if event.kind == "write"}
         # Sorted by the time at which they become durable, so that the durable writes of each image are the first ones in this list.
-        self.by_durability = sorted(self.writes, key=lambda number: (durable_at.get(number, never), number))
-        self.durable_places = [durable_at.get(number, never) for number in self.by_durability]
-        self.rank = {number: rank for rank, number in enumerate(self.by_durability)}
+        self.writes_by_durability = sorted(self.writes, key=lambda number: (durable_at.get(number, never), number))
+        self.durability_events = [durable_at.get(number, never) for number in self.writes_by_durability]
+        self.rank = {number: rank for rank, number in enumerate(self.writes_by_durability)}
 
     def count(self, kind: str) -> int:
         """Returns the number of events of a kind."""
@@ -101,8 +101,8 @@ class History:
         """Returns the images that cuts after each event can leave, each image once, in chronological order. For partly written data, only random
         samples are included."""
         images: dict[bytes, Image] = {}
-        answered, sent, first_answer = self.start, self.first, 0
-        durable, pending = 0, list[int]()
+        answered, sent, first_answer = self.initially_acknowledged, self.initial_commands, 0
+        durable_count, pending = 0, list[int]()
         for event_number, event in enumerate(self.events, 1):
             if event.kind == "answered":
                 answered, first_answer = event.number, first_answer or event_number
@@ -111,13 +111,13 @@ class History:
             elif event.kind == "write":
                 pending.append(event.number)
             elif event.kind == "flushed":
-                while durable < len(self.by_durability) and self.durable_places[durable] <= event_number:
-                    pending.remove(self.by_durability[durable])
-                    durable += 1
+                while durable_count < len(self.writes_by_durability) and self.durability_events[durable_count] <= event_number:
+                    pending.remove(self.writes_by_durability[durable_count])
+                    durable_count += 1
             phase = self.phase(event_number, first_answer, answered, sent)
             for selection, parts in self.selections_after(event, pending):
-                key = hashlib.sha256(repr((durable, sorted(parts.items()))).encode()).digest()
-                image = images.setdefault(key, Image(event_number, event_number, phase, selection, durable, parts, answered, sent))
+                key = hashlib.sha256(repr((durable_count, sorted(parts.items()))).encode()).digest()
+                image = images.setdefault(key, Image(event_number, event_number, phase, selection, durable_count, parts, answered, sent))
                 image.add_cut(event_number, answered, sent)
         return list(images.values())
 
@@ -141,7 +141,7 @@ class History:
     def random_parts(self, pending: list[int]) -> dict[int, Part]:
         """Returns random parts of these writes: all, none, or some of the sectors or blocks of each one. Omits the writes that did not reach the disk
         at all."""
-        unit = BLOCK if self.atomic_blocks else self.rng.choice((SECTOR, BLOCK))
+        unit = BLOCK if self.needs_atomic_blocks else self.rng.choice((SECTOR, BLOCK))
         parts: dict[int, Part] = {}
         for write in pending:
             choice = self.rng.randrange(3)
@@ -158,31 +158,31 @@ class History:
         chosen_images: list[Image] = []
         for index, group in enumerate(groups):
             chosen_images += self.rng.sample(group, min(len(group), (count - len(chosen_images)) // (len(groups) - index)))
-        return sorted(chosen_images, key=lambda image: image.first)
+        return sorted(chosen_images, key=lambda image: image.first_event)
 
 
-class Builder:
+class ImageBuilder:
     """Writes the images of a history to its disk one after another, in chronological order. At the start, the disk must have its content from before
     the history."""
 
     def __init__(self, disk: Disk, history: History) -> None:
         self.disk, self.history = disk, history
         self.order = list(history.writes.values())
-        self.placed = 0
-        self.replaced: list[tuple[int, bytes]] = []
+        self.permanent_count = 0
+        self.permanent_undo_log: list[tuple[int, bytes]] = []
 
     def build(self, image: Image) -> None:
         """Writes an image to the disk, in the order in which the writes arrived. The durable writes at the beginning of this order are permanent.
         `disk.undo_writes` undoes the others."""
         rank = self.history.rank
-        while self.placed < len(self.order) and rank[self.order[self.placed].number] < image.durable:
-            write = self.order[self.placed]
-            self.replaced.append((write.offset, self.disk.bytes[write.offset:write.offset + len(write.data)]))
+        while self.permanent_count < len(self.order) and rank[self.order[self.permanent_count].number] < image.durable_count:
+            write = self.order[self.permanent_count]
+            self.permanent_undo_log.append((write.offset, self.disk.bytes[write.offset:write.offset + len(write.data)]))
             self.disk.write(write.offset, write.data)
-            self.placed += 1
-        self.disk.undo = []
-        for write in self.order[self.placed:]:
-            if rank[write.number] < image.durable:
+            self.permanent_count += 1
+        self.disk.undo_log = []
+        for write in self.order[self.permanent_count:]:
+            if rank[write.number] < image.durable_count:
                 self.disk.write(write.offset, write.data)
             elif write.number in image.parts:
                 self.write_part(write, image.parts[write.number])
@@ -199,12 +199,12 @@ class Builder:
 
     def undo_all(self) -> None:
         """Undoes the permanent writes of all images since the beginning."""
-        for offset, data in reversed(self.replaced):
+        for offset, data in reversed(self.permanent_undo_log):
             self.disk.write(offset, data)
-        self.placed, self.replaced = 0, []
+        self.permanent_count, self.permanent_undo_log = 0, []
 
     def write_permanently(self, image: Image) -> None:
         """Writes an image to the disk permanently, regardless of its previous contents."""
         self.undo_all()
         self.build(image)
-        self.disk.undo = None
+        self.disk.undo_log = None

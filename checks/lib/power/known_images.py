@@ -5,7 +5,7 @@ from __future__ import annotations
 import random
 
 from power.disk import Disk, Event
-from power.images import BLOCK, SECTOR, Builder, History, Image
+from power.images import BLOCK, SECTOR, ImageBuilder, History, Image
 
 A, B, C = b"a" * SECTOR, b"b" * SECTOR, b"c" * SECTOR
 OLD = bytes(SECTOR)
@@ -30,7 +30,7 @@ def images_of(history: History, size: int) -> list[tuple[bytes, Image]]:
     """Returns all images of a history, each as a pair: the first `size` bytes of a disk with this image, and the image. Before the history, the disk
     has only zeros."""
     disk = Disk(BLOCK)
-    builder = Builder(disk, history)
+    builder = ImageBuilder(disk, history)
     images = []
     for image in history.all_images():
         builder.build(image)
@@ -70,16 +70,16 @@ def check_writes_to_one_sector() -> bool:
     pending_images = images_of(history_of(events), SECTOR)
     contents_with_both = {data for data, image in pending_images if image.parts == {1: None, 2: None}}
     last_image = history_of([*events, event_of("flush", 3), event_of("flushed", 3)]).all_images()[-1]
-    return {data for data, _ in pending_images} == {OLD, A, B} and contents_with_both == {B} and last_image.durable == 2 and not last_image.parts
+    return {data for data, _ in pending_images} == {OLD, A, B} and contents_with_both == {B} and last_image.durable_count == 2 and not last_image.parts
 
 
 def check_command_bounds() -> bool:
     """Checks the bounds of the number of commands: at least the commands acknowledged before the cut, and at most the commands sent before it. Before
     the first answer, there is no lower bound."""
-    events = history_of([write_event(1, 0, A), event_of("answered", 0), event_of("sent", 1), write_event(2, 0, B), event_of("wrote", 2), event_of("flush", 3),
-                    event_of("flushed", 3), event_of("answered", 1)])
-    bounds_by_image = {(image.durable, len(image.parts)): (image.min_commands, image.max_commands)
-                       for image in events.all_images() if image.selection != "some"}
+    history = history_of([write_event(1, 0, A), event_of("answered", 0), event_of("sent", 1), write_event(2, 0, B), event_of("wrote", 2),
+                          event_of("flush", 3), event_of("flushed", 3), event_of("answered", 1)])
+    bounds_by_image = {(image.durable_count, len(image.parts)): (image.min_commands, image.max_commands)
+                       for image in history.all_images() if image.selection != "some"}
     return bounds_by_image == {(0, 0): (0, 0), (0, 1): (0, 0), (0, 2): (0, 1), (1, 0): (1, 1), (1, 1): (1, 1)}
 
 
@@ -91,16 +91,16 @@ def check_command_bounds_of_copy() -> bool:
 
 def check_permanent_images() -> bool:
     """Checks that an image can be written permanently, and then another one, regardless of the first."""
-    events = history_of([write_event(1, 0, A), event_of("wrote", 1), event_of("flush", 2), event_of("flushed", 2), write_event(3, 0, B)])
+    history = history_of([write_event(1, 0, A), event_of("wrote", 1), event_of("flush", 2), event_of("flushed", 2), write_event(3, 0, B)])
     disk = Disk(BLOCK)
-    builder = Builder(disk, events)
-    images = events.all_images()
+    builder = ImageBuilder(disk, history)
+    images = history.all_images()
     builder.build(images[-1])
     disk.undo_writes()
     builder.write_permanently(images[0])
     is_old = disk.bytes[:SECTOR] == OLD
-    builder.write_permanently(next(image for image in images if image.durable and image.selection == "all" and image.parts))
-    return is_old and disk.bytes[:SECTOR] == B and disk.undo is None
+    builder.write_permanently(next(image for image in images if image.durable_count and image.selection == "all" and image.parts))
+    return is_old and disk.bytes[:SECTOR] == B and disk.undo_log is None
 
 
 CHECKS = (check_durable_after_flush, check_new_or_old_sectors, check_atomic_blocks, check_writes_to_one_sector, check_command_bounds,

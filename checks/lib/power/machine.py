@@ -34,7 +34,7 @@ while read -r line; do eval "$line"; echo "done $?"; done
 # its timer broken. QEMU's default processor is too old for Debian's glibc.
 KERNEL_ARGUMENTS = "console=ttyS0 loglevel=5 panic=-1 mitigations=off random.trust_cpu=on clearcpuid=cx16 no_timer_check cryptomgr.notests"
 PROCESSOR = "Nehalem"
-MEMORY = 512
+MEMORY_MIB = 512
 BOOT_SECONDS = 900
 # The seconds for which a disk holds back an answer, so that other answers can overtake it.
 ANSWER_DELAY = 0.0005
@@ -119,7 +119,7 @@ def create_initramfs(folder: pathlib.Path, kernel: Kernel, names: list[str], fil
     return archive
 
 
-class Line:
+class SerialLine:
     """A serial line of the machine, with the text that the machine has written to it."""
 
     def __init__(self) -> None:
@@ -148,7 +148,7 @@ class Machine:
         self.console.write_bytes(b"")
         self.selector = selectors.DefaultSelector()
         self.connections: list[Connection] = []
-        self.shell, self.program = Line(), Line()
+        self.shell, self.program = SerialLine(), SerialLine()
         for name in ("disk", "shell", "program"):
             (folder / name).unlink(missing_ok=True)
             listener = socket.socket(socket.AF_UNIX)
@@ -163,7 +163,7 @@ class Machine:
 
     def qemu_command(self, folder: pathlib.Path, kernel: Kernel, archive: pathlib.Path) -> list[str]:
         """Returns the command line that starts QEMU."""
-        command = ["qemu-system-x86_64", "-accel", "tcg", "-cpu", PROCESSOR, "-m", str(MEMORY), "-smp", "1", "-nodefaults", "-no-user-config",
+        command = ["qemu-system-x86_64", "-accel", "tcg", "-cpu", PROCESSOR, "-m", str(MEMORY_MIB), "-smp", "1", "-nodefaults", "-no-user-config",
                  "-display", "none", "-nic", "none", "-no-reboot", "-kernel", str(kernel.image), "-initrd", str(archive),
                  "-append", KERNEL_ARGUMENTS, "-chardev", f"file,id=console,path={self.console}", "-serial", "chardev:console"]
         command += ["-chardev", f"socket,id=shell,path={folder}/shell", "-serial", "chardev:shell", "-device", "virtio-serial-pci",
@@ -219,7 +219,7 @@ class Machine:
         if self.process.poll() is not None:
             raise PowerCheckError(f"QEMU has ended with status {self.process.returncode}; the last lines:\n{self.last_lines()}")
 
-    def receive(self, line: Line, seconds: float = 600) -> str:
+    def receive(self, line: SerialLine, seconds: float = 600) -> str:
         """Returns the next line of text from a serial line. Raises PowerCheckError if none arrives within this number of seconds."""
         deadline = time.monotonic() + seconds
         while not line.texts:

@@ -1,5 +1,5 @@
 /* A library with deliberately faulty implementations of the calls that sync a file. The program is started with this library loaded before the C
-   library (LD_PRELOAD). The environment variable WRONG selects one of these errors:
+   library (LD_PRELOAD). The environment variable SYNC_ERROR selects one of these errors:
 
      no sync             a sync of data does nothing
      no first sync       the sync of a record or of a snapshot does nothing; the sync of its commit byte or selector is done
@@ -24,9 +24,9 @@ static int postponed_file = -1; /* the descriptor of the file whose one-byte wri
 static char postponed_byte;
 static off_t postponed_offset;
 
-static int is_selected(const char *wrong) {
-    const char *selected = getenv("WRONG");
-    return selected && strcmp(selected, wrong) == 0;
+static int is_selected(const char *error) {
+    const char *selected = getenv("SYNC_ERROR");
+    return selected && strcmp(selected, error) == 0;
 }
 
 static int real_sync(const char *name, int file) {

@@ -1,4 +1,4 @@
-"""The requirements of the check: programs, a kernel and space."""
+"""The requirements of checks/power: programs, a kernel and space."""
 
 from __future__ import annotations
 
@@ -9,7 +9,7 @@ import shutil
 import subprocess
 import sys
 
-from power.machine import MEMORY, Kernel
+from power.machine import MEMORY_MIB, Kernel
 
 # Programs that each machine needs, with their Debian packages.
 PROGRAMS = {"qemu-system-x86_64": "qemu-system-x86", "cpio": "cpio", "busybox": "busybox-static", "setpriv": "util-linux",
@@ -78,15 +78,15 @@ def fetch_kernel() -> int:
     return status
 
 
-def missing_space_message(folder: pathlib.Path, disk: int) -> str:
+def missing_space_message(folder: pathlib.Path, disk_bytes: int) -> str:
     """Returns a message if there is too little memory for a machine with a disk of this size in bytes, or too little space for its images; otherwise
     ""."""
-    needed = MEMORY * MEBIBYTE + 3 * disk
+    needed = MEMORY_MIB * MEBIBYTE + 3 * disk_bytes
     memory = pathlib.Path("/proc/meminfo").read_text()
     available = re.search(r"MemAvailable: +(\d+) kB", memory)
     if available and int(available[1]) * 1024 < needed:
         return f"{needed // MEBIBYTE} MB of memory are needed, {int(available[1]) // 1024} are available"
     free = shutil.disk_usage(folder).free
-    if free < 2 * disk:
-        return f"{2 * disk // MEBIBYTE} MB are needed in {folder}, {free // MEBIBYTE} are free"
+    if free < 2 * disk_bytes:
+        return f"{2 * disk_bytes // MEBIBYTE} MB are needed in {folder}, {free // MEBIBYTE} are free"
     return ""

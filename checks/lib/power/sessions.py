@@ -30,7 +30,7 @@ QUERIES = "state\nram 0\n" + "".join(f"list {256 * chip} 256\n" for chip in rang
 # The number of short commands at the beginning. Their cycles fill the log. The later commands are long, so that their bytes fill the log.
 SHORT_COMMANDS = 48
 # The number of lines in a long text, and the number of bytes in each of them.
-LINES, BYTES_PER_LINE = 37, 100
+LONG_TEXT_LINES, BYTES_PER_LINE = 37, 100
 # The offset of the version in a state, and version 2. A state of version 1 has something else at this offset.
 VERSION_OFFSET, VERSION_2 = 4, 2
 
@@ -42,7 +42,7 @@ def commands(count: int) -> list[str]:
     for number in range(len(all_commands), count):
         if number >= SHORT_COMMANDS and number % 4:
             line = "DB " + ",".join([str(number % 10)] * BYTES_PER_LINE) + "\n"
-            all_commands.append("asm\nORG 0x100\n" + line * LINES + ".")
+            all_commands.append("asm\nORG 0x100\n" + line * LONG_TEXT_LINES + ".")
         elif number % 8 == 7:
             all_commands.append(f"poke ram.0.{number % 256} {number % 16}")
         else:
@@ -81,7 +81,7 @@ class Sessions:
         self.commands = commands(count)
         self.states: list[str] = []
         self.snapshots: set[int] = set()
-        self.verdicts: dict[bytes, int | str] = {}
+        self.known_contents: dict[bytes, int | str] = {}
         self.serve_all()
 
     def run(self, arguments: list[str], text: str) -> tuple[str, bytes]:
@@ -130,9 +130,9 @@ class Sessions:
         """Returns the number of commands in a session file if the file has the state after these commands, otherwise a description, as `open_file`
         does."""
         key = hashlib.sha256(data).digest()
-        if key not in self.verdicts:
-            self.verdicts[key] = self.open_file(data)
-        return self.verdicts[key]
+        if key not in self.known_contents:
+            self.known_contents[key] = self.open_file(data)
+        return self.known_contents[key]
 
     def open_file(self, data: bytes) -> int | str:
         """Opens a session file with the program, and checks its state. Returns its number of commands, `blank` if `new` can begin a session in the

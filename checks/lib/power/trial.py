@@ -19,10 +19,10 @@ from typing import NamedTuple
 
 from power.cases import (ALL_COMMANDS, CASES, FEW_COMMANDS, FILE_SYSTEMS, MORE_COMMANDS, NO_BARRIER, Case, FileSystem, Trial)
 from power.disk import Disk, Event, PowerCheckError
-from power.images import Builder, History, Image, Phase
+from power.images import ImageBuilder, History, Image, Phase
 from power.machine import Machine
 from power.sessions import Sessions, has_version_1
-from session_file import SIZE
+from session_file import FILE_BYTES
 
 MEBIBYTE = 1 << 20
 # A shell line that starts another writer on the file system, so that the file system commits between the writes of the program.
@@ -30,7 +30,7 @@ START_OTHER_WRITER = "(cd /; n=/mnt/noise; while :; do echo noise >> $n/a; mv $n
 # Shell lines. START_PROGRAM starts the program with its serial line as input and output, and reports if the program ends unexpectedly.
 # STOP_AND_UNMOUNT ends all processes that use the file system, and unmounts it, with a second attempt because an ended process can keep the file
 # system in use for a moment.
-START_PROGRAM = "{{ {wrong} mcs4 {arguments} <&3 >&3; reported=$?; [ -e /tmp/end ] || echo ended with status $reported >&3; }} &"
+START_PROGRAM = "{{ {environment} mcs4 {arguments} <&3 >&3; status=$?; [ -e /tmp/end ] || echo ended with status $status >&3; }} &"
 STOP_AND_UNMOUNT = "cd /; : > /tmp/end; kill $busy; killall mcs4; wait; rm /tmp/end; umount /mnt || { sleep 1; umount /mnt; }"
 # The allowed results if the power is cut before the first answer of `new`, on a file system that shows only written data.
 ALLOWED_BEFORE_NEW = ("absent", "size 0", "blank", 0)
@@ -42,132 +42,133 @@ Contents = int | str
 
 
 class ExaminedImage(NamedTuple):
-    """The result of examining an image. `is_old` is true if the file has version 1."""
+    """The result of examining an image. `has_version_1` is true if the session file has version 1."""
     image: Image
     contents: Contents
-    is_old: bool
+    has_version_1: bool
 
 
 @dataclasses.dataclass
 class Outcome:
     """The result of a trial: the number of images and of errors, and a description of the first error."""
-    images: int = 0
+    image_count: int = 0
     error_count: int = 0
     first_error: str = ""
 
     def add(self, other: Outcome) -> None:
         """Adds another result."""
-        self.images += other.images
+        self.image_count += other.image_count
         self.error_count += other.error_count
         self.first_error = self.first_error or other.first_error
 
 
 @dataclasses.dataclass
 class Stage:
-    """One serving of a session: the arguments of the program, and the shell command directly before the program starts. `first` is the number of
-    commands in the session at the start, and `last` the number after its last command. `is_durable` is true if the session was already durable at the
-    start. `images` is the number of images to examine after the cut."""
+    """A stage of a trial, which serves a session until the power is cut: the arguments of the program, and the shell command directly before the
+    program starts. `initial_commands` is the number of commands in the session at the start, and `last_command` the number of the last command to
+    send. `is_durable` is true if the session was already durable at the start. `image_count` is the number of images to examine after the cut."""
     arguments: str
     before: str
-    first: int
-    last: int
+    initial_commands: int
+    last_command: int
     is_durable: bool
-    images: int
+    image_count: int
 
 
 class Runner:
-    """A machine with two disks, on which trials run. Images are written to `disk`. The machine copies the session files that it finds to `out`."""
+    """A machine with two disks, on which trials run. Images are written to `disk`. The machine copies the session files that it finds to
+    `output_disk`."""
 
     def __init__(self, machine: Machine, sessions: Sessions, image_folder: pathlib.Path, show_command: str, seed: int) -> None:
         """Images with errors are stored in `image_folder`. `show_command` is the command line that examines a stored image again, without the name of
         the image."""
         self.machine, self.sessions, self.image_folder, self.show_command = machine, sessions, image_folder, show_command
-        self.disk, self.out = machine.disks["disk"], machine.disks["out"]
+        self.disk, self.output_disk = machine.disks["disk"], machine.disks["out"]
         self.rng = random.Random(seed)
         self.junk = random.Random(1).randbytes(MEBIBYTE)
         self.stored_count = 0
 
     def run(self, trial: Trial) -> Outcome:
         """Runs a trial, and returns its result."""
-        kind, case = FILE_SYSTEMS[trial.kind], CASES[trial.case]
-        self.create_file_system(kind, trial, case)
-        last = ALL_COMMANDS if case.gets_all_commands else case.initial_commands + (MORE_COMMANDS if case.is_durable else FEW_COMMANDS)
-        stage = Stage(case.arguments, case.before, case.initial_commands, last, case.is_durable, trial.images)
+        file_system, case = FILE_SYSTEMS[trial.file_system], CASES[trial.case]
+        self.create_file_system(file_system, trial, case)
+        last_command = ALL_COMMANDS if case.gets_all_commands else case.initial_commands + (MORE_COMMANDS if case.is_durable else FEW_COMMANDS)
+        stage = Stage(case.arguments, case.before, case.initial_commands, last_command, case.is_durable, trial.image_count)
         outcome = Outcome()
-        for generation in range(trial.generations + 1):
+        for generation in range(trial.generation_count + 1):
             start_time = time.monotonic()
-            history = self.record(kind, trial, case, stage)
-            builder = Builder(self.disk, history)
-            images = history.draw(history.all_images(), stage.images)
+            history = self.record(file_system, trial, case, stage)
+            builder = ImageBuilder(self.disk, history)
+            images = history.draw(history.all_images(), stage.image_count)
             with self.examining():
-                examined_images = [self.examine(builder, kind, trial, case, image) for image in images]
+                examined_images = [self.examine(builder, file_system, trial, case, image) for image in images]
             results = self.report_results(trial, generation, history, examined_images, builder, time.monotonic() - start_time)
             outcome.add(results)
-            if results.error_count or generation == trial.generations:
+            if results.error_count or generation == trial.generation_count:
                 break
             next_image = self.choose_next_disk(trial, generation, examined_images)
             builder.write_permanently(next_image.image)
-            stage = self.next_stage(case, next_image.contents, max(15, trial.images // 4))
+            stage = self.next_stage(case, next_image.contents, max(15, trial.image_count // 4))
         return outcome
 
     # --- serving a session
 
     @staticmethod
-    def options(kind: FileSystem, trial: Trial) -> str:
+    def options(file_system: FileSystem, trial: Trial) -> str:
         """Returns the mount options besides noatime, separated by commas."""
-        return ",".join(filter(None, [kind.options, kind.frequent_commit_options if trial.is_busy else ""]))
+        return ",".join(filter(None, [file_system.options, file_system.frequent_commit_options if trial.is_busy else ""]))
 
-    def mount(self, kind: FileSystem, trial: Trial) -> None:
+    def mount(self, file_system: FileSystem, trial: Trial) -> None:
         """Mounts the disk at /mnt in the machine."""
-        options = ",".join(filter(None, ["noatime", self.options(kind, trial)]))
-        self.machine.run_successfully(f"blockdev --flushbufs /dev/vda; mount -t {kind.type} -o {options} /dev/vda /mnt")
+        options = ",".join(filter(None, ["noatime", self.options(file_system, trial)]))
+        self.machine.run_successfully(f"blockdev --flushbufs /dev/vda; mount -t {file_system.type} -o {options} /dev/vda /mnt")
 
-    def create_file_system(self, kind: FileSystem, trial: Trial, case: Case) -> None:
+    def create_file_system(self, file_system: FileSystem, trial: Trial, case: Case) -> None:
         """Creates a new file system, whose free blocks contain bytes other than zeros, and runs the synced shell commands of the case on it."""
-        size = kind.size * MEBIBYTE
+        size = file_system.size_mib * MEBIBYTE
         blank = Disk(size)
         for offset in range(0, size, MEBIBYTE):
             blank.bytes[offset:offset + MEBIBYTE] = self.junk
-        command = [*kind.make_command, blank.file]
+        command = [*file_system.make_command, blank.file]
         result = subprocess.run(command, stdout=subprocess.PIPE, stderr=subprocess.STDOUT, text=True, check=False)
         if result.returncode:
             raise PowerCheckError(f"{' '.join(command)}: {result.stdout}")
         self.disk.bytes[:size] = blank.bytes[:]
         blank.close()
         if case.setup:
-            self.mount(kind, trial)
+            self.mount(file_system, trial)
             self.machine.run_successfully(f"cd /mnt; {case.setup}; cd /; umount /mnt")
 
-    def record(self, kind: FileSystem, trial: Trial, case: Case, stage: Stage) -> History:
+    def record(self, file_system: FileSystem, trial: Trial, case: Case, stage: Stage) -> History:
         """Serves a session, and returns the events on the disk during that time. The disk is then restored to its previous state."""
-        self.disk.undo = []
+        self.disk.undo_log = []
         self.disk.events = events = list[Event]()
         self.disk.is_late = True
-        self.mount(kind, trial)
+        self.mount(file_system, trial)
         self.machine.run_successfully("cd /mnt; mkdir -p noise; busy=")
         if trial.is_busy:
             self.machine.run_successfully(START_OTHER_WRITER)
         if stage.before:
             self.machine.run_successfully(stage.before)
-        environment = f"LD_PRELOAD=/omit.so WRONG='{trial.wrong}'" if trial.wrong not in ("", NO_BARRIER) else ""
-        self.machine.run_successfully(START_PROGRAM.format(wrong=environment, arguments=stage.arguments))
+        environment = f"LD_PRELOAD=/omit.so SYNC_ERROR='{trial.injected_error}'" if trial.injected_error not in ("", NO_BARRIER) else ""
+        self.machine.run_successfully(START_PROGRAM.format(environment=environment, arguments=stage.arguments))
         self.serve(events, stage)
         self.disk.events = None
         self.disk.is_late = False
         self.machine.run_successfully(STOP_AND_UNMOUNT)
         self.disk.undo_writes()
         snapshots = set() if case.name.startswith("carried") else self.sessions.snapshots
-        return History(events, stage.first, stage.is_durable, snapshots, kind.atomic_blocks, self.rng)
+        return History(events, stage.initial_commands, stage.is_durable, snapshots, file_system.needs_atomic_blocks, self.rng)
 
     def serve(self, events: list[Event], stage: Stage) -> None:
         """Sends the commands of a session, one after another, and adds the events `sent` and `answered` to `events`."""
-        number, command = stage.first, ""
+        number, command = stage.initial_commands, ""
         while True:
             answer = self.machine.receive(self.machine.program)
             if not f"{answer} ".startswith(f"{'ok' if command else 'session'} {number} "):
                 raise PowerCheckError(f"in place of answer {number}: {answer}; the machine's last lines:\n{self.machine.last_lines()}")
             events.append(Event("answered", number))
-            if number == stage.last:
+            if number == stage.last_command:
                 return
             command = self.sessions.commands[number]
             number += 1
@@ -176,25 +177,25 @@ class Runner:
 
     # --- examining images
 
-    def examine(self, builder: Builder, kind: FileSystem, trial: Trial, case: Case, image: Image) -> ExaminedImage:
+    def examine(self, builder: ImageBuilder, file_system: FileSystem, trial: Trial, case: Case, image: Image) -> ExaminedImage:
         """Writes an image to the disk, lets the machine examine it, and returns the result. Then undoes the writes."""
         builder.build(image)
-        contents = self.contents_of_disk(kind, self.options(kind, trial), case.file)
+        contents = self.contents_of_disk(file_system, self.options(file_system, trial), case.file)
         self.disk.undo_writes()
-        return ExaminedImage(image, contents, isinstance(contents, int) and has_version_1(bytes(self.out.bytes[:SIZE])))
+        return ExaminedImage(image, contents, isinstance(contents, int) and has_version_1(bytes(self.output_disk.bytes[:FILE_BYTES])))
 
-    def contents_of_disk(self, kind: FileSystem, options: str, file: str) -> Contents:
+    def contents_of_disk(self, file_system: FileSystem, options: str, file: str) -> Contents:
         """Returns what a machine finds on its disk after a cut: a number of commands, or a description."""
-        self.machine.shell.send(f"{kind.type} {file} {options}")
+        self.machine.shell.send(f"{file_system.type} {file} {options}")
         answer = self.machine.receive(self.machine.shell)
-        if answer != f"size {SIZE}":
+        if answer != f"size {FILE_BYTES}":
             return answer
-        return self.sessions.commands_in(bytes(self.out.bytes[:SIZE]))
+        return self.sessions.commands_in(bytes(self.output_disk.bytes[:FILE_BYTES]))
 
     @contextlib.contextmanager
     def examining(self) -> Iterator[None]:
-        """While this context is active, the machine examines disks (look.c)."""
-        self.machine.shell.send("look")
+        """While this context is active, the machine examines disks (examine_images.c)."""
+        self.machine.shell.send("examine_images")
         yield
         self.machine.shell.send("")
         end = self.machine.receive(self.machine.shell)
@@ -204,16 +205,16 @@ class Runner:
     @staticmethod
     def verdict(trial: Trial, examined_image: ExaminedImage) -> str:
         """Returns `good` if an image has the required contents, a note if it has other contents that are allowed, or "" for an error."""
-        kind, case = FILE_SYSTEMS[trial.kind], CASES[trial.case]
+        file_system, case = FILE_SYSTEMS[trial.file_system], CASES[trial.case]
         image, contents = examined_image.image, examined_image.contents
         if contents == "not mounted" and image.is_torn:
             return "not mounted, with a torn block"
         if image.min_commands is None:
-            is_good = contents in ALLOWED_BEFORE_NEW if case.arguments.startswith("new") and not kind.shows_stale_data else contents != "not mounted"
+            is_good = contents in ALLOWED_BEFORE_NEW if case.arguments.startswith("new") and not file_system.shows_stale_data else contents != "not mounted"
             return f"before the first answer {contents}" if is_good else ""
         return "good" if isinstance(contents, int) and image.min_commands <= contents <= image.max_commands else ""
 
-    def report_results(self, trial: Trial, generation: int, history: History, examined_images: list[ExaminedImage], builder: Builder,
+    def report_results(self, trial: Trial, generation: int, history: History, examined_images: list[ExaminedImage], builder: ImageBuilder,
                        seconds: float) -> Outcome:
         """Prints the results for the images of a history, and stores some of the images with errors. Returns the number of images, the number of
         errors, and the first error."""
@@ -235,7 +236,7 @@ class Runner:
             print("    " + "; ".join(f"{number} {note}" for note, number in sorted(notes.items())), flush=True)
         messages = [self.error_message(examined_image, len(history.events)) for examined_image in images_with_errors[:MAX_REPORTED]]
         for message, examined_image in zip(messages, images_with_errors):
-            if not trial.wrong:
+            if not trial.injected_error:
                 print(f"ERROR in {name}: {message}", flush=True)
                 if examined_image.contents == "not mounted":
                     print(f"    the machine's last lines:\n{self.machine.last_lines()}", flush=True)
@@ -248,26 +249,26 @@ class Runner:
         image = examined_image.image
         acknowledged = "nothing" if image.min_commands is None else f"command {image.min_commands}"
         contents = f"{examined_image.contents} commands" if isinstance(examined_image.contents, int) else examined_image.contents
-        range_end = f" to {image.last}" if image.last > image.first else ""
-        return (f"cut at {image.first}{range_end} of {event_count} ({image.phase}): {acknowledged} acknowledged{' in the end' * bool(range_end)}, "
-                f"command {image.max_commands} sent, found: {contents}; {image.durable} writes durable, of {len(image.parts)} others {image.selection}")
+        range_end = f" to {image.last_event}" if image.last_event > image.first_event else ""
+        return (f"cut at {image.first_event}{range_end} of {event_count} ({image.phase}): {acknowledged} acknowledged{' in the end' * bool(range_end)}, "
+                f"command {image.max_commands} sent, found: {contents}; {image.durable_count} writes durable, of {len(image.parts)} others {image.selection}")
 
     # --- stored images, and the next disk
 
-    def store_image(self, trial: Trial, generation: int, builder: Builder, image: Image) -> None:
+    def store_image(self, trial: Trial, generation: int, builder: ImageBuilder, image: Image) -> None:
         """Stores an image in a file, with the expected result, and prints the command line that examines it again. Does nothing if MAX_STORED images
         are already stored."""
-        kind, case = FILE_SYSTEMS[trial.kind], CASES[trial.case]
+        file_system, case = FILE_SYSTEMS[trial.file_system], CASES[trial.case]
         if self.stored_count == MAX_STORED:
             return
         self.stored_count += 1
         self.image_folder.mkdir(parents=True, exist_ok=True)
-        name = self.image_folder / f"{trial.kind}-{trial.case}-{generation}-{image.first}.image"
+        name = self.image_folder / f"{trial.file_system}-{trial.case}-{generation}-{image.first_event}.image"
         builder.undo_all()
         builder.build(image)
-        name.write_bytes(self.disk.bytes[:kind.size * MEBIBYTE])
+        name.write_bytes(self.disk.bytes[:file_system.size_mib * MEBIBYTE])
         self.disk.undo_writes()
-        description = {"kind": trial.kind, "options": self.options(kind, trial), "file": case.file, "least": image.min_commands,
+        description = {"file_system": trial.file_system, "options": self.options(file_system, trial), "file": case.file, "least": image.min_commands,
                        "most": image.max_commands}
         name.with_suffix(".json").write_text(json.dumps(description))
         print(f"    examine it again: {self.show_command} --show {name}", flush=True)
@@ -275,13 +276,13 @@ class Runner:
     def examine_stored(self, name: pathlib.Path) -> bool:
         """Prints the contents of a stored image. Returns true if they are as required."""
         description = json.loads(name.with_suffix(".json").read_text())
-        kind, image = FILE_SYSTEMS[description["kind"]], name.read_bytes()
+        file_system, image = FILE_SYSTEMS[description["file_system"]], name.read_bytes()
         self.disk.bytes[:len(image)] = image
         with self.examining():
-            contents = self.contents_of_disk(kind, description["options"], description["file"])
+            contents = self.contents_of_disk(file_system, description["options"], description["file"])
         min_commands, max_commands = description["least"], description["most"]
         is_good = isinstance(contents, int) and (min_commands or 0) <= contents <= max_commands
-        print(f"{name}: {description['file']} on {kind.name}: {min_commands} commands acknowledged, {max_commands} sent, found: {contents}")
+        print(f"{name}: {description['file']} on {file_system.name}: {min_commands} commands acknowledged, {max_commands} sent, found: {contents}")
         return is_good
 
     def choose_next_disk(self, trial: Trial, generation: int, examined_images: list[ExaminedImage]) -> ExaminedImage:
@@ -298,14 +299,14 @@ class Runner:
             raise PowerCheckError(f"{trial.name}: no image holds a session")
 
         def rank(candidate: ExaminedImage) -> tuple[bool, bool, bool]:
-            return candidate.is_old, candidate.image.phase == preferred_phase, candidate.image.selection == "some"
+            return candidate.has_version_1, candidate.image.phase == preferred_phase, candidate.image.selection == "some"
 
         best = max(map(rank, valid))
         return self.rng.choice([candidate for candidate in valid if rank(candidate) == best])
 
     @staticmethod
-    def next_stage(case: Case, contents: Contents, images: int) -> Stage:
+    def next_stage(case: Case, contents: Contents, image_count: int) -> Stage:
         """Returns the stage of the next generation: the session continues, or is created if the file is blank."""
         if not isinstance(contents, int):
-            return Stage(case.arguments, "", 0, MORE_COMMANDS, False, images)
-        return Stage(f"open {case.file}", "", contents, contents + MORE_COMMANDS, True, images)
+            return Stage(case.arguments, "", 0, MORE_COMMANDS, False, image_count)
+        return Stage(f"open {case.file}", "", contents, contents + MORE_COMMANDS, True, image_count)

@@ -82,22 +82,22 @@ ok 10 - the number of \#
 status 1
 END
 check_test_output() {
-    verdict "$(outcome ./mcs4 test $three/board.toml $three/three_lamps.asm "$folder/lamps.test" 2>&1 | sed -n '/^TAP/p; /^1\.\./p; /ok [0-9]/p; /^  message/p; /^status/p')" \
+    verdict "$(outcome ./mcs4 test $three_lamps/board.toml $three_lamps/three_lamps.asm "$folder/lamps.test" 2>&1 | sed -n '/^TAP/p; /^1\.\./p; /ok [0-9]/p; /^  message/p; /^status/p')" \
         "$(cat "$folder/printed")" "$1"
 }
 check_test_output "conditions and failures"
 # Checks that the output is the same whichever awk is the first one on the PATH.
-for other in gawk mawk original-awk "busybox awk"; do
-    if command -v "${other%% *}" > /dev/null; then
+for awk_program in gawk mawk original-awk "busybox awk"; do
+    if command -v "${awk_program%% *}" > /dev/null; then
         mkdir -p "$folder/bin"
-        printf '#!/bin/sh\nexec %s "$@"\n' "$other" > "$folder/bin/awk"
+        printf '#!/bin/sh\nexec %s "$@"\n' "$awk_program" > "$folder/bin/awk"
         chmod +x "$folder/bin/awk"
         (
             PATH=$folder/bin:$PATH
-            outcome ./mcs4 test $three/board.toml $three/three_lamps.asm "$folder/lamps.test" |
+            outcome ./mcs4 test $three_lamps/board.toml $three_lamps/three_lamps.asm "$folder/lamps.test" |
                 sed -n '/^TAP/p; /^1\.\./p; /ok [0-9]/p; /^  message/p; /^status/p'
-        ) > "$folder/other"
-        verdict "$(cat "$folder/other")" "$(cat "$folder/printed")" "the results with $other"
+        ) > "$folder/other_awk"
+        verdict "$(cat "$folder/other_awk")" "$(cat "$folder/printed")" "the results with $awk_program"
     fi
 done
 

@@ -22,7 +22,7 @@ status 0
 covered
 # The cycles: FIM (2), twice JMS (2), CLC (1), BBL (1) and ISZ (2), then JCN (2) and JUN (2) are 18. With 11 more JUN of 2 cycles, they are 40.
 sed 's/^        10 /        11 /' < "$folder/covered" > "$folder/expected"
-verdict "$(outcome ./mcs4 cover --lcov "$folder/count.info" $three/board.toml "$folder/count.asm" "$folder/count.test")" \
+verdict "$(outcome ./mcs4 cover --lcov "$folder/count.info" $three_lamps/board.toml "$folder/count.asm" "$folder/count.test")" \
     "$(cat "$folder/expected")" "coverage, worked out manually"
 verdict "$(cat "$folder/count.info")" "TN:
 SF:$folder/count.asm
@@ -56,7 +56,7 @@ turn:   CLC
         NOP
 next:   JUN turn
 program
-verdict "$(outcome ./mcs4 cover --lcov "$folder/always.info" $three/board.toml "$folder/always.asm" "$folder/count.test")" \
+verdict "$(outcome ./mcs4 cover --lcov "$folder/always.info" $three_lamps/board.toml "$folder/always.asm" "$folder/count.test")" \
     "         8                turn:   CLC
          8 8/0                    JCN 10, next    ; if the carry is 0
      never                        NOP
@@ -120,20 +120,20 @@ check_unchanged() {
     check_rejected "$@"
     verdict "$(cmp "$file" "$folder/before" 2>&1; ls "$folder" | grep -F "${file##*/}.")" "" "$file is not overwritten"
 }
-cp $three/board.toml "$folder/mine.toml"
+cp $three_lamps/board.toml "$folder/mine.toml"
 cp "$folder/count.asm" "$folder/mine.asm"
 cover_usage="usage: mcs4 cover [-C FOLDER] [--lcov FILE] [BOARD PROGRAM] [TEST ..]
        mcs4 cover [--lcov FILE] --session SESSION CYCLES PROGRAM"
 check_unchanged "$folder/mine.toml" 2 "cover: TEST is missing
 $cover_usage" ./mcs4 cover --lcov "$folder/mine.toml" "$folder/count.asm" "$folder/count.test"
 check_unchanged "$folder/mine.toml" 1 "cover: $folder/mine.toml exists, and does not begin like an LCOV file (TN:); name another file, or move it away" \
-    ./mcs4 cover --lcov "$folder/mine.toml" $three/board.toml "$folder/count.asm" "$folder/count.test"
+    ./mcs4 cover --lcov "$folder/mine.toml" $three_lamps/board.toml "$folder/count.asm" "$folder/count.test"
 check_unchanged "$folder/mine.asm" 1 "cover: $folder/mine.asm is an input of this command, so it is not written; name another file" \
-    ./mcs4 cover --lcov "$folder/mine.asm" $three/board.toml "$folder/mine.asm" "$folder/count.test"
+    ./mcs4 cover --lcov "$folder/mine.asm" $three_lamps/board.toml "$folder/mine.asm" "$folder/count.test"
 printf ' LDX 5\n' > "$folder/wrong.asm"
 check_unchanged "$folder/count.info" 1 "cover: $folder/wrong.asm: line 1: no 30: LDX is not an instruction; LD or LDM?
-cover:      LDX 5" ./mcs4 cover --lcov "$folder/count.info" $three/board.toml "$folder/wrong.asm" "$folder/count.test"
+cover:      LDX 5" ./mcs4 cover --lcov "$folder/count.info" $three_lamps/board.toml "$folder/wrong.asm" "$folder/count.test"
 check_unchanged "$folder/calc.mcs" 1 "cover: $folder/calc.mcs is an input of this command, so it is not written; name another file" \
     ./mcs4 cover --lcov "$folder/calc.mcs" --session "$folder/calc.mcs" 10 $calculator/calculator.asm
-verdict "$(outcome ./mcs4 cover --lcov /dev/stdout $three/board.toml "$folder/count.asm" "$folder/count.test" | sed -n '/^TN:/,$p' | tail -n 2)" "end_of_record
+verdict "$(outcome ./mcs4 cover --lcov /dev/stdout $three_lamps/board.toml "$folder/count.asm" "$folder/count.test" | sed -n '/^TN:/,$p' | tail -n 2)" "end_of_record
 status 0" "the LCOV file to a pipe"

@@ -3,7 +3,7 @@
 # shellcheck shell=sh
 
 make_count
-verdict "$(outcome ./mcs4 profile $three/board.toml "$folder/count.asm" "$folder/count.test")" \
+verdict "$(outcome ./mcs4 profile $three_lamps/board.toml "$folder/count.asm" "$folder/count.test")" \
     "40 cycles, 0.4 ms
 
 label             at          own  own %     calls with calls    longest

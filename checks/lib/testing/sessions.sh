@@ -3,12 +3,12 @@
 # shellcheck shell=sh
 
 # FIM, SRC, LDM, XCH, LD and WMP are 7 cycles, and JMS and FIM 4 more. After 12 cycles, the first ISZ R3 has jumped, and its second cycle is pending.
-./mcs4 script $three/board.toml $three/three_lamps.asm | sed 's/^run 2000$/run 12/' | new_session inside
-verdict "$(outcome ./mcs4 cover --session "$folder/inside.mcs" 4 $three/three_lamps.asm | sed -n '/[0-9] .*ISZ/p; /^status/p')" \
+./mcs4 script $three_lamps/board.toml $three_lamps/three_lamps.asm | sed 's/^run 2000$/run 12/' | new_session inside
+verdict "$(outcome ./mcs4 cover --session "$folder/inside.mcs" 4 $three_lamps/three_lamps.asm | sed -n '/[0-9] .*ISZ/p; /^status/p')" \
     "         2 2/0            turn:   ISZ R3, turn
      never 0/0                    ISZ R2, turn
 status 0" "the effect of an instruction whose second cycle is pending"
-verdict "$(outcome ./mcs4 profile --session "$folder/inside.mcs" 4 $three/three_lamps.asm)" "4 cycles, 0.0 ms
+verdict "$(outcome ./mcs4 profile --session "$folder/inside.mcs" 4 $three_lamps/three_lamps.asm)" "4 cycles, 0.0 ms
 
 label             at          own  own %     calls with calls    longest
 turn              016           3   75.0
@@ -16,7 +16,7 @@ turn              016           3   75.0
 status 0" "the cycles of a session that begins and ends within instructions"
 printf 'test t\nrun 5\nrun 4\n' > "$folder/odd.test"
 printf 'y: NOP\n NOP\nx: JUN x\n' > "$folder/odd.asm"
-verdict "$(outcome ./mcs4 profile $three/board.toml "$folder/odd.asm" "$folder/odd.test")" "9 cycles, 0.1 ms
+verdict "$(outcome ./mcs4 profile $three_lamps/board.toml "$folder/odd.asm" "$folder/odd.test")" "9 cycles, 0.1 ms
 
 label             at          own  own %     calls with calls    longest
 x                 002           7   77.8
@@ -24,29 +24,29 @@ y                 000           2   22.2
 status 0" "the cycles of a test that ends within an instruction"
 # A call counts even if it leaves the return addresses unchanged. The oldest of the three open calls began in cycle 6.
 printf 'here: JMS here\n' > "$folder/odd.asm"
-verdict "$(outcome ./mcs4 profile $three/board.toml "$folder/odd.asm" "$folder/odd.test" | sed -n '4p; $p')" "here              000           9  100.0         5          3          3
+verdict "$(outcome ./mcs4 profile $three_lamps/board.toml "$folder/odd.asm" "$folder/odd.test" | sed -n '4p; $p')" "here              000           9  100.0         5          3          3
 status 0" "calls that change no return address"
-./mcs4 script $three/board.toml $three/three_lamps.asm | new_session free
+./mcs4 script $three_lamps/board.toml $three_lamps/three_lamps.asm | new_session free
 cp "$folder/free.mcs" "$folder/stopped.mcs"
 printf 'break 0x014\nbreak 0x016\nbreak 0x005\nwatch 0 0\nwatch 7 0xFF\n' | continue_session stopped
-for words in "cover --session SESSION 5000 $three/three_lamps.asm" "profile --session SESSION 5000 $three/three_lamps.asm" \
+for arguments in "cover --session SESSION 5000 $three_lamps/three_lamps.asm" "profile --session SESSION 5000 $three_lamps/three_lamps.asm" \
     "trace SESSION 1200" "wave SESSION 3000 lamps pc"; do
-    before=${words%%SESSION*}
-    after=${words#*SESSION}
-    verdict "$(outcome ./mcs4 $before"$folder/stopped.mcs"$after)" "$(outcome ./mcs4 $before"$folder/free.mcs"$after)" "a session with breakpoints and watches: $words"
+    before=${arguments%%SESSION*}
+    after=${arguments#*SESSION}
+    verdict "$(outcome ./mcs4 $before"$folder/stopped.mcs"$after)" "$(outcome ./mcs4 $before"$folder/free.mcs"$after)" "a session with breakpoints and watches: $arguments"
 done
 # Checks that a read-only session can be read.
 chmod 755 "$check_folder" "$folder"
 mkdir -m 777 "$folder/anyone"
 chmod 444 "$folder/stopped.mcs"
-reader=env
-if [ "$(id -u)" -eq 0 ]; then reader="$(command -v setpriv) --reuid=65534 --regid=65534 --clear-groups"; fi
-for words in "trace SESSION 3" "trace --source $three/three_lamps.asm SESSION 3" "trace --last 2 SESSION 1000" "wave SESSION 3" "wave --lines SESSION" \
-    "cover --session SESSION 3 $three/three_lamps.asm" "profile --session SESSION 3 $three/three_lamps.asm"; do
-    before=${words%%SESSION*}
-    after=${words#*SESSION}
+as_reader=env
+if [ "$(id -u)" -eq 0 ]; then as_reader="$(command -v setpriv) --reuid=65534 --regid=65534 --clear-groups"; fi
+for arguments in "trace SESSION 3" "trace --source $three_lamps/three_lamps.asm SESSION 3" "trace --last 2 SESSION 1000" "wave SESSION 3" "wave --lines SESSION" \
+    "cover --session SESSION 3 $three_lamps/three_lamps.asm" "profile --session SESSION 3 $three_lamps/three_lamps.asm"; do
+    before=${arguments%%SESSION*}
+    after=${arguments#*SESSION}
     # shellcheck disable=SC2086
-    verdict "$(outcome env TMPDIR="$folder/anyone" $reader ./mcs4 $before"$folder/stopped.mcs"$after)" "$(outcome ./mcs4 $before"$folder/stopped.mcs"$after)" "a read-only session: $words"
+    verdict "$(outcome env TMPDIR="$folder/anyone" $as_reader ./mcs4 $before"$folder/stopped.mcs"$after)" "$(outcome ./mcs4 $before"$folder/stopped.mcs"$after)" "a read-only session: $arguments"
 done
 
 # Creates a program that ends before it has answered, and uses it in place of the native program.
@@ -59,7 +59,7 @@ exit 3
 program
 chmod +x "$folder/ending"
 for tool in test cover profile; do
-    verdict "$(outcome env ANSWERING="$mcs4" MCS4="$folder/ending" timeout 20 ./mcs4 $tool $three/board.toml $three/three_lamps.asm $three/three_lamps.test | tail -n 2)" \
+    verdict "$(outcome env ANSWERING="$mcs4" MCS4="$folder/ending" timeout 20 ./mcs4 $tool $three_lamps/board.toml $three_lamps/three_lamps.asm $three_lamps/three_lamps.test | tail -n 2)" \
         "$tool: the session has ended; the program said: nothing
 status 1" "mcs4 $tool of a program that ends"
 done

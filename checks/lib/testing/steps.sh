@@ -59,7 +59,7 @@ test not in this test
     run 1
     until @first within 1
 end_of_tests
-verdict "$(outcome ./mcs4 test $three/board.toml $three/three_lamps.asm "$folder/shared.test" | results)" "ok 1 - it goes round
+verdict "$(outcome ./mcs4 test $three_lamps/board.toml $three_lamps/three_lamps.asm "$folder/shared.test" | results)" "ok 1 - it goes round
 not ok 2 - once more
   message: \"it did not become true within 1609 cycles: pc is 003 (first), within an instruction, but must be @first; the last label passed is turn, 13 cycles ago; @first was passed last 1613 cycles ago\"
   at: \"$folder/shared.test:26\"

@@ -5,9 +5,9 @@ new_session session < $calculator/quotient.txt
 session=$folder/session.mcs
 program=$calculator/calculator.asm
 commands=$(./mcs4 help | sed -n 's/^  \([a-z]\{3,9\}\) .*/\1/p')
-for each in $commands; do
-    verdict "$(outcome ./mcs4 "$each" -h)" "$(outcome ./mcs4 "$each" --help)" "mcs4 $each -h"
-    verdict "$(outcome ./mcs4 help "$each")" "$(outcome ./mcs4 "$each" --help)" "mcs4 help $each"
+for command in $commands; do
+    verdict "$(outcome ./mcs4 "$command" -h)" "$(outcome ./mcs4 "$command" --help)" "mcs4 $command -h"
+    verdict "$(outcome ./mcs4 help "$command")" "$(outcome ./mcs4 "$command" --help)" "mcs4 help $command"
 done
 # Tries an empty word, a word, a number with a sign, a number with an exponent, a number below the minimum, and a number above the maximum.
 for wrong in "" x -1 1e3 0 100000001; do
@@ -44,12 +44,12 @@ for wrong in "0 0" "4096 1" "4000 97"; do
     check_usage_error "FIRST is 0 to 4095, COUNT is at least 1, and 4096 is the address after the last one" ./mcs4 rom save $wrong
 done
 check_usage_error "FIRST is at least 1, and LAST is not before it" ./mcs4 cycles 3 2
-for words in "trace::10" "wave::10" "back:" "import:" "listing:" "explain:" "resume::$session" "test::$program:$lock/lock.test"; do
-    tool=${words%%:*}
+for arguments in "trace::10" "wave::10" "back:" "import:" "listing:" "explain:" "resume::$session" "test::$program:$lock/lock.test"; do
+    tool=${arguments%%:*}
     (
         IFS=:
         # shellcheck disable=SC2086
-        set -- ${words#*:}
+        set -- ${arguments#*:}
         if [ $# -eq 0 ]; then set -- ''; fi
         outcome ./mcs4 "$tool" "$@" | shorten_usage
     ) > "$folder/printed"
@@ -81,7 +81,7 @@ check_usage_error "there is no option -n" ./mcs4 listing -n $lock/lock.asm
 check_usage_error "--names takes no value" ./mcs4 listing --names=3 $lock/lock.asm
 check_usage_error "--names is given twice" ./mcs4 listing --names --names $lock/lock.asm
 check_usage_error "--names and --labels exclude each other" ./mcs4 listing --names --labels $lock/lock.asm
-for words in "-C $lock" "--seconds 3" "--jobs 2" "--seed 4" --allow-model; do check_usage_error "--merge and ${words%% *} exclude each other" ./mcs4 explore $words --merge x; done
+for arguments in "-C $lock" "--seconds 3" "--jobs 2" "--seed 4" --allow-model; do check_usage_error "--merge and ${arguments%% *} exclude each other" ./mcs4 explore $arguments --merge x; done
 check_usage_error "FOLDER is missing after -C" ./mcs4 listing -C
 check_usage_error "FOLDER is missing after --folder" ./mcs4 listing --folder --names
 check_usage_error "SEED: '-1' is not a decimal number from 1 to 99999999" ./mcs4 explore --seed -1

@@ -15,14 +15,14 @@ count_lines() {
 commands=$(./mcs4 help | sed -n 's/^  \([a-z]\{3,9\}\) .*/\1/p' | LC_ALL=C sort)
 verdict "$(ls js/node/commands | sed 's/\.mjs//; /^table$/d' | LC_ALL=C sort)" "$commands" "mcs4 help"
 node js/node/command_pages.mjs "$folder/pages" > /dev/null
-for each in $commands; do
-    verdict "$(count_lines ./mcs4 help "$each" | sed 's/^[0-9]*/some/')" "some 0 0" "mcs4 help $each"
-    verdict "$(head -n 1 "$folder/output" | cut -d ' ' -f 1-3); $(awk 'length > 79' "$folder/output" | grep -c '^[^ u]\|^ \{6\}[^ ]' || :)" "usage: mcs4 $each; 0" "the output of mcs4 help $each"
-    verdict "$(count_lines ./mcs4 "$each" --none --none --none --none --none --none --none | sed 's/^0 [0-9]* /0 some /'): $(sed 's/^\(usage: mcs4 \).*/\1/; 2q' "$folder/errors")" "0 some 2: $each: there is no option --none
-usage: mcs4 " "mcs4 $each with an unknown option"
+for command in $commands; do
+    verdict "$(count_lines ./mcs4 help "$command" | sed 's/^[0-9]*/some/')" "some 0 0" "mcs4 help $command"
+    verdict "$(head -n 1 "$folder/output" | cut -d ' ' -f 1-3); $(awk 'length > 79' "$folder/output" | grep -c '^[^ u]\|^ \{6\}[^ ]' || :)" "usage: mcs4 $command; 0" "the output of mcs4 help $command"
+    verdict "$(count_lines ./mcs4 "$command" --none --none --none --none --none --none --none | sed 's/^0 [0-9]* /0 some /'): $(sed 's/^\(usage: mcs4 \).*/\1/; 2q' "$folder/errors")" "0 some 2: $command: there is no option --none
+usage: mcs4 " "mcs4 $command with an unknown option"
     if command -v man > /dev/null; then
-        verdict "$(man --warnings -l "$folder/pages/man/mcs4-$each.1" 2>&1 > "$folder/page.txt")" "" "the manual page of $each"
-        verdict "$(grep -cE '^(NAME|SYNOPSIS|DESCRIPTION|EXIT STATUS|SEE ALSO)$' "$folder/page.txt")" 5 "the headings of the manual page of $each"
+        verdict "$(man --warnings -l "$folder/pages/man/mcs4-$command.1" 2>&1 > "$folder/page.txt")" "" "the manual page of $command"
+        verdict "$(grep -cE '^(NAME|SYNOPSIS|DESCRIPTION|EXIT STATUS|SEE ALSO)$' "$folder/page.txt")" 5 "the headings of the manual page of $command"
     fi
 done
 for word in help --help -h "help version"; do
@@ -43,13 +43,13 @@ for word in frob build lib ../mcs4 "" speed table constructor; do
 done
 # Checks that mcs4 reports a full or closed standard output. Wrong arguments must have status 2 even if one of the output streams is full or closed.
 for stream in "> /dev/full" ">&-"; do
-    for words in help --help "help refusals" "help new" "help open" "help help" "help version" "help cover" version --version; do
-        verdict "$(outcome sh -c "./mcs4 $words $stream" | sed 's/standard output is closed/not all output was written; is the disk full?/')" "mcs4: not all output was written; is the disk full?
-status 1" "mcs4 $words $stream"
+    for arguments in help --help "help refusals" "help new" "help open" "help help" "help version" "help cover" version --version; do
+        verdict "$(outcome sh -c "./mcs4 $arguments $stream" | sed 's/standard output is closed/not all output was written; is the disk full?/')" "mcs4: not all output was written; is the disk full?
+status 1" "mcs4 $arguments $stream"
     done
-    for words in "" frob "help frob" "version 4" "help listing rom" "''"; do
-        verdict "$(outcome sh -c "./mcs4 $words 2$stream")" "status 2" "mcs4 $words 2$stream"
-        verdict "$(outcome sh -c "./mcs4 $words $stream" | sed -n '/^status/p')" "status 2" "mcs4 $words $stream"
+    for arguments in "" frob "help frob" "version 4" "help listing rom" "''"; do
+        verdict "$(outcome sh -c "./mcs4 $arguments 2$stream")" "status 2" "mcs4 $arguments 2$stream"
+        verdict "$(outcome sh -c "./mcs4 $arguments $stream" | sed -n '/^status/p')" "status 2" "mcs4 $arguments $stream"
     done
 done
 # Starts mcs4 through a symbolic link, and through a link to a link in a folder that is itself a link.
@@ -67,8 +67,8 @@ $(./mcs4 2>&1 || :)" ./mcs4 help listing rom
 
 # Checks that without Node, help, version, new and open work, and other commands report that they need Node.
 mkdir "$folder/no_node"
-for each in sh sed awk cat env grep tr cut sort uname sha256sum stat xargs find readlink dirname mkdir rm date cmp head tail id ls mv tee wc; do
-    if command -v $each > /dev/null; then ln -s "$(command -v $each)" "$folder/no_node/$each"; fi
+for program in sh sed awk cat env grep tr cut sort uname sha256sum stat xargs find readlink dirname mkdir rm date cmp head tail id ls mv tee wc; do
+    if command -v $program > /dev/null; then ln -s "$(command -v $program)" "$folder/no_node/$program"; fi
 done
 run_without_node() { PATH=$folder/no_node outcome ./mcs4 "$@"; }
 verdict "$(run_without_node version)" "$(outcome ./mcs4 version)" "mcs4 version without Node"
@@ -88,15 +88,15 @@ status 0" "mcs4 help listing without Node"
 verdict "$(run_without_node listing $lock/lock.asm)" "mcs4: listing needs Node 18 or later, which is not installed; on Debian: apt-get install nodejs
 status 1" "mcs4 listing without Node"
 for word in --help -h; do verdict "$(run_without_node listing $word)" "$(run_without_node help listing)" "mcs4 listing $word without Node"; done
-for words in "frob" "help frob" "frob x"; do
+for arguments in "frob" "help frob" "frob x"; do
     # shellcheck disable=SC2086
-    verdict "$(run_without_node $words)" "mcs4: there is no command frob; mcs4 help lists the commands
-status 2" "mcs4 $words without Node"
+    verdict "$(run_without_node $arguments)" "mcs4: there is no command frob; mcs4 help lists the commands
+status 2" "mcs4 $arguments without Node"
 done
-for words in "help listing x" "version x"; do
+for arguments in "help listing x" "version x"; do
     # shellcheck disable=SC2086
-    verdict "$(run_without_node $words)" "mcs4: 'x' is one argument too many
-status 2" "mcs4 $words without Node"
+    verdict "$(run_without_node $arguments)" "mcs4: 'x' is one argument too many
+status 2" "mcs4 $arguments without Node"
 done
 verdict "$(run_without_node open -x.mcs)" "mcs4: there is no option -x.mcs; for a file of this name, write ./-x.mcs
 status 2" "mcs4 open -x.mcs without Node"
@@ -115,10 +115,10 @@ Object.defineProperty(process, "versions", { value: { ...process.versions, node:
 end
 printf '#!/bin/sh\nexec "%s" --require "%s" "$@"\n' "$(command -v node)" "$folder/older.cjs" > "$folder/old_node/node"
 chmod +x "$folder/old_node/node"
-for words in "listing $lock/lock.asm" help "help listing" "frob"; do
+for arguments in "listing $lock/lock.asm" help "help listing" "frob"; do
     # shellcheck disable=SC2086
-    verdict "$(PATH=$folder/old_node:$PATH outcome ./mcs4 $words)" "mcs4: it needs node 18 or later, and this is v12.22.12
-status 1" "mcs4 $words with Node 12"
+    verdict "$(PATH=$folder/old_node:$PATH outcome ./mcs4 $arguments)" "mcs4: it needs node 18 or later, and this is v12.22.12
+status 1" "mcs4 $arguments with Node 12"
 done
 
 # Tries session files whose names look like options, and an empty name.

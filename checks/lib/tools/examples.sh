@@ -15,11 +15,11 @@ for script in examples/*.txt examples/*/*.txt; do
         rm -f "$folder/session.mcs"
     fi
 done
-for keyed in checks/lib/keyed/*.keys; do
-    awk -v script="$folder/script" -v answers="$folder/answers" -f checks/lib/keyed.awk "$calculator/board.toml" "$calculator/quotient.txt" \
-        "$calculator/quotient.answers" "$keyed"
+for key_presses in checks/lib/key_presses/*.keys; do
+    awk -v script="$folder/script" -v answers="$folder/answers" -f checks/lib/key_presses.awk "$calculator/board.toml" "$calculator/quotient.txt" \
+        "$calculator/quotient.answers" "$key_presses"
     "$mcs4" new "$folder/session.mcs" < "$folder/script" > "$folder/printed"
-    verdict "$(outcome cmp "$folder/printed" "$folder/answers")" "status 0" "$keyed"
+    verdict "$(outcome cmp "$folder/printed" "$folder/answers")" "status 0" "$key_presses"
     rm -f "$folder/session.mcs" "$folder/script" "$folder/answers" "$folder/printed"
 done
 

@@ -167,10 +167,10 @@ line 13: no 12, line 1 of the text: a line of more than 255 bytes
 status 1" "lines of texts that the answer does not name"
 printf ' NOP\n NO\303\244P ; \303\244\n' > "$folder/faulty.asm"
 check_rejected 1 "script: $folder/faulty.asm: line 2: no 14: $(printf '\303\244') is not an ASCII character; it can be only in comments
-script:      NO$(printf '\303\244')P ; $(printf '\303\244')" ./mcs4 script $three/board.toml "$folder/faulty.asm"
+script:      NO$(printf '\303\244')P ; $(printf '\303\244')" ./mcs4 script $three_lamps/board.toml "$folder/faulty.asm"
 printf ' NOP\n ORG 0x100\n NOP\n' > "$folder/faulty.asm"
 check_rejected 1 "script: $folder/faulty.asm: line 3: no 42: this line is at 100, and the board has no ROM 1: wire a [[rom]] with chip = 1
-script:      NOP" ./mcs4 script $three/board.toml "$folder/faulty.asm"
+script:      NOP" ./mcs4 script $three_lamps/board.toml "$folder/faulty.asm"
 
 # A listing ends after address FFF, even if more bytes are requested.
 printf 'wire\nrom = [{ chip = 15, port = "0000" }]\n.\npoke rom.0xFFE 0x40\nlist 0xFFE 4\nlist 0xFFF 1\npoke r1 1\npoke r99 1\n' > "$folder/script"

@@ -127,9 +127,9 @@ for example in examples/*/*.asm; do
     verdict "$(grep -c , "$folder/example.src" | awk '{ print ($1 > 3) }')" 1 "$example has another spelling"
 done
 # Checks that the other tools print a hint if a line has Intel's or AS's syntax.
-while IFS='|' read -r line words; do
+while IFS='|' read -r line message; do
     echo "$line" > "$folder/spelled.asm"
-    check_rejected 1 "listing: $folder/spelled.asm: line 1: no 30: $words
+    check_rejected 1 "listing: $folder/spelled.asm: line 1: no 30: $message
 listing:     $line" ./mcs4 listing "$folder/spelled.asm" < /dev/null
 done <<'lines'
 zero EQU 4 ; none|define a name with =: zero = 4
@@ -216,8 +216,8 @@ status 0" "long lines, and deeply nested brackets"
 # short lines.
 awk 'BEGIN { for (i = 0; i < 400; i++) printf "SAME_FIRST_LETTERS_%d EQU %d\n", i, i % 16 }' > "$folder/names.src"
 awk 'BEGIN { for (i = 0; i < 40000; i++) print "LABEL" i " EQU (1+2)*3" }' > "$folder/lines.src"
-for many in names lines; do
-    verdict "$(timeout 30 ./mcs4 import "$folder/$many.src" 2>&1 | sed "s/:.*//; 1q")" "$(case $many in names) echo 'SAME_FIRST_LETTE = 0' ;; *) echo import ;; esac)" "many $many"
+for kind in names lines; do
+    verdict "$(timeout 30 ./mcs4 import "$folder/$kind.src" 2>&1 | sed "s/:.*//; 1q")" "$(case $kind in names) echo 'SAME_FIRST_LETTE = 0' ;; *) echo import ;; esac)" "many $kind"
 done
 # Checks that a non-ASCII character never becomes a byte of the program, and that comments keep their bytes.
 printf " DB 'a\\344b' ; a\\344b\n" > "$folder/byte.src"

@@ -9,11 +9,11 @@ elif ! command -v esbuild > /dev/null; then
 else
     # Checks that the scripts that generate files reject missing and wrong arguments, and then write nothing.
     mkdir "$folder/empty"
-    for words in "tools/join_commands.mjs" "tools/join_commands.mjs --help" "tools/join_commands.mjs pages none" "js/node/command_pages.mjs" \
+    for arguments in "tools/join_commands.mjs" "tools/join_commands.mjs --help" "tools/join_commands.mjs pages none" "js/node/command_pages.mjs" \
         "js/node/command_pages.mjs --help" "js/node/command_pages.mjs pages more" "editors/make.mjs --help" "editors/make.mjs made more"; do
         # shellcheck disable=SC2086
-        verdict "$(cd "$folder/empty" && outcome node "$top"/$words | cut -d ' ' -f 1-3; ls)" "usage: node ${words%% *}
-status 2" "node $words"
+        verdict "$(cd "$folder/empty" && outcome node "$top"/$arguments | cut -d ' ' -f 1-3; ls)" "usage: node ${arguments%% *}
+status 2" "node $arguments"
     done
     tree=$folder/tree
     mkdir -p "$tree/shipped/commands" "$tree/tools"
@@ -24,9 +24,9 @@ status 2" "node $words"
         node --input-type=module -e "import { loadJoinedCommand } from '$tree/js/node/joined_loader.cjs'; console.log(loadJoinedCommand('$1') ? 'joined' : 'modules')"
     }
     verdict "$(print_loader listing) $(print_loader keys) $(print_loader test) $(print_loader ../keys)" "joined joined modules modules" "the commands that are joined"
-    for words in "listing $lock/lock.asm" "listing -h" "listing --none" "keys $lock/board.toml 1" "keys $lock/board.toml x" "listing none"; do
+    for arguments in "listing $lock/lock.asm" "listing -h" "listing --none" "keys $lock/board.toml 1" "keys $lock/board.toml x" "listing none"; do
         # shellcheck disable=SC2086
-        verdict "$(outcome "$tree/mcs4" $words)" "$(outcome ./mcs4 $words)" "joined: $words"
+        verdict "$(outcome "$tree/mcs4" $arguments)" "$(outcome ./mcs4 $arguments)" "joined: $arguments"
     done
     # Checks that the result of the comparison with the sources is cached in a private folder of the user, if the files have not changed for some
     # seconds.

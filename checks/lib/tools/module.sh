@@ -94,7 +94,7 @@ head -c 9000 "$folder/session.mcs" > "$folder/cut.mcs"
 check_same_on_module /dev/null trace "$folder/cut.mcs" 10
 check_same_on_module /dev/null trace "$folder/none.mcs" 10
 # The session in a project can be stored as commands or as a snapshot. So the bytes of the projects can differ, but the sessions must be the same.
-cp -R $three "$folder/texts"
+cp -R $three_lamps "$folder/texts"
 for host in ./mcs4 on_other_system; do
     verdict "$(outcome $host project join "$folder/texts" "$folder/${host##*/}.mcsp")" "status 0" "$host: a project"
     ./mcs4 project split "$folder/${host##*/}.mcsp" "$folder/${host##*/}.split"
@@ -114,15 +114,15 @@ check_same_on_module /dev/null prove $lock/board.toml $lock/lock.asm "$folder/fo
 # --- commands that do not work without a native program
 
 needs_program_message="a session file needs the native program, which cannot start: $reason. Commands without a session file run here"
-for words in "new $folder/new.mcs" "open $folder/session.mcs"; do
+for arguments in "new $folder/new.mcs" "open $folder/session.mcs"; do
     # shellcheck disable=SC2086
-    check_rejected 1 "mcs4: $needs_program_message" on_other_system $words
+    check_rejected 1 "mcs4: $needs_program_message" on_other_system $arguments
 done
 cp "$folder/session.mcs" "$folder/before.mcs"
-for words in "back $folder/session.mcs 1" "resume $calculator/quotient.txt $folder/session.mcs" "panel $calculator/board.toml $folder/session.mcs" \
+for arguments in "back $folder/session.mcs 1" "resume $calculator/quotient.txt $folder/session.mcs" "panel $calculator/board.toml $folder/session.mcs" \
     "keys --until-stop $folder/session.mcs $calculator/board.toml 1" "debug $folder/session.mcs"; do
     # shellcheck disable=SC2086
-    check_rejected 1 "${words%% *}: $needs_program_message" on_other_system $words
+    check_rejected 1 "${arguments%% *}: $needs_program_message" on_other_system $arguments
 done
 verdict_of_files "$folder/session.mcs" "$folder/before.mcs" "a session is unchanged on that system"
 verdict "$(ls "$folder/new.mcs" 2> /dev/null || echo none)" none "no session file is created on that system"

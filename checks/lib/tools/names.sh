@@ -9,7 +9,7 @@ break @next
 list @wait 2
 poke r1 @zero
 lines
-verdict "$(outcome ./mcs4 names $three/three_lamps.asm < "$folder/named.txt")" "break 0x005
+verdict "$(outcome ./mcs4 names $three_lamps/three_lamps.asm < "$folder/named.txt")" "break 0x005
   asm
  NOP ; @next
 .
@@ -17,6 +17,6 @@ list 0x014 2
 poke r1 0x004
 status 0" "names in lines"
 printf 'reset\nbreak @nowhere\n' > "$folder/named.txt"
-check_rejected 1 "names: line 2: @nowhere: the program has no such name" ./mcs4 names $three/three_lamps.asm < "$folder/named.txt"
+check_rejected 1 "names: line 2: @nowhere: the program has no such name" ./mcs4 names $three_lamps/three_lamps.asm < "$folder/named.txt"
 check_rejected 2 "names: PROGRAM is missing, and there is no mcs4.toml here
 usage: mcs4 names [-C FOLDER] [PROGRAM] < LINES" ./mcs4 names

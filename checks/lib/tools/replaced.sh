@@ -83,7 +83,7 @@ status 1; 100; theirs" "a file of another user"
     fi
 fi
 
-# Checks that no other user can guess the name of the temporary file: only the output file may be touched, whatever the process number is.
+# Checks that no other user can guess the name of the temporary file: only the output file may be touched, whatever the process ID is.
 mkdir "$folder/guessed"
 sh -c 'echo precious > "$1/out.mcsp.$$"; exec ./mcs4 project join "$2" "$1/out.mcsp"' sh "$folder/guessed" "$folder/taken_apart"
 verdict "$(cmp "$folder/guessed/out.mcsp" "$folder/project/whole" 2>&1); $(cat "$folder/guessed"/out.mcsp.*)" "; precious" "a file at NAME.PID"
@@ -97,11 +97,11 @@ mkdir "$folder/stopped" "$folder/temporary"
 stop_command() {
     TMPDIR=$folder/temporary setsid env --default-signal=INT,TERM,HUP timeout --foreground -s KILL 60 "$@" > "$folder/printed" 2>&1 &
     child=$!
-    sleep "0.$(printf '%03d' "$wait")"
+    sleep "0.$(printf '%03d' "$delay")"
     if [ "$target" = group ]; then kill -s "$signal" -- "-$child" 2> /dev/null || :; else kill -s "$signal" "$child" 2> /dev/null || :; fi
     status=0
     wait "$child" 2> /dev/null || status=$?
-    if [ "$status" -eq 137 ]; then wrong="$wrong hangs:$signal:$target:$wait"; fi
+    if [ "$status" -eq 137 ]; then errors="$errors hangs:$signal:$target:$delay"; fi
     # If the signal arrives before `timeout` has recorded its child process, it ends only `timeout`, and the tool continues to its end.
     tenths=600
     while [ "$tenths" -gt 0 ] && kill -s 0 -- "-$child" 2> /dev/null; do
@@ -110,27 +110,27 @@ stop_command() {
     done
 }
 head -c 100 "$folder/project/whole" > "$folder/old"
-stops=0
-wrong=
+stop_count=0
+errors=
 for signal in INT TERM HUP; do
     for target in group tool; do
-        for wait in 5 20 40 60 80 100 120 150 200 300; do
+        for delay in 5 20 40 60 80 100 120 150 200 300; do
             cp "$folder/old" "$folder/stopped/out.mcsp"
             stop_command ./mcs4 project join "$folder/taken_apart" "$folder/stopped/out.mcsp"
-            if ! cmp -s "$folder/old" "$folder/stopped/out.mcsp" && ! cmp -s "$folder/project/whole" "$folder/stopped/out.mcsp"; then wrong="$wrong join:$signal:$wait"; fi
+            if ! cmp -s "$folder/old" "$folder/stopped/out.mcsp" && ! cmp -s "$folder/project/whole" "$folder/stopped/out.mcsp"; then errors="$errors join:$signal:$delay"; fi
             rm "$folder/stopped/out.mcsp"
             stop_command ./mcs4 project split examples/a_fault_to_find.mcsp "$folder/stopped/new/inner"
-            if [ -e "$folder/stopped/new" ] && ! diff -r "$folder/taken_apart" "$folder/stopped/new/inner" > /dev/null; then wrong="$wrong split:$signal:$wait"; fi
+            if [ -e "$folder/stopped/new" ] && ! diff -r "$folder/taken_apart" "$folder/stopped/new/inner" > /dev/null; then errors="$errors split:$signal:$delay"; fi
             rm -rf "$folder/stopped/new"
             stop_command ./mcs4 wave --wav "$folder/stopped/out.wav" "$folder/buzzer.mcs" 100000 rom0.0
-            if [ -e "$folder/stopped/out.wav" ] && ! cmp -s "$folder/sound/whole" "$folder/stopped/out.wav"; then wrong="$wrong wav:$signal:$wait"; fi
+            if [ -e "$folder/stopped/out.wav" ] && ! cmp -s "$folder/sound/whole" "$folder/stopped/out.wav"; then errors="$errors wav:$signal:$delay"; fi
             rm -f "$folder/stopped/out.wav"
-            left=$(ls -A "$folder/stopped" "$folder/temporary" | grep -v ':$' | tr -d '\n')
-            if [ -n "$left" ]; then wrong="$wrong left:$signal:$target:$wait:$left"; fi
+            leftovers=$(ls -A "$folder/stopped" "$folder/temporary" | grep -v ':$' | tr -d '\n')
+            if [ -n "$leftovers" ]; then errors="$errors left:$signal:$target:$delay:$leftovers"; fi
             rm -rf "$folder/stopped" "$folder/temporary"
             mkdir "$folder/stopped" "$folder/temporary"
-            stops=$((stops + 3))
+            stop_count=$((stop_count + 3))
         done
     done
 done
-verdict "$stops stops:$wrong" "180 stops:" "tools that are stopped while they write"
+verdict "$stop_count stops:$errors" "180 stops:" "tools that are stopped while they write"

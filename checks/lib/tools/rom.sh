@@ -48,10 +48,10 @@ check_rejected 1 "rom: no answer shows the byte at 001; mcs4 rom ask makes the q
 
 # Checks S-records that were written manually: data records with addresses of two, three and four bytes, a count, and the end. Each error must be
 # reported with its line.
-srec_sum() {
+with_srec_checksum() {
     awk -v hex="$1" 'BEGIN { for (i = 1; i <= length(hex); i += 2) sum += 16 * (index("0123456789ABCDEF", substr(hex, i, 1)) - 1) + index("0123456789ABCDEF", substr(hex, i + 1, 1)) - 1; printf "%s%02X", hex, 255 - sum % 256 }'
 }
-printf '%s\r\n' "S1$(srec_sum 050010D0E2)" "S2$(srec_sum 0500012010)" "S3$(srec_sum 060000013041)" "S5$(srec_sum 030003)" "S9$(srec_sum 030000)" > "$folder/image.srec"
+printf '%s\r\n' "S1$(with_srec_checksum 050010D0E2)" "S2$(with_srec_checksum 0500012010)" "S3$(with_srec_checksum 060000013041)" "S5$(with_srec_checksum 030003)" "S9$(with_srec_checksum 030000)" > "$folder/image.srec"
 verdict "$(outcome ./mcs4 rom load "$folder/image.srec")" "asm
 ORG 0x010
 DB 208,226
@@ -66,13 +66,13 @@ check_srec_error() {
     printf '%s\n' "$1" "$2" > "$folder/bad.srec"
     check_rejected 1 "rom: $folder/bad.srec: $3" ./mcs4 rom load "$folder/bad.srec"
 }
-check_srec_error "S1$(srec_sum 050010D0E2)" "S1050012D0E200" "line 2: the checksum is 00, and $(srec_sum 050012D0E2 | sed 's/.*\(..\)$/\1/') would be right"
-check_srec_error "S1$(srec_sum 050010D0E2)" "S1060012D0E236" "line 2: it announces 6 bytes and has 5"
-check_srec_error "S1$(srec_sum 050010D0E2)" "S1050012D0E2X6" "line 2: a record of Motorola has \`S\`, a digit, and two hexadecimal digits for each byte"
-check_srec_error "S1$(srec_sum 050010D0E2)" "S1$(srec_sum 050011D0E2)" "line 2: the address 011, which an earlier line has"
-check_srec_error "S1$(srec_sum 050010D0E2)" "S1$(srec_sum 050FFFD0E2)" "line 2: past the last address, FFF"
-check_srec_error "S1$(srec_sum 050010D0E2)" "" "it has no last record (S9), so a part of it is missing"
-check_srec_error "S9$(srec_sum 030000)" "S1$(srec_sum 050010D0E2)" "line 2: a record after the last one (S9)"
+check_srec_error "S1$(with_srec_checksum 050010D0E2)" "S1050012D0E200" "line 2: the checksum is 00, and $(with_srec_checksum 050012D0E2 | sed 's/.*\(..\)$/\1/') would be right"
+check_srec_error "S1$(with_srec_checksum 050010D0E2)" "S1060012D0E236" "line 2: it announces 6 bytes and has 5"
+check_srec_error "S1$(with_srec_checksum 050010D0E2)" "S1050012D0E2X6" "line 2: a record of Motorola has \`S\`, a digit, and two hexadecimal digits for each byte"
+check_srec_error "S1$(with_srec_checksum 050010D0E2)" "S1$(with_srec_checksum 050011D0E2)" "line 2: the address 011, which an earlier line has"
+check_srec_error "S1$(with_srec_checksum 050010D0E2)" "S1$(with_srec_checksum 050FFFD0E2)" "line 2: past the last address, FFF"
+check_srec_error "S1$(with_srec_checksum 050010D0E2)" "" "it has no last record (S9), so a part of it is missing"
+check_srec_error "S9$(with_srec_checksum 030000)" "S1$(with_srec_checksum 050010D0E2)" "line 2: a record after the last one (S9)"
 
 # Checks BNPF that was written manually, with remarks, and with words over several lines. A ROM must be exported and imported unchanged. Each error
 # must be reported with its line.

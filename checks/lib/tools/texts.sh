@@ -1,5 +1,5 @@
-# Checks that tools read and send texts with a byte order mark, non-ASCII letters, or long comments correctly. Also checks scripts and projects where
-# a program is expected.
+# Checks that tools read and send texts with a byte order mark, non-ASCII letters, or long comments correctly. Also checks scripts and projects in
+# place of a program.
 # shellcheck shell=sh
 
 board=$calculator/board.toml

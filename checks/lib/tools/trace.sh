@@ -142,8 +142,8 @@ verdict "$(outcome ./mcs4 trace --names "$folder/trace.asm" "$folder/trace.mcs" 
        9  FFE BB    XCH R11          acc 0 cy 0  r11 3
       10  FFF 40 20 JUN 0x020        acc 0 cy 0
 status 0" "a trace of ports, a chain, and the last address"
-check_rejected 1 "trace: the session has another program than $three/three_lamps.asm: 003 has D2, and line 6 makes D1" \
-    ./mcs4 trace --names $three/three_lamps.asm "$folder/trace.mcs" 12
+check_rejected 1 "trace: the session has another program than $three_lamps/three_lamps.asm: 003 has D2, and line 6 makes D1" \
+    ./mcs4 trace --names $three_lamps/three_lamps.asm "$folder/trace.mcs" 12
 
 # Traces a chain whose clock is a line of a RAM chip's port.
 printf 'wire\nrom = [{ chip = 0, port = "0000" }]\nram = [{ bank = 0, chips = 1 }]\nchain = [{ clock = "ram0.0.0", data = "ram0.0.1", chips = 1 }]\n.\nasm\n FIM P0, 0\n SRC P0\n LDM 3\n WMP\n.\n' > "$folder/clocked.txt"

@@ -7,7 +7,7 @@ import re
 import subprocess
 import time
 
-from driven import DriverError
+from browser_driver import DriverError
 from page_module import module_of_page
 from picture import write_picture
 from verdicts import eventually, verdict
@@ -87,7 +87,7 @@ try {
 GET_VIOLATIONS = "return [...window.violations].sort().join(' ') + (window.injected ? ', but the script ran' : '')"
 
 
-def until_ready(browser):
+def wait_until_ready(browser):
     """Waits at most 90 seconds until the page is ready, because that can take long on a busy machine. Closes the cards of a first visit."""
     eventually(browser, "the page is ready", IS_READY, True, 90)
     browser.script(CLOSE_CARDS)
@@ -95,15 +95,15 @@ def until_ready(browser):
 
 def reopen_page(browser, page):
     """Opens a blank page, and then the page again."""
-    browser.go("about:blank")
-    browser.go(page.as_uri())
-    until_ready(browser)
+    browser.open("about:blank")
+    browser.open(page.as_uri())
+    wait_until_ready(browser)
 
 
 def pause_running_time(browser):
     """Pauses time, which must be running."""
     browser.click("#run")
-    browser.until(GET_STATUS, re.compile("^Paused"))
+    browser.wait_until(GET_STATUS, re.compile("^Paused"))
 
 
 def choose_from_file_menu(browser, selector):
@@ -120,9 +120,9 @@ def key(legend):
 def choose_example(browser, name):
     """Opens an example in a new session, through the dialog of sessions."""
     browser.click("#sessions-button")
-    browser.until("return document.getElementById('sessions').open", True)
+    browser.wait_until("return document.getElementById('sessions').open", True)
     browser.click(f"#examples button[aria-label='new session: {name}']")
-    browser.until("return document.getElementById('sessions').open", False)
+    browser.wait_until("return document.getElementById('sessions').open", False)
 
 
 def step_with_marks(browser):
@@ -143,16 +143,16 @@ def check_calculator(browser):
         time.sleep(0.08)
     eventually(browser, "the result of 12 + 30, typed with the pointer", GET_DIGITS, "42")
     browser.reload()
-    until_ready(browser)
+    wait_until_ready(browser)
     eventually(browser, "the display after a reload", GET_DIGITS, "42")
-    browser.keys([ESCAPE, "7", "-", "9", ENTER])
+    browser.type_keys([ESCAPE, "7", "-", "9", ENTER])
     eventually(browser, "the result of 7 - 9, typed on the keyboard", GET_DIGITS, "-2")
-    browser.keys([ESCAPE, "6", "*", "9", ENTER], 1, 1)
+    browser.type_keys([ESCAPE, "6", "*", "9", ENTER], 1, 1)
     eventually(browser, "the result of 6 * 9, typed very fast", GET_DIGITS, "54")
     # The milliseconds for which the key is down, and then up. On the board, the page keeps a key down for at least 43 ms, and then up for at least 22
     # ms.
     for down, up in ((20, 50), (50, 20), (90, 25)):
-        browser.keys([ESCAPE, *"11111111"], down, up)
+        browser.type_keys([ESCAPE, *"11111111"], down, up)
         eventually(browser, f"the same key typed eight times, {down} ms down and {up} ms up", GET_DIGITS, "11111111")
 
 
@@ -188,10 +188,10 @@ def as_version_1(file):
 def check_session_files(browser, folder, mcs4):
     """Checks that the program continues a session that the page saved, and that the page opens the result. A file of version 1 must be converted,
     and a foreign or damaged file must be rejected."""
-    browser.keys([ESCAPE, "6", "*", "7", ENTER])
-    browser.until(GET_DIGITS, "42")
+    browser.type_keys([ESCAPE, "6", "*", "7", ENTER])
+    browser.wait_until(GET_DIGITS, "42")
     # Wait until no key is down, because a key that is down when time is paused is also down in the file.
-    browser.until(COUNT_KEYS_DOWN, 0)
+    browser.wait_until(COUNT_KEYS_DOWN, 0)
     pause_running_time(browser)
     choose_from_file_menu(browser, "#save-session-button")
     saved_file = folder / "downloads/calculator.mcs"
@@ -207,7 +207,7 @@ def check_session_files(browser, folder, mcs4):
     verdict("the display after the program continues the saved file", display_of(mcs4, saved_file, "/8="), "5.25")
     browser.type_into("#file", str(saved_file))
     eventually(browser, "the page opens the file that the program has written", GET_DIGITS, "5.25")
-    verdict("the keys of the opened session have names", browser.text("#keys"), "789/456*123-0.~+CCEcS=")
+    verdict("the keys of the opened session have names", browser.text_of("#keys"), "789/456*123-0.~+CCEcS=")
     source = browser.script(GET_TEXT_OF_EDITOR, "#program-editor")
     verdict("the source of the opened session", source, (TOP / "examples/calculator/calculator.asm").read_text())
     foreign_file = folder / "rubbish.mcs"
@@ -228,10 +228,10 @@ def check_session_files(browser, folder, mcs4):
 def check_breakpoint_and_watch(browser):
     """Checks that clicks set and clear a breakpoint and a watch, and that runs stop at them."""
     browser.click("#step")
-    browser.until(GET_STATUS, STEPPED)
+    browser.wait_until(GET_STATUS, STEPPED)
     next_row = "#lines-of-program button.next"
     eventually(browser, "the disassembly is at the program counter", IS_AT_COUNTER, True)
-    address = browser.text(f"{next_row} span")[:3]
+    address = browser.text_of(f"{next_row} span")[:3]
     browser.click_at_rest(next_row)
     eventually(browser, "a click sets a breakpoint", f"return document.querySelector('{next_row}').getAttribute('aria-pressed')", "true")
     browser.click("#run")
@@ -249,13 +249,13 @@ def check_breakpoint_and_watch(browser):
     browser.script(SET_SPEED, "real")
     verdict("the changed nibble is marked", "changed" in browser.script("return document.querySelector('.ram button').className"), True)
     browser.click(".ram button")
-    browser.until("return document.querySelector('.ram button').getAttribute('aria-pressed')", "false")
+    browser.wait_until("return document.querySelector('.ram button').getAttribute('aria-pressed')", "false")
 
 
 def move_focus_until(browser, key, code, max_presses=40):
     """Presses a key until a script about the focused element `e` returns true. Returns false if the script returns false after every press."""
     for _ in range(max_presses):
-        browser.keys([key], 1, 1)
+        browser.type_keys([key], 1, 1)
         if browser.script(f"const e = document.activeElement; return {code}"):
             return True
     return False
@@ -266,19 +266,19 @@ def check_keyboard_alone(browser):
     # Start at the session's name, because after the page's last element the focus moves to the browser.
     browser.script("document.getElementById('name').focus()")
     verdict("the Tab key reaches Step", move_focus_until(browser, TAB, "e.id === 'step'"), True)
-    browser.keys([ENTER])
+    browser.type_keys([ENTER])
     eventually(browser, "Enter steps", GET_STATUS, STEPPED)
     verdict("the Tab key reaches the disassembly", move_focus_until(browser, TAB, "e.closest('#lines-of-program') !== null"), True)
-    browser.keys([DOWN, DOWN, ENTER])
+    browser.type_keys([DOWN, DOWN, ENTER])
     eventually(browser, "arrows and Enter set a breakpoint", "return document.activeElement.getAttribute('aria-pressed')", "true")
-    browser.keys([ENTER])
+    browser.type_keys([ENTER])
     eventually(browser, "Enter clears the breakpoint", "return document.activeElement.getAttribute('aria-pressed')", "false")
     verdict("the number of controls without a name", browser.script(COUNT_UNNAMED_CONTROLS), 0)
 
 
 def check_phone_width(browser):
     """Checks that the page does not scroll sideways at the width of a phone."""
-    browser.command("Emulation.setDeviceMetricsOverride", width=360, height=740, deviceScaleFactor=1, mobile=True)
+    browser.send_command("Emulation.setDeviceMetricsOverride", width=360, height=740, deviceScaleFactor=1, mobile=True)
     eventually(browser, "a phone shows the page without scrolling sideways", "return document.documentElement.scrollWidth <= 360", True)
     browser.restore_size()
 
@@ -286,10 +286,10 @@ def check_phone_width(browser):
 def check_hidden_page(browser):
     """Checks that time pauses in a hidden page, and in a page that the browser suspends."""
     # Press a key, because an example is saved only after the user has done something.
-    browser.keys([ESCAPE])
-    browser.until("return location.hash", re.compile("#session="))
+    browser.type_keys([ESCAPE])
+    browser.wait_until("return location.hash", re.compile("#session="))
     browser.script(RECORD_SAVED_SESSIONS)
-    shown_tab = browser.tab()
+    shown_tab = browser.current_tab()
     browser.new_tab()
     time.sleep(2.5)
     browser.close_tab(shown_tab)
@@ -308,7 +308,7 @@ def check_hidden_at_full_speed(browser):
     browser.script(SET_SPEED, "full")
     eventually(browser, "full speed is faster", GET_RATE, re.compile("[1-9]......"))
     browser.script("window.keptWhenHidden = []")
-    shown_tab = browser.tab()
+    shown_tab = browser.current_tab()
     browser.new_tab()
     time.sleep(6)
     browser.close_tab(shown_tab)
@@ -322,13 +322,13 @@ def check_speed_field(browser):
     """Checks that the simulation has the speed that the speed field shows. Some browsers restore this field after a reload, others when the user
     returns to the page. (The driver goes back, not a script, because Chromium lets a script skip pages without user input.)"""
     for action, return_to_page in {"a reload": lambda: browser.script("setTimeout(() => location.reload(), 50)"),
-                             "coming back": lambda: (browser.go("about:blank"), browser.back())}.items():
+                             "coming back": lambda: (browser.open("about:blank"), browser.go_back())}.items():
         browser.type_into("#speed", "full")
         # Treat a page from the browser's cache as ready when it is shown again.
         browser.script("const { dataset } = document.body; delete dataset.ready; addEventListener('pageshow', () => { dataset.ready = 'again'; })")
         return_to_page()
-        until_ready(browser)
-        is_full = browser.until("const field = document.getElementById('speed'); return field ? field.value : ''", re.compile("^(full|real)$")) == "full"
+        wait_until_ready(browser)
+        is_full = browser.wait_until("const field = document.getElementById('speed'); return field ? field.value : ''", re.compile("^(full|real)$")) == "full"
         # The first rate reported at full speed can still be low.
         eventually(browser, f"the rate of cycles after {action} is that of the speed field", GET_RATE, re.compile("^[2-9].{5}$|^.{7,}$" if is_full else "^[1-9].{4}$"))
     browser.script(SET_SPEED, "real")
@@ -352,7 +352,7 @@ def status_of(browser, editor, text):
     show_text(browser, editor[1:].removesuffix("-editor"))
     browser.script(PUT_INTO_EDITOR, editor, text)
     browser.click(f"{editor} .send")
-    return browser.until(f"return document.querySelector('{editor} .status-text').textContent", re.compile("."))
+    return browser.wait_until(f"return document.querySelector('{editor} .status-text').textContent", re.compile("."))
 
 
 def check_text_messages(browser):
@@ -377,20 +377,20 @@ def check_text_messages(browser):
 def send_lines(browser, lines):
     """Sends lines through the console. Returns the text that they add to its log."""
     browser.script("document.getElementById('lines').value = arguments[0]", lines)
-    log_length = len(browser.text("#log"))
+    log_length = len(browser.text_of("#log"))
     # Click through a script, because a notice can cover the button.
     browser.script("document.getElementById('send').click()")
-    browser.until("return document.getElementById('lines').value", "")
-    return browser.text("#log")[log_length:]
+    browser.wait_until("return document.getElementById('lines').value", "")
+    return browser.text_of("#log")[log_length:]
 
 
 def check_two_tabs(browser):
     """Checks that a second tab with the address of an open session shows another session, and can open a copy of the first."""
     address = browser.script("return location.href")
-    first_tab = browser.tab()
+    first_tab = browser.current_tab()
     browser.new_tab()
-    browser.go(address)
-    until_ready(browser)
+    browser.open(address)
+    wait_until_ready(browser)
     verdict("a notice in the second tab reports that the session is open", browser.script(GET_NOTICE), re.compile("open in another tab"))
     verdict("the second tab shows another session", browser.script("return location.href") != address, True)
     name = browser.script("return document.getElementById('name').value")
@@ -403,8 +403,8 @@ def check_two_tabs(browser):
 def check_basic_use(browser, page, folder, mcs4):
     """Checks that the calculator, files, breakpoints, the keyboard, texts, tabs and the speed field work in a browser that has all features that the
     page needs."""
-    browser.go(page.as_uri())
-    until_ready(browser)
+    browser.open(page.as_uri())
+    wait_until_ready(browser)
     verdict("the page opens without a notice", browser.script(GET_NOTICE), "")
     check_calculator(browser)
     if browser.can_multitouch:
@@ -423,8 +423,8 @@ def check_basic_use(browser, page, folder, mcs4):
 def check_with_chromium(browser, page):
     """Checks that the page does not scroll sideways on a phone, and that the browser's log has no errors. Only Chromium's driver has the functions
     for this."""
-    browser.go(page.as_uri())
-    until_ready(browser)
+    browser.open(page.as_uri())
+    wait_until_ready(browser)
     check_phone_width(browser)
     # The check repeats a script that fails because its result does not exist yet. Such failures are not errors of the page.
     expected_words = ("javascript ", "Script error", "favicon")
@@ -433,8 +433,8 @@ def check_with_chromium(browser, page):
 
 def check_policy(browser, page):
     """Checks that the page's content security policy forbids everything that TRY_FORBIDDEN tries."""
-    browser.go(page.as_uri())
-    until_ready(browser)
+    browser.open(page.as_uri())
+    wait_until_ready(browser)
     browser.script(TRY_FORBIDDEN)
     eventually(browser, "the violations of the content security policy", GET_VIOLATIONS, "base-uri form-action img-src script-src-elem style-src-elem")
 
@@ -448,21 +448,21 @@ def page_figures(browser, page):
 
 def take_picture(browser, page, path):
     """Takes a screenshot of the calculator on the page for the documents, and writes it to a file."""
-    browser.go(page.as_uri())
-    until_ready(browser)
+    browser.open(page.as_uri())
+    wait_until_ready(browser)
     choose_example(browser, "calculator")
     show_text(browser, "program")
-    browser.command("Emulation.setDeviceMetricsOverride", width=1280, height=800, deviceScaleFactor=1, mobile=False)
+    browser.send_command("Emulation.setDeviceMetricsOverride", width=1280, height=800, deviceScaleFactor=1, mobile=False)
     for legend in "22/7=":
         browser.touch_together([key(legend)], 60)
         time.sleep(0.1)
-    browser.until(GET_DIGITS, "3.1428571")
+    browser.wait_until(GET_DIGITS, "3.1428571")
     browser.click("#run")
     browser.click("#step")
-    browser.until(GET_STATUS, STEPPED)
+    browser.wait_until(GET_STATUS, STEPPED)
     browser.click_at_rest("#lines-of-program button.next + button")
     browser.click(".ram button")
-    browser.until("return document.querySelectorAll('#lines-of-program [aria-pressed=true], .ram [aria-pressed=true]').length", 2)
+    browser.wait_until("return document.querySelectorAll('#lines-of-program [aria-pressed=true], .ram [aria-pressed=true]').length", 2)
     browser.script("scrollTo(0, 0)")
-    write_picture(browser.picture(), path)
+    write_picture(browser.screenshot(), path)
     browser.restore_size()

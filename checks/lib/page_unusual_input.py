@@ -4,8 +4,8 @@ at once, and a reload immediately after an edit. No input may become an element 
 import base64
 import re
 
-from page_in_browser import (ENTER, ESCAPE, GET_NOTICE, GET_STATUS, GET_TEXT_OF_EDITOR, PUT_INTO_EDITOR, choose_example, reopen_page, show_text,
-                             until_ready)
+from page_basics import (ENTER, ESCAPE, GET_NOTICE, GET_STATUS, GET_TEXT_OF_EDITOR, PUT_INTO_EDITOR, choose_example, reopen_page, show_text,
+                         wait_until_ready)
 from verdicts import eventually, verdict
 
 INJECTED_MARKUP = "<img src=x onerror=\"window.injected=1\"><script>window.injected=1</script>"
@@ -43,7 +43,7 @@ def check_bench_answers(browser, description):
         browser.script("document.getElementById('ask').close('')")
     for _ in range(4):
         browser.script(SEND_SEQ)
-        if browser.until(IS_SEQ_ANSWERED, True, 10):
+        if browser.wait_until(IS_SEQ_ANSWERED, True, 10):
             break
     verdict(f"the bench answers after {description}", browser.script(IS_SEQ_ANSWERED), True)
     verdict(f"{description} adds no element and no script", browser.script(IS_HARMLESS), True)
@@ -102,15 +102,15 @@ def check_dropped_files(browser):
     choose_example(browser, "three lamps")
     for drop in file_drops():
         browser.script(CLOSE_ALL)
-        browser.until(GET_NOTICE, "")
+        browser.wait_until(GET_NOTICE, "")
         browser.script(DROP_FILES, [[name, base64.b64encode(data).decode()] for name, data in drop.items()])
         description = " and ".join([*drop][:2]) + (" .." if len(drop) > 2 else "")
         eventually(browser, f"{description} is opened, causes a question, or is rejected with a message",
               f"{IS_DIALOG_OPEN.replace('return', 'const asks =')}; {GET_NOTICE.replace('return', 'const text =')}; return asks || text !== ''", True)
         check_bench_answers(browser, description)
     # The last drop has 60 programs, which the page reads one after another. The last program closes any dialog that is still open.
-    browser.until(GET_NOTICE, re.compile(r"^59\.asm is in Source"))
-    until_ready(browser)
+    browser.wait_until(GET_NOTICE, re.compile(r"^59\.asm is in Source"))
+    wait_until_ready(browser)
     browser.script(CLOSE_ALL)
 
 
@@ -118,7 +118,7 @@ def check_invalid_numbers(browser):
     """Checks that numbers out of range, and input that is not a number, are rejected in the fields for numbers."""
     choose_example(browser, "three lamps")
     browser.click("#run")
-    browser.until(GET_STATUS, re.compile("^Paused"))
+    browser.wait_until(GET_STATUS, re.compile("^Paused"))
     for number in ("-5", "1000000000", "99999999999999999999", "1e3", "abc"):
         browser.script(SET_FIELD, "step-count", number)
         browser.script("document.getElementById('step-many').click()")
@@ -161,14 +161,14 @@ def check_reload_after_edit(browser):
     choose_example(browser, "three lamps")
     browser.script(PUT_INTO_EDITOR, "#program-editor", PROGRAM)
     browser.reload()
-    until_ready(browser)
+    wait_until_ready(browser)
     eventually(browser, "a text that was typed immediately before a reload is restored", GET_TEXT_OF_EDITOR.replace("arguments[0]", "'#program-editor'"), PROGRAM)
 
 
 def check(browser, page, _folder, _mcs4):
     reopen_page(browser, page)
     check_markup_in_fields(browser)
-    browser.keys([ESCAPE])
+    browser.type_keys([ESCAPE])
     check_dropped_files(browser)
     check_invalid_numbers(browser)
     check_many_clicks(browser)

@@ -4,7 +4,7 @@ also covers going back, a reload, clearing, and errors in the description of a p
 import re
 import time
 
-from page_in_browser import ENTER, GET_DIGITS, GET_STATUS, PUT_INTO_EDITOR, SET_SPEED, choose_example, key, status_of, until_ready
+from page_basics import ENTER, GET_DIGITS, GET_STATUS, PUT_INTO_EDITOR, SET_SPEED, choose_example, key, status_of, wait_until_ready
 from verdicts import eventually, verdict
 
 GET_PRINTER_TAPE = """
@@ -52,10 +52,10 @@ def check_calculator(browser):
     press_keys(browser, "12+30=")
     eventually(browser, "the typed keys and the result are printed", GET_PRINTER_TAPE, "12+ 30= 42")
     eventually(browser, "the display shows the result", GET_DIGITS, "42")
-    browser.keys(["-", "5", "8", ENTER], 60, 120)
+    browser.type_keys(["-", "5", "8", ENTER], 60, 120)
     eventually(browser, "a calculation on the keyboard is printed", GET_PRINTER_TAPE, "12+ 30= 42 42- 58= -16")
     browser.reload()
-    until_ready(browser)
+    wait_until_ready(browser)
     eventually(browser, "a reload keeps the printout", GET_PRINTER_TAPE, "12+ 30= 42 42- 58= -16")
     browser.script(SET_SPEED, "full")
     press_keys(browser, "*3=")
@@ -107,8 +107,8 @@ def check_other_printer(browser):
 
 
 def check(browser, page, _folder, _mcs4):
-    browser.go(page.as_uri() + "#example=empty%20bench")
-    until_ready(browser)
+    browser.open(page.as_uri() + "#example=empty%20bench")
+    wait_until_ready(browser)
     verdict("a board without a printer has no tape", browser.script(GET_PRINTER_TAPE), "-")
     check_calculator(browser)
     check_description_errors(browser)

@@ -6,7 +6,7 @@ import re
 import time
 
 from page_editor import GET_CARET, GET_ERRORS, GET_STATUS_OF, PROGRAM_EDITOR, SET_CARET
-from page_in_browser import DOWN, ENTER, ESCAPE, GET_NOTICE, GET_STATUS, GET_TEXT_OF_EDITOR, STEPPED, TAB, move_focus_until, send_lines, until_ready
+from page_basics import DOWN, ENTER, ESCAPE, GET_NOTICE, GET_STATUS, GET_TEXT_OF_EDITOR, STEPPED, TAB, move_focus_until, send_lines, wait_until_ready
 from page_names import GET_BREAKPOINT_LINES, GET_SOURCE_STATUS
 from page_texts import GET_NAME, GET_PROGRAM_TEXT, GET_QUESTION, GET_TEXTS, wait_for_download
 from verdicts import eventually, verdict
@@ -36,25 +36,25 @@ def press_tab_until(browser, description, code, max_presses=90):
 
 def type_keys(browser, text):
     """Types text on the keyboard."""
-    browser.keys([*text], 2, 2)
+    browser.type_keys([*text], 2, 2)
 
 
 def choose_by_keyboard(browser, name):
     """Chooses an example by keyboard alone."""
     browser.script("document.getElementById('name').focus()")
     move_focus_until(browser, TAB, "e.id === 'sessions-button'", 5)
-    browser.keys([ENTER])
-    browser.until(IS_SESSIONS_OPEN, True)
+    browser.type_keys([ENTER])
+    browser.wait_until(IS_SESSIONS_OPEN, True)
     press_tab_until(browser, f"the example {name}", f"e.getAttribute('aria-label') === 'new session: {name}'")
-    browser.keys([ENTER])
+    browser.type_keys([ENTER])
     eventually(browser, f"Enter opens the example {name}", GET_NAME, name)
-    browser.until(IS_SESSIONS_OPEN, False)
+    browser.wait_until(IS_SESSIONS_OPEN, False)
 
 
 def go_to_source(browser):
     """Moves the focus to the program's editor by keyboard."""
     browser.script("document.querySelector('#text-tabs [aria-selected=true]').focus()")
-    browser.keys([HOME], 5, 5)
+    browser.type_keys([HOME], 5, 5)
     press_tab_until(browser, "the source", IS_IN_SOURCE)
 
 
@@ -63,7 +63,7 @@ def check_offered_board(browser):
     choose_by_keyboard(browser, "empty bench")
     verdict("an empty bench offers a board", browser.script(IS_BOARD_OFFERED), True)
     press_tab_until(browser, "a board to begin with", "e.id === 'first-board'")
-    browser.keys([ENTER])
+    browser.type_keys([ENTER])
     eventually(browser, "the board has four lamps", GET_LAMPS, "....")
     verdict("the board is not offered again", browser.script(IS_BOARD_OFFERED), False)
     verdict("the focus is in the front panel", browser.script("return document.activeElement.closest('#front') !== null"), True)
@@ -74,13 +74,13 @@ def check_typed_program(browser):
     go_to_source(browser)
     for line in TYPED_LINES:
         type_keys(browser, line)
-        browser.keys([ENTER], 2, 2)
+        browser.type_keys([ENTER], 2, 2)
     eventually(browser, "the error is reported while the user types", GET_ERRORS.format(PROGRAM_EDITOR), ERROR_MESSAGE)
     caret_before = browser.script(GET_CARET, PROGRAM_EDITOR)
     browser.press_chord(CONTROL, ENTER)
     eventually(browser, "Ctrl+Enter does not assemble a program with an error", GET_STATUS_OF.format(PROGRAM_EDITOR), ERROR_MESSAGE)
     verdict("the caret is unchanged", browser.script(GET_CARET, PROGRAM_EDITOR), caret_before)
-    browser.keys([UP, UP, END, BACKSPACE, "P"], 5, 5)
+    browser.type_keys([UP, UP, END, BACKSPACE, "P"], 5, 5)
     eventually(browser, "the corrected program has no error", GET_ERRORS.format(PROGRAM_EDITOR), "")
     browser.press_chord(CONTROL, ENTER)
     eventually(browser, "Ctrl+Enter assembles and runs the program", GET_STATUS_OF.format(PROGRAM_EDITOR), "Assembled 6 bytes; running from 000.")
@@ -90,14 +90,14 @@ def check_typed_program(browser):
 
 def check_board_key(browser):
     """Checks that a key of the keyboard presses a key of the board, which changes the lamps."""
-    browser.keys([ESCAPE, TAB], 5, 5)
+    browser.type_keys([ESCAPE, TAB], 5, 5)
     lamps_before = browser.script(GET_LAMPS)
     browser.script("window.shown = new Set()")
     browser.script("new MutationObserver(() => window.shown.add([...document.querySelectorAll('.bulb')].map((node) => "
                    "(node.classList.contains('lit') ? '*' : '.')).join(''))).observe(document.getElementById('lamps'), "
                    "{ subtree: true, attributes: true })")
     letter = browser.script("return document.querySelector('#keys kbd').textContent")
-    browser.keys([letter], 300, 100)
+    browser.type_keys([letter], 300, 100)
     eventually(browser, "a key changes the lamps", "return window.shown.size > 0 && [...window.shown].some((each) => each !== arguments[0])"
                .replace("arguments[0]", f"'{lamps_before}'"), True)
     eventually(browser, "the key is up again", GET_KEYS_DOWN, "")
@@ -105,18 +105,18 @@ def check_board_key(browser):
 
 def check_breakpoint(browser):
     """Checks that the program stops at a breakpoint in the source, and that a step executes one instruction."""
-    browser.keys([F8])
-    browser.until(GET_STATUS, re.compile("^Paused"))
+    browser.type_keys([F8])
+    browser.wait_until(GET_STATUS, re.compile("^Paused"))
     go_to_source(browser)
     browser.script(SET_CARET, PROGRAM_EDITOR, 3, 0)
-    browser.keys([F9])
+    browser.type_keys([F9])
     eventually(browser, "F9 sets a breakpoint", GET_BREAKPOINT_LINES, "4")
-    browser.keys([F8])
+    browser.type_keys([F8])
     eventually(browser, "the program stops at the breakpoint", GET_STATUS, re.compile("^Paused at 002, at a breakpoint"))
-    browser.keys([F11])
+    browser.type_keys([F11])
     eventually(browser, "F11 executes one instruction", GET_STATUS, STEPPED)
     verdict("the next instruction is WMP", browser.script(GET_REGISTERS), re.compile("pc003"))
-    browser.keys([F9])
+    browser.type_keys([F9])
     eventually(browser, "F9 clears the breakpoint", GET_BREAKPOINT_LINES, "")
 
 
@@ -124,11 +124,11 @@ def check_restored_source(browser):
     """Checks that Ctrl+Z restores a source that was replaced by a disassembly of ROM."""
     typed_source = browser.script(GET_PROGRAM_TEXT)
     browser.script("document.getElementById('from-rom').focus()")
-    browser.keys([ENTER])
-    browser.until(GET_QUESTION, "Replace the source?")
+    browser.type_keys([ENTER])
+    browser.wait_until(GET_QUESTION, "Replace the source?")
     verdict("the button Replace it has the focus", browser.script("return document.activeElement.textContent"), "Replace it")
-    browser.keys([ENTER])
-    browser.until(GET_QUESTION, "")
+    browser.type_keys([ENTER])
+    browser.wait_until(GET_QUESTION, "")
     eventually(browser, "the source that is disassembled from ROM has no comment", GET_PROGRAM_TEXT, re.compile(r"^\s*LDM 3\s+WRR\s+RDR\s+WMP\s+JUN 0x002\s*$"))
     go_to_source(browser)
     browser.press_chord(CONTROL, "z")
@@ -138,9 +138,9 @@ def check_restored_source(browser):
 def save_by_keyboard(browser):
     """Saves through the File menu: Enter opens the menu, an arrow key moves to Save, Enter saves."""
     browser.script("document.getElementById('menu-button').focus()")
-    browser.keys([ENTER, DOWN])
+    browser.type_keys([ENTER, DOWN])
     verdict("the Down arrow reaches Save", browser.script("return document.activeElement.id"), "save-button")
-    browser.keys([ENTER])
+    browser.type_keys([ENTER])
 
 
 def check_project_file(browser, folder):
@@ -166,7 +166,7 @@ def check_project_file(browser, folder):
     save_by_keyboard(browser)
     verdict("the project that is saved again has the same bytes", wait_for_download(folder, "My first board.mcsp").read_bytes() == project_bytes, True)
     browser.script("document.querySelector(\"#notice button[aria-label^='Reopen']\").focus()")
-    browser.keys([ENTER])
+    browser.type_keys([ENTER])
     eventually(browser, "the previous session is open again", GET_PROGRAM_TEXT, re.compile("^; not this"))
 
 
@@ -186,18 +186,18 @@ def check_example(browser):
     line = source.split("\n").index("        SUB R4")
     go_to_source(browser)
     browser.script(SET_CARET, PROGRAM_EDITOR, line, len("        SUB R4"))
-    browser.keys([BACKSPACE, "5"], 5, 5)
+    browser.type_keys([BACKSPACE, "5"], 5, 5)
     browser.press_chord(CONTROL, ENTER)
     eventually(browser, "Ctrl+Enter assembles and runs the corrected program", GET_STATUS_OF.format(PROGRAM_EDITOR), re.compile("^Assembled .* bytes; running from 000"))
-    browser.until(GET_STATUS, re.compile("at a breakpoint"))
+    browser.wait_until(GET_STATUS, re.compile("at a breakpoint"))
     script = "\n".join(["unbreak 8", "reset", *["run 91000"] * 10, "lamps", "run 97000", "lamps"])
     verdict("the corrected program counts to 9 and begins again at 0", send_lines(browser, script), re.compile(r"lamps \*\.\.\*.*lamps \.\.\.\."))
 
 
 def check(browser, page, folder, _mcs4):
-    browser.go("about:blank")
-    browser.go(page.as_uri())
-    until_ready(browser)
+    browser.open("about:blank")
+    browser.open(page.as_uri())
+    wait_until_ready(browser)
     check_offered_board(browser)
     check_typed_program(browser)
     check_board_key(browser)

@@ -5,7 +5,7 @@ import base64
 import re
 import time
 
-from page_in_browser import GET_DIGITS, GET_STATUS, PUT_INTO_EDITOR, TOP, choose_example, move_focus_until, key, show_text, status_of, until_ready
+from page_basics import GET_DIGITS, GET_STATUS, PUT_INTO_EDITOR, TOP, choose_example, move_focus_until, key, show_text, status_of, wait_until_ready
 from picture import write_picture
 from verdicts import eventually, verdict
 
@@ -49,7 +49,7 @@ return [document.getElementById("digits").textContent,
 # The number of segments that are on when a digit is shown.
 SEGMENT_COUNTS = {"0": 6, "1": 2, "2": 5, "3": 5, "4": 4, "5": 5, "6": 6, "7": 3, "8": 7, "9": 6}
 # Records all announcements in `said`. Announcements less than half a second after a change of the display are also recorded in `saidEarly`. The page
-# must not announce the display until it has been unchanged for a second. On a busy machine, the display can be unchanged for so long even while the
+# must not announce the display until it has been unchanged for a second. On a busy machine, the display can be unchanged for a second even while the
 # stopwatch is running.
 WATCH_ANNOUNCEMENTS = """
 const watch = (id, then) => new MutationObserver(then)
@@ -93,8 +93,9 @@ def check_traffic_light(browser):
 
 
 def check_test_button(browser):
-    """Checks that the TEST button WALK is down only while it is held by finger, letter or space bar. While time is paused, a click must toggle it."""
-    verdict("TEST is a button with its name", browser.text(f"{TEST_KEY} b"), "WALK")
+    """Checks that the TEST button WALK is down only while it is held with a finger, its letter or the space bar. While time is paused, a click must
+    toggle it."""
+    verdict("TEST is a button with its name", browser.text_of(f"{TEST_KEY} b"), "WALK")
     verdict("the other TEST button is hidden", browser.script("return document.getElementById('test').hidden"), True)
     browser.script(f"window.presses = []; new MutationObserver(() => window.presses.push(document.querySelector('{TEST_KEY}')"
                    ".getAttribute('aria-pressed'))).observe(document.getElementById('keys'), { subtree: true, attributes: true, "
@@ -103,11 +104,11 @@ def check_test_button(browser):
     eventually(browser, "the button is down while a finger holds it, and then up", "return window.presses.join(' ')", "true false")
     eventually(browser, "the cars' light changes to amber or red", GET_NAMES, re.compile("red, lit.*stand, lit|amber, lit.*stand, lit"))
     eventually(browser, "the pedestrians' light changes to walk", GET_NAMES, re.compile("red, lit.*walk, lit"))
-    browser.keys(["w"], 100)
+    browser.type_keys(["w"], 100)
     eventually(browser, "its letter presses the button", "return window.presses.join(' ')", "true false true false")
     browser.script("document.getElementById('run').focus()")
     verdict("the Tab key reaches the button", move_focus_until(browser, TAB, f"e.matches('{TEST_KEY}')"), True)
-    browser.keys([" "], 100)
+    browser.type_keys([" "], 100)
     eventually(browser, "the space bar presses the button", "return window.presses.join(' ')", "true false true false true false")
     browser.click("#run")
     eventually(browser, "the program is paused", GET_STATUS, re.compile("^Paused"))
@@ -122,7 +123,7 @@ def check_stopwatch(browser):
     stopped."""
     choose_example(browser, "stopwatch")
     eventually(browser, "the title of the stopwatch's front panel", GET_TITLE, "Stopwatch")
-    verdict("the switch has its name and is off", [browser.text(f"{TEST_KEY} b"), browser.script(IS_TEST_PRESSED)], ["RUN", "false"])
+    verdict("the switch has its name and is off", [browser.text_of(f"{TEST_KEY} b"), browser.script(IS_TEST_PRESSED)], ["RUN", "false"])
     eventually(browser, "the display shows 0 at the beginning", GET_DIGITS, "0")
     browser.script(WATCH_ANNOUNCEMENTS)
     browser.touch_together([TEST_KEY], 80)
@@ -173,7 +174,7 @@ def check_port_names(browser):
     """Checks the panel of ports for the lock example: it names the parts at each port and chain."""
     choose_example(browser, "lock")
     eventually(browser, "the number of colours of the lamps", f"{GET_COLOURS.replace('return', 'return new Set(')}).size", 3)
-    verdict("the names of ports and chains", browser.text("#ports-status"),
+    verdict("the names of ports and chains", browser.text_of("#ports-status"),
             re.compile("1columns of the keys0iii.*chain 0rows of the keys"))
 
 
@@ -188,8 +189,8 @@ def check_board_without_panel(browser):
 
 
 def check_panel_errors(browser):
-    """Checks that errors in the comments about a front panel are reported, and that the rest of the panel is shown. A typed front panel must be
-    shown early only if the board is the same and has no error."""
+    """Checks that errors in the comments about a front panel are reported, and that the rest of the panel is shown. While the user
+    types, the page must show the changed front panel only if the board is the same and has no error."""
     bad_panel = "# title: Odd <b>one</b>\n# colour 0: pink\n# lamp 16: nobody\n# lamp 0: here <i>x</i>\n# display 15: 1 digit\n# grid 0: ghost\n"
     verdict("a board whose front panel has errors is applied", status_of(browser, "#board-editor", bad_panel + board_of_lamps(16)),
             "Board applied.")
@@ -212,7 +213,7 @@ def check_panel_errors(browser):
         time.sleep(1.5)
         verdict(f"the front panel of a text {description} is shown only after the board is applied", [browser.script(GET_TITLE), browser.script(GET_PANEL_ERRORS)], ["Another", ""])
     browser.reload()
-    until_ready(browser)
+    wait_until_ready(browser)
     eventually(browser, "a reload does not show the new front panel", GET_TITLE, "Another")
     status_of(browser, "#board-editor", "# title: Third\n" + board_of_lamps(15))
     eventually(browser, "the new front panel is shown after the board is applied", GET_TITLE, "Third")
@@ -222,12 +223,12 @@ def check_forced_colours(browser):
     """Checks that in forced colours, lamps have one colour and show their own colours as letters, and that only lamps that are on are filled."""
     choose_example(browser, "traffic light")
     eventually(browser, "the traffic light is green", GET_NAMES, re.compile("green, lit"))
-    browser.command("Emulation.setEmulatedMedia", features=[{"name": "forced-colors", "value": "active"}])
+    browser.send_command("Emulation.setEmulatedMedia", features=[{"name": "forced-colors", "value": "active"}])
     verdict("in forced colours all lamps have one colour", len(set(browser.script(GET_RINGS))), 1)
     verdict("in forced colours only lamps that are on are filled", browser.script(ARE_ONLY_LIT_LAMPS_FILLED), True)
     letters_script = "return [...document.querySelectorAll('#front .bulb')].map((bulb) => getComputedStyle(bulb, '::before').content).join(' ')"
     verdict("in forced colours letters show the colours of the lamps", browser.script(letters_script), '"" "A" "" "G" "G"')
-    browser.command("Emulation.setEmulatedMedia", features=[])
+    browser.send_command("Emulation.setEmulatedMedia", features=[])
 
 
 def check_three_lamps(browser):
@@ -238,8 +239,8 @@ def check_three_lamps(browser):
 
 
 def check(browser, page, _folder, _mcs4):
-    browser.go(page.as_uri())
-    until_ready(browser)
+    browser.open(page.as_uri())
+    wait_until_ready(browser)
     check_traffic_light(browser)
     check_stopwatch(browser)
     check_die(browser)
@@ -254,20 +255,20 @@ def check(browser, page, _folder, _mcs4):
 
 def take_pictures(browser, page, folder):
     """Takes screenshots of three boards on the page for the documents, as PNG files in a folder."""
-    browser.go(page.as_uri())
-    until_ready(browser)
-    browser.command("Emulation.setDeviceMetricsOverride", width=1280, height=1400, deviceScaleFactor=1, mobile=False)
+    browser.open(page.as_uri())
+    wait_until_ready(browser)
+    browser.send_command("Emulation.setDeviceMetricsOverride", width=1280, height=1400, deviceScaleFactor=1, mobile=False)
     for name, keys in (("traffic light", ""), ("calculator", "22/7="), ("stacker", "ddd")):
         choose_example(browser, name)
         browser.script("scrollTo(0, 0)")
         time.sleep(0.5)
-        browser.keys(list(keys), 50, 60)
+        browser.type_keys(list(keys), 50, 60)
         time.sleep(0.5)
         # Hide the hints below the keys, which are not a part of the board.
         browser.script("for (const id of ['typing-label', 'keys-hint']) document.getElementById(id).hidden = true")
         box = browser.script("""
             const front = document.getElementById("front").getBoundingClientRect();
             return [front.x, front.y, front.width, document.getElementById("keys").getBoundingClientRect().bottom - front.y + 8]""")
-        screenshot = browser.command("Page.captureScreenshot", clip=dict(zip(("x", "y", "width", "height", "scale"), [*box, 1])))
+        screenshot = browser.send_command("Page.captureScreenshot", clip=dict(zip(("x", "y", "width", "height", "scale"), [*box, 1])))
         write_picture(base64.b64decode(screenshot["data"]), folder / f"{name.replace(' ', '_')}.png")
     browser.restore_size()

@@ -3,7 +3,7 @@
 import re
 import time
 
-ELEMENT = "element-6066-11e4-a52e-4f735466cecf"
+ELEMENT_KEY = "element-6066-11e4-a52e-4f735466cecf"
 # The pause in milliseconds between the touches of two fingers.
 PAUSE = {"type": "pause", "duration": 10}
 # JavaScript that is inserted before every script: a function that returns true if an element is visible. The oldest browsers have no
@@ -15,7 +15,7 @@ return `${element.getBoundingClientRect().top} ${element.textContent}`"""
 
 
 class DriverError(Exception):
-    """Raised if the driver or the page returns an error instead of a value."""
+    """An error that the driver or the page returns instead of a value."""
 
 
 def matches(actual, expected):
@@ -54,14 +54,14 @@ class BrowserDriver:
             time.sleep(0.3)
         self.click_element(self.find(selector))
 
-    def hold(self, selector, milliseconds_down):
+    def hold_mouse(self, selector, milliseconds_down):
         """Holds the mouse button down on an element for a time in milliseconds."""
         self.scroll_to(selector)
         time.sleep(self.settle_seconds)
-        self.actions({
+        self.perform_actions({
             "type": "pointer", "id": "mouse", "parameters": {"pointerType": "mouse"},
             "actions": [
-                {"type": "pointerMove", "duration": 0, "x": 0, "y": 0, "origin": {ELEMENT: self.find(selector)}},
+                {"type": "pointerMove", "duration": 0, "x": 0, "y": 0, "origin": {ELEMENT_KEY: self.find(selector)}},
                 {"type": "pointerDown", "button": 0},
                 {"type": "pause", "duration": milliseconds_down},
                 {"type": "pointerUp", "button": 0},
@@ -72,17 +72,17 @@ class BrowserDriver:
         """Types text into an element."""
         self.send_to_element(self.find(selector), text)
 
-    def text(self, selector):
+    def text_of(self, selector):
         """Returns the text of an element."""
         return self.script("return document.querySelector(arguments[0]).textContent", selector)
 
     def touch_together(self, selectors, milliseconds_down):
         """Touches several elements, one finger each. The fingers go down in sequence, stay down together for a time in milliseconds, and go up."""
         self.scroll_to(selectors[0])
-        self.actions(*[{
+        self.perform_actions(*[{
             "type": "pointer", "id": f"finger{number}", "parameters": {"pointerType": "touch"},
             "actions": [
-                {"type": "pointerMove", "duration": 0, "x": 0, "y": 0, "origin": {ELEMENT: self.find(selector)}},
+                {"type": "pointerMove", "duration": 0, "x": 0, "y": 0, "origin": {ELEMENT_KEY: self.find(selector)}},
                 *[PAUSE] * number,
                 {"type": "pointerDown", "button": 0},
                 *[PAUSE] * (len(selectors) - 1 - number),
@@ -97,20 +97,20 @@ class BrowserDriver:
 
     def click_secondary(self, x, y):
         """Clicks a point of the window with the secondary mouse button."""
-        self.actions({"type": "pointer", "id": "mouse", "parameters": {"pointerType": "mouse"}, "actions": [
+        self.perform_actions({"type": "pointer", "id": "mouse", "parameters": {"pointerType": "mouse"}, "actions": [
             {"type": "pointerMove", "duration": 0, "x": x, "y": y}, {"type": "pointerDown", "button": 2}, {"type": "pointerUp", "button": 2}]})
 
-    def keys(self, keys, milliseconds_down=70, milliseconds_up=60):
+    def type_keys(self, keys, milliseconds_down=70, milliseconds_up=60):
         """Types keys on the keyboard in sequence, each down and then up for the given milliseconds."""
         steps = []
         for key in keys:
             steps += [{"type": "keyDown", "value": key}, {"type": "pause", "duration": milliseconds_down},
                       {"type": "keyUp", "value": key}, {"type": "pause", "duration": milliseconds_up}]
-        self.actions({"type": "key", "id": "keyboard", "actions": steps})
+        self.perform_actions({"type": "key", "id": "keyboard", "actions": steps})
 
     def press_chord(self, held_key, typed_key):
         """Types a key while another key is held."""
-        self.actions({"type": "key", "id": "keyboard", "actions": [
+        self.perform_actions({"type": "key", "id": "keyboard", "actions": [
             {"type": "keyDown", "value": held_key}, {"type": "keyDown", "value": typed_key},
             {"type": "keyUp", "value": typed_key}, {"type": "keyUp", "value": held_key}]})
 
@@ -129,7 +129,7 @@ class BrowserDriver:
         """Restores the default size of the window."""
         self.set_window_size(1280, 900)
 
-    def until(self, code, expected, seconds=30):
+    def wait_until(self, code, expected, seconds=30):
         """Repeats a script until it returns the expected value, or a string that matches the expected pattern, but for at most this number of
         seconds. Returns the last result. A script that fails is also repeated, because scripts fail while the browser leaves the page."""
         deadline = time.monotonic() + seconds

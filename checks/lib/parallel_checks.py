@@ -1,5 +1,5 @@
 #!/usr/bin/env python3
-"""Runs the gate and the checks in parallel: `checks/lib/side_by_side.py all|gate|checks|long|quick FOLDER`, for ./test.
+"""Runs the gate and the checks in parallel: `checks/lib/parallel_checks.py all|gate|checks|long|quick FOLDER`, for ./test.
 
 Environment variables name the program to check. Without a gate, it is MCS4. After the gate, it is BUILT_PROGRAM, which the gate builds. While the
 gate runs, it is SHIPPED_PROGRAM. If that is empty, the checks start after the gate.
@@ -32,10 +32,10 @@ sys.dont_write_bytecode = True
 from browsers import installed_browsers  # noqa: E402
 
 TOP = pathlib.Path(__file__).resolve().parent.parent.parent
-CACHE = pathlib.Path(os.environ.get("XDG_CACHE_HOME") or pathlib.Path.home() / ".cache") / "fethsaim/check_seconds.json"
+CACHE_FILE = pathlib.Path(os.environ.get("XDG_CACHE_HOME") or pathlib.Path.home() / ".cache") / "fethsaim/check_seconds.json"
 # The time limit of a check is MIN_SECONDS plus TIME_FACTOR times its usual time.
 MIN_SECONDS, TIME_FACTOR = 900, 5
-END_TIMEOUT = 5
+END_TIMEOUT_SECONDS = 5
 # The minimum number of processors for running checks at the same time as the gate.
 MIN_PROCESSORS = 4
 COUNTS_PATTERN = re.compile(r"^(\d+) passed, (\d+) failed", re.M)
@@ -57,8 +57,9 @@ PACKAGES = {
 @dataclass(frozen=True)
 class Check:
     """A script in checks/, with the commands and files that it needs, and the commands and files that only some of its parts need. Its times are the
-    usual seconds, and the seconds that each installed browser adds. Its arguments can differ by mode. It may type at a terminal, or read what the
-    gate builds. If the parts of a script run in parallel, each part is a separate check, named by `part`."""
+    usual seconds, and the seconds that each installed browser adds. Its arguments can differ by mode: `long` and `quick` have those of these modes.
+    It may type at a terminal, or read what the gate builds. If the parts of a script run in parallel, each part is a separate check, named by
+    `part`."""
 
     name: str
     needs: str = ""
@@ -97,7 +98,7 @@ class Check:
 
 
 CHECKS = [
-    Check("page", "python3 node esbuild", 20, "--half 1", quick="--only layout use --browser Chromium", part="1", browser_seconds=350),
+    Check("page", "python3 node esbuild", 20, "--half 1", quick="--only layout basics --browser Chromium", part="1", browser_seconds=350),
     Check("page", "python3 node esbuild", 20, "--half 2 --scripts 100", long="--half 2 --scripts 400 --anew", part="2", browser_seconds=350),
     Check("power", "python3 cc", 240, "--seconds 240", long="--long"),
     Check("page_source", "python3 node", 150, needs_of_parts="tsc eslint esbuild", quick=""),
@@ -187,7 +188,7 @@ def install_packages(checks):
 
 
 def processes_with(mark):
-    """Returns the ids of the processes that have this mark in their environment."""
+    """Returns the IDs of the processes that have this mark in their environment."""
     processes = []
     for folder in pathlib.Path("/proc").glob("[0-9]*"):
         try:
@@ -209,7 +210,7 @@ def command_of(process):
 def end_processes(mark):
     """Ends the processes that a check has left running. Sends them two signals, so that they can clean up, and then kills them."""
     for number in (signal.SIGINT, signal.SIGTERM, signal.SIGKILL):
-        end = time.monotonic() + END_TIMEOUT
+        end = time.monotonic() + END_TIMEOUT_SECONDS
         processes = processes_with(mark)
         for process in processes:
             try:
@@ -234,10 +235,10 @@ class Run:
         self.waiting = sorted(self.checks, key=lambda check: -self.expected_seconds[check.label])
         self.gate = None
         self.processors = len(os.sched_getaffinity(0))
-        self.running, self.ended, self.times = [], [], {}
+        self.running, self.ended_checks, self.times = [], [], {}
         self.processor_seconds = 0
         self.passed = self.failed = 0
-        self.left_out = []
+        self.not_run_lines = []
         self.start_time = time.monotonic()
 
     def program(self):
@@ -246,7 +247,7 @@ class Run:
             return os.environ["MCS4"]
         return os.environ["SHIPPED_PROGRAM"] if self.gate and not self.gate.is_over else os.environ["BUILT_PROGRAM"]
 
-    def begin(self, check, arguments):
+    def start_process(self, check, arguments):
         """Starts a check, or the gate, with its output in a file."""
         output = self.folder / f"output.{check.label.replace('/', '.')}"
         mark = f"{os.getpid()}.{check.label}"
@@ -264,26 +265,26 @@ class Run:
         """Starts a check, or records that it is not run."""
         missing = [PACKAGES.get(need, need) for need in check.needs.split() if not is_available(need)]
         if missing:
-            self.left_out.append(f"not run: checks/{check.name} (Debian's packages: {' '.join(missing)})")
-            self.ended.append(check)
-            self.show(f"== {check.title(self.mode)}\n{self.left_out[-1]}")
+            self.not_run_lines.append(f"not run: checks/{check.name} (Debian's packages: {' '.join(missing)})")
+            self.ended_checks.append(check)
+            self.show(f"== {check.title(self.mode)}\n{self.not_run_lines[-1]}")
             return
-        self.begin(check, check.command(self.mode))
+        self.start_process(check, check.command(self.mode))
 
     def end(self, running):
         """Counts the results of a check, or of the gate, and prints the output of a check."""
         self.running.remove(running)
         end_processes(running.mark)
-        self.ended.append(running.check)
+        self.ended_checks.append(running.check)
         status, seconds = running.process.returncode, running.seconds()
         self.processor_seconds += running.processor_seconds
         text = running.output.read_text(errors="replace")
-        sums = COUNTS_PATTERN.findall(text)
-        passed, failed = map(int, sums[-1]) if sums else (0, 1)
+        counts = COUNTS_PATTERN.findall(text)
+        passed, failed = map(int, counts[-1]) if counts else (0, 1)
         self.passed += passed
         self.failed += failed if status == 0 or failed else 1
-        self.left_out += [line for line in re.findall(r"^not run: .*$", text, re.M) if line not in self.left_out]
-        if sums:
+        self.not_run_lines += [line for line in re.findall(r"^not run: .*$", text, re.M) if line not in self.not_run_lines]
+        if counts:
             self.times[running.check.label] = seconds
         if running.check is GATE:
             self.gate.end()
@@ -291,7 +292,7 @@ class Run:
                 self.waiting.clear()
                 self.show("test: the gate built no program, so no more checks run")
             self.show(f"the gate took {seconds / 60:.0f} min on {self.processors} processors, load {os.getloadavg()[2]:.0f}; {self.gate.proved_count} of "
-                      f"{self.gate.passed} crates were proved anew")
+                      f"{self.gate.passed_crates} crates were proved anew")
             if self.checks:
                 self.show(f"the checks run on {self.program()}")
         else:
@@ -306,7 +307,7 @@ class Run:
             return 1
         return self.processors if os.getloadavg()[0] < self.processors - 1 else 2
 
-    def next(self):
+    def take_next_check(self):
         """Removes and returns the next waiting check that can start now, or returns None."""
         is_gate_over = self.gate is None or self.gate.is_over
         if len(self.running) >= self.max_running():
@@ -333,25 +334,25 @@ class Run:
                 self.gate.show(self.show)
             if is_over:
                 self.end(running)
-        if (check := self.next()) is not None:
+        if (check := self.take_next_check()) is not None:
             self.start(check)
 
     def run_all(self):
         """Runs the gate and all checks. The checks that type at a terminal come last."""
         if self.mode in ("all", "gate"):
             self.show("== rt ci")
-            self.gate = Gate(self.begin(GATE, [f"checks/{GATE.name}"]).output)
+            self.gate = Gate(self.start_process(GATE, [f"checks/{GATE.name}"]).output)
         install_packages(self.checks)
         while self.waiting or self.running:
             self.update()
-            self.progress()
+            self.show_progress()
             time.sleep(0.2)
 
     def show(self, text):
         """Prints text in place of the progress line."""
         print(f"\r\033[K{text}" if sys.stdout.isatty() else text, flush=True)
 
-    def progress(self):
+    def show_progress(self):
         """On a terminal, prints the progress line: the number of finished checks, the running ones, and the estimated remaining time."""
         if not sys.stdout.isatty():
             return
@@ -360,8 +361,8 @@ class Run:
                      for check in [*self.checks, GATE] if check in self.waiting or check.label in elapsed_seconds}
         check_seconds = sum(seconds for check, seconds in remaining.items() if check is not GATE) / min(self.processors, max(len(remaining), 1))
         names = ", ".join(name for name in elapsed_seconds if name != GATE.label)
-        gate_text = f"gate {self.gate.passed} of {self.gate.crates} crates, " if self.gate and not self.gate.is_over else ""
-        finished_count = sum(check is not GATE for check in self.ended)
+        gate_text = f"gate {self.gate.passed_crates} of {self.gate.crate_count} crates, " if self.gate and not self.gate.is_over else ""
+        finished_count = sum(check is not GATE for check in self.ended_checks)
         minutes = max(check_seconds, remaining.get(GATE, 0)) / 60
         line = f"{gate_text}checks {finished_count} of {len(self.checks)} done, running: {names or 'none'}, about {minutes:.0f} min left"
         print(f"\r\033[K{line[: shutil.get_terminal_size().columns - 1]}", end="", flush=True)
@@ -369,7 +370,7 @@ class Run:
     def write_totals(self):
         """Writes the totals for ./test, and prints the longest checks."""
         (self.folder / "summed").write_text(f"{self.passed} {self.failed}\n")
-        (self.folder / "left_out").write_text("".join(f"{line}\n" for line in self.left_out))
+        (self.folder / "left_out").write_text("".join(f"{line}\n" for line in self.not_run_lines))
         longest = sorted(self.times.items(), key=lambda pair: -pair[1])[:10]
         self.show("longest: " + ", ".join(f"{name} {seconds:.0f} s" for name, seconds in longest))
         self.show(f"all took {(time.monotonic() - self.start_time) / 60:.0f} min on {self.processors} processors, and "
@@ -381,21 +382,21 @@ class Gate:
 
     def __init__(self, output):
         self.output = output
-        self.shown = 0
-        self.passed = self.proved_count = 0
+        self.shown_bytes = 0
+        self.passed_crates = self.proved_count = 0
         self.is_over = False
-        self.crates = len(re.findall(r"^\w+:", (TOP / "crates.txt").read_text(), re.M))
+        self.crate_count = len(re.findall(r"^\w+:", (TOP / "crates.txt").read_text(), re.M))
 
     def show(self, show):
         """Shows the complete lines that the gate has printed since the last call. `show` is the function that prints them."""
         with self.output.open("rb") as file:
-            file.seek(self.shown)
+            file.seek(self.shown_bytes)
             text = file.read()
         lines = text[: text.rfind(b"\n") + 1]
         if lines:
-            self.shown += len(lines)
+            self.shown_bytes += len(lines)
             ends = re.findall(rb"^rt: \w+ (proved|is kept)", lines, re.M)
-            self.passed += len(ends)
+            self.passed_crates += len(ends)
             self.proved_count += ends.count(b"proved")
             show(lines.decode(errors="replace").rstrip("\n"))
 
@@ -407,7 +408,7 @@ class Gate:
 def last_times(mode):
     """Returns the number of seconds that each check took in the last run in a mode, by the check's label. Returns no times if they cannot be read."""
     try:
-        times = json.loads(CACHE.read_text())[mode]
+        times = json.loads(CACHE_FILE.read_text())[mode]
         return {name: float(seconds) for name, seconds in times.items()}
     except (OSError, ValueError, KeyError, TypeError, AttributeError):
         return {}
@@ -416,11 +417,11 @@ def last_times(mode):
 def store_times(mode, times):
     """Stores the times for the next run, if the cache folder is writable."""
     try:
-        stored = json.loads(CACHE.read_text()) if CACHE.exists() else {}
-        CACHE.parent.mkdir(parents=True, exist_ok=True)
-        temporary_file = CACHE.with_name(f"{CACHE.name}.{os.getpid()}")
+        stored = json.loads(CACHE_FILE.read_text()) if CACHE_FILE.exists() else {}
+        CACHE_FILE.parent.mkdir(parents=True, exist_ok=True)
+        temporary_file = CACHE_FILE.with_name(f"{CACHE_FILE.name}.{os.getpid()}")
         temporary_file.write_text(json.dumps({**stored, mode: {**stored.get(mode, {}), **times}}))
-        temporary_file.replace(CACHE)
+        temporary_file.replace(CACHE_FILE)
     except (OSError, ValueError, TypeError, AttributeError):
         return
 
@@ -440,8 +441,8 @@ def main():
             signal.signal(number, signal.SIG_IGN)
         for running in run.running:
             end_processes(running.mark)
-        ended = sum(check is not GATE for check in run.ended)
-        gate_text = f", and the gate {run.gate.passed} of {run.gate.crates} crates" if run.gate else ""
+        ended = sum(check is not GATE for check in run.ended_checks)
+        gate_text = f", and the gate {run.gate.passed_crates} of {run.gate.crate_count} crates" if run.gate else ""
         print(f"test: stopped. {ended} of {len(run.checks)} checks had ended{gate_text}: {run.passed} passed, {run.failed} failed so far", flush=True)
         return 130
     run.write_totals()

@@ -4,8 +4,8 @@ import re
 import time
 
 from page_altered import REQUEST_FAILURE, EXPOSE_WORKER, INSTALL_FAILURES, write_altered_page
-from page_in_browser import (ENTER, ESCAPE, GET_DIGITS, GET_NOTICE, GET_STATUS, GET_TEXT_OF_EDITOR, IS_READY, PUT_INTO_EDITOR, choose_example,
-                             send_lines, reopen_page, pause_running_time, until_ready)
+from page_basics import (ENTER, ESCAPE, GET_DIGITS, GET_NOTICE, GET_STATUS, GET_TEXT_OF_EDITOR, IS_READY, PUT_INTO_EDITOR, choose_example,
+                         send_lines, reopen_page, pause_running_time, wait_until_ready)
 from verdicts import eventually, verdict
 from web_driver import Chromium
 
@@ -41,17 +41,17 @@ def dismiss_notice(browser):
 
 def check_failures(browser, page, folder):
     """Checks that the session survives a trap in the module, a lack of memory, a worker that dies or hangs, and a full store."""
-    browser.go(write_altered_page(page, folder, EXPOSE_WORKER, INSTALL_FAILURES).as_uri())
-    until_ready(browser)
+    browser.open(write_altered_page(page, folder, EXPOSE_WORKER, INSTALL_FAILURES).as_uri())
+    wait_until_ready(browser)
     choose_example(browser, "calculator")
-    browser.keys([ESCAPE, "1", "2"])
-    browser.until(GET_DIGITS, "12")
+    browser.type_keys([ESCAPE, "1", "2"])
+    browser.wait_until(GET_DIGITS, "12")
     cause_failure(browser, "trap")
     eventually(browser, "a trap is reported", GET_NOTICE, re.compile("the module stopped inside a call .unreachable. and was started again"))
     verdict("the session is unchanged", browser.script(GET_DIGITS), "12")
     dismiss_notice(browser)
     browser.click("#run")
-    browser.keys(["3"])
+    browser.type_keys(["3"])
     eventually(browser, "the bench continues after a trap", GET_DIGITS, "123")
     cause_failure(browser, "no memory")
     eventually(browser, "lack of memory is reported", GET_NOTICE, re.compile("no 90: out of memory"))
@@ -80,13 +80,13 @@ def check_worker_restart(browser):
     """Checks that the page replaces a worker that dies while time is running, or that hangs until its work is cancelled. The session must be
     unchanged."""
     browser.click("#run")
-    browser.until(GET_STATUS, re.compile("^Running \""))
+    browser.wait_until(GET_STATUS, re.compile("^Running \""))
     cause_failure(browser, "die")
     eventually(browser, "a worker that died is reported", GET_NOTICE, re.compile("worker stopped and was restarted.*session is unchanged"), 40)
     eventually(browser, "the session is unchanged after the worker died", GET_DIGITS, "123")
     dismiss_notice(browser)
     browser.click("#run")
-    browser.keys(["4"])
+    browser.type_keys(["4"])
     eventually(browser, "the bench continues in a new worker", GET_DIGITS, "1234")
     pause_running_time(browser)
     answer_before = send_lines(browser, "seq")
@@ -114,18 +114,18 @@ window.ticking = setInterval(() => {
   before = performance.now();
 }, 20)"""
 # With `?hang` in the address, the page never finishes opening a session, and does not receive the events that report that the user leaves. With
-# `?deaf=EVENT`, the page does not receive EVENT.
-MAKE_DEAF = """
-const deaf = (name) => addEventListener(name, (event) => event.stopImmediatePropagation(), true);
-if (location.search.startsWith("?deaf=")) deaf(location.search.slice(6));
+# `?block=EVENT`, the page does not receive EVENT.
+BLOCK_EVENTS = """
+const block = (name) => addEventListener(name, (event) => event.stopImmediatePropagation(), true);
+if (location.search.startsWith("?block=")) block(location.search.slice(7));
 if (location.search === "?hang") {
   const post = Worker.prototype.postMessage;
   Worker.prototype.postMessage = function (message, ...rest) {
     if (message.call === "open") window.hung = true;
     else post.call(this, message, ...rest);
   };
-  deaf("beforeunload");
-  deaf("pagehide");
+  block("beforeunload");
+  block("pagehide");
 }"""
 # A flag in the browser's storage marks a session that is being opened. A flag that remains shows that the page hung. AGE_FLAGS makes all flags old.
 COUNT_FLAGS = "return Object.keys(localStorage).filter((key) => key.startsWith('fethsaim.opening')).length"
@@ -177,15 +177,15 @@ def page_without_feature(page, folder, code):
 def notice_after_reopening(browser, page, code=GET_NOTICE, expected=re.compile(".")):
     """Opens a blank page and then the page. Waits until the script `code`, by default for the notice, returns an expected result. Returns this
     result."""
-    browser.go("about:blank")
-    browser.go(page.as_uri())
-    return browser.until(code, expected)
+    browser.open("about:blank")
+    browser.open(page.as_uri())
+    return browser.wait_until(code, expected)
 
 
 def check_calculator_works(browser, description):
     """Checks that the page becomes ready, and that its first session, the calculator, computes 6 * 7."""
     eventually(browser, description, IS_READY, True)
-    browser.keys([ESCAPE, "6", "*", "7", ENTER])
+    browser.type_keys([ESCAPE, "6", "*", "7", ENTER])
     eventually(browser, "the bench works despite the missing feature", GET_DIGITS, "42")
 
 
@@ -211,16 +211,16 @@ def check_no_locks(browser, page, folder):
     session."""
     notice_after_reopening(browser, write_altered_page(page, folder, "Object.defineProperty(Navigator.prototype, 'locks', { value: undefined })"), IS_READY, True)
     address = browser.script("return location.href")
-    first_tab = browser.tab()
+    first_tab = browser.current_tab()
     pause_running_time(browser)
     browser.new_tab()
-    browser.go(address)
-    until_ready(browser)
+    browser.open(address)
+    wait_until_ready(browser)
     verdict("the second tab executes its line", send_lines(browser, "poke r5 9"), re.compile(r"poke r5 9ok \d+"))
     browser.close_tab(first_tab)
     verdict("the first tab reports that its line is not saved", send_lines(browser, "poke r5 3"), re.compile("not kept: another tab has changed"))
     browser.reload()
-    until_ready(browser)
+    wait_until_ready(browser)
     verdict("the saved session has the second tab's line", send_lines(browser, "regs"), re.compile(" r .{5}9"))
     verdict("a closed page does not prevent another page from opening the session", reopen(browser, page.as_uri()), "")
 
@@ -239,8 +239,8 @@ def check_little_memory(page, folder):
     """Checks that a text is rejected if the module needs more than 80 pages of memory (5 MB) for it, and that the session stays unchanged."""
     browser = Chromium(folder / "little", str(folder / "downloads"), ["--js-flags=--wasm-max-mem-pages=80"])
     try:
-        browser.go(page.as_uri())
-        until_ready(browser)
+        browser.open(page.as_uri())
+        wait_until_ready(browser)
         pause_running_time(browser)
         # Use only the last word, because the log can get an entry about runs before the answer.
         number_before = send_lines(browser, "seq").split()[-1]
@@ -255,29 +255,29 @@ def check_little_memory(page, folder):
 
 def reopen(browser, address):
     """Leaves the page and opens it again. Returns its notice."""
-    browser.go("about:blank")
-    browser.go(address)
-    until_ready(browser)
+    browser.open("about:blank")
+    browser.open(address)
+    wait_until_ready(browser)
     return browser.script(GET_NOTICE)
 
 
 def open_hanging_session(browser, address):
     """Opens a session in a page that never finishes opening it. Makes the flag of this opening old, as if the page had hung for a long time."""
-    browser.go("about:blank")
-    browser.go(address.replace("html", "html?hang", 1))
-    browser.until("return Boolean(window.hung)", True)
+    browser.open("about:blank")
+    browser.open(address.replace("html", "html?hang", 1))
+    browser.wait_until("return Boolean(window.hung)", True)
     browser.script(AGE_FLAGS)
 
 
 def check_leaving_early(browser, address, session):
     """Checks that a page that the user leaves within a second does not count as hung, whichever event reports to the page that the user leaves."""
-    for query in ("", *(["?deaf=beforeunload"] if browser.always_calls_pagehide else []), "?deaf=pagehide"):
-        browser.go("about:blank")
-        browser.go(address.replace(".html", f".html{query}") + session)
-        until_ready(browser)
+    for query in ("", *(["?block=beforeunload"] if browser.always_calls_pagehide else []), "?block=pagehide"):
+        browser.open("about:blank")
+        browser.open(address.replace(".html", f".html{query}") + session)
+        wait_until_ready(browser)
         text = f"; left {query}\n"
         browser.script(PUT_INTO_EDITOR, "#program-editor", text)
-        browser.go("about:blank")
+        browser.open("about:blank")
         # Wait two seconds, because a younger flag could belong to another tab that is still opening the session.
         time.sleep(2.1)
         verdict(f"a session whose page was left at once is opened automatically ({query})",
@@ -288,15 +288,15 @@ def check_leaving_early(browser, address, session):
 def check_unfinished_opening(browser, page, folder):
     """Checks that the page does not open a session automatically if the page hung when it opened this session the last time. A message reports that,
     and the user can open or delete the session."""
-    hanging_page = write_altered_page(page, folder, MAKE_DEAF).as_uri()
+    hanging_page = write_altered_page(page, folder, BLOCK_EVENTS).as_uri()
     reopen(browser, hanging_page)
     browser.script(REMOVE_FLAGS)
     choose_example(browser, "die")
     browser.click("#step")
-    session = browser.until("return location.hash", re.compile("^#session="))
+    session = browser.wait_until("return location.hash", re.compile("^#session="))
     eventually(browser, "the flag is removed after the session was opened", COUNT_FLAGS, 0)
     verdict("the session is opened automatically", [reopen(browser, hanging_page), browser.script("return location.hash")], ["", session])
-    browser.until(COUNT_FLAGS, 0)
+    browser.wait_until(COUNT_FLAGS, 0)
     open_hanging_session(browser, hanging_page + session)
     for address in (hanging_page, hanging_page + session):
         verdict("a session whose opening did not finish is reported", reopen(browser, address), UNFINISHED_NOTICE)
@@ -305,9 +305,9 @@ def check_unfinished_opening(browser, page, folder):
     eventually(browser, "the session can be opened", "return location.hash", session)
     eventually(browser, "the flag is removed after the user opened the session", COUNT_FLAGS, 0)
     verdict("the session is opened automatically at the next start", [reopen(browser, hanging_page), browser.script("return location.hash")], ["", session])
-    browser.until(COUNT_FLAGS, 0)
+    browser.wait_until(COUNT_FLAGS, 0)
     check_leaving_early(browser, hanging_page, session)
-    browser.until(COUNT_FLAGS, 0)
+    browser.wait_until(COUNT_FLAGS, 0)
     open_hanging_session(browser, hanging_page + session)
     reopen(browser, hanging_page)
     browser.click("#notice button[aria-label^='Delete it']")

@@ -4,7 +4,7 @@ If the mistake's check box is on, time pauses before the mistake, and can contin
 import re
 import time
 
-from page_in_browser import GET_STATUS, choose_example, reopen_page, show_text, status_of, pause_running_time, until_ready
+from page_basics import GET_STATUS, choose_example, reopen_page, show_text, status_of, pause_running_time, wait_until_ready
 from verdicts import eventually, verdict
 
 GET_ROWS = "return [...document.querySelectorAll('#usual-list li .words')].map((node) => node.textContent)"
@@ -32,7 +32,7 @@ def check(browser, page, _folder, _mcs4):
     status_of(browser, "#board-editor", BOARD)
     status_of(browser, "#program-editor", PROGRAM)
     eventually(browser, "the mistake is reported with its line", GET_ROWS, [f"004 (keys + 4, line 4) {MISTAKE_MESSAGE}"])
-    verdict("the tab counts the mistake", browser.text("#problems-tab .mark"), "1")
+    verdict("the tab counts the mistake", browser.text_of("#problems-tab .mark"), "1")
     verdict("the program is still running", browser.script(GET_STATUS), re.compile("^Running"))
     browser.click("#usual-list input")
     pause_running_time(browser)
@@ -42,7 +42,7 @@ def check(browser, page, _folder, _mcs4):
     browser.click("#run")
     eventually(browser, "the program continues, and pauses before the next mistake", GET_STATUS, re.compile("^Paused at 004"))
     browser.reload()
-    until_ready(browser)
+    wait_until_ready(browser)
     browser.click("#run")
     eventually(browser, "a reload keeps the check box", GET_STATUS, re.compile("^Paused at 004"))
     browser.click("#usual-list input")

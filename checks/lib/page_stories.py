@@ -4,9 +4,9 @@ link's text says, by pointer and keyboard, also on a phone. The check also cover
 import re
 import time
 
-from page_in_browser import ENTER, GET_DIGITS, GET_NOTICE, GET_STATUS, GET_WHOLE_STATUS, IS_READY, SET_SPEED, choose_example, status_of, until_ready
+from page_basics import ENTER, GET_DIGITS, GET_NOTICE, GET_STATUS, GET_WHOLE_STATUS, IS_READY, SET_SPEED, choose_example, status_of, wait_until_ready
 from page_layout import MEASURE_OVERFLOW, set_size
-from page_strip import GET_PRINTER_TAPE
+from page_printer import GET_PRINTER_TAPE
 from verdicts import eventually, verdict
 from web_driver import Chromium
 
@@ -125,7 +125,7 @@ def check_digit_entry_step(browser):
     eventually(browser, "without a key press the program runs towards the entry of a digit", GET_WHOLE_STATUS, re.compile("^Running to"))
     click_link(browser, "resume")
     eventually(browser, "resume removes the goal of the run", GET_WHOLE_STATUS, re.compile('^Running ".*F5'))
-    browser.keys(["5"])
+    browser.type_keys(["5"])
     eventually(browser, "the display shows a digit that is typed later", GET_DIGITS, "55")
     verdict("the program continues after the digit", browser.script(GET_WHOLE_STATUS), re.compile('^Running ".*F5'))
 
@@ -148,15 +148,15 @@ def check_printing_step(browser):
 def check_last_step(browser):
     """Checks that Enter opens the last step and follows its links, and that a link to a label that the program lacks is reported."""
     browser.script("document.getElementById('tour-next').focus()")
-    browser.keys([ENTER])
+    browser.type_keys([ENTER])
     eventually(browser, "Enter opens the last step", GET_TITLE, "6 of 6: Further")
     for label, query in (("Release =", GET_KEYS_DOWN), ("tests", GET_TAB), ("Waves", GET_DOCK_TAB), ("Source", GET_TAB)):
         browser.script(FOCUS_LINK, browser.script(GET_LINKS).index(label))
-        browser.keys([ENTER])
+        browser.type_keys([ENTER])
         expected = "" if query == GET_KEYS_DOWN else re.compile(f"^{label.capitalize()}")
         eventually(browser, f"Enter follows the link {label}", query, expected)
     browser.script(FOCUS_LINK, browser.script(GET_LINKS).index("resume"))
-    browser.keys([ENTER])
+    browser.type_keys([ENTER])
     eventually(browser, "Enter on the link resumes the program", GET_STATUS, re.compile("^Running"))
     status_of(browser, "#program-editor", "NOP\n")
     browser.click("#tour-back")
@@ -167,7 +167,7 @@ def check_last_step(browser):
 def check_leaving(browser):
     """Checks that a reload opens the story at its first step, and that Leave closes it."""
     browser.reload()
-    until_ready(browser)
+    wait_until_ready(browser)
     eventually(browser, "a reload opens the story at its first step", GET_TITLE, "1 of 6: A sum")
     verdict("the address still names the session", browser.script("return location.hash"), re.compile("^#session="))
     browser.click("#tour-close")
@@ -176,12 +176,12 @@ def check_leaving(browser):
 
 def check_other_sessions(browser, page):
     """Checks that an unknown story is reported, that the list of examples opens a story, and that another session has no story."""
-    browser.go(f"{page.as_uri()}?story=no%20such")
-    until_ready(browser)
+    browser.open(f"{page.as_uri()}?story=no%20such")
+    wait_until_ready(browser)
     eventually(browser, "an unknown story is reported", GET_NOTICE, 'The address names a story, "no such", that this page does not have.')
     verdict("the last session is open", browser.script(GET_SESSION_NAME), "printing calculator")
     browser.click("#sessions-button")
-    browser.until("return document.getElementById('sessions').open", True)
+    browser.wait_until("return document.getElementById('sessions').open", True)
     browser.click("#examples button[aria-label='new session with its story: printing calculator']")
     eventually(browser, "the list of examples opens the story", GET_TITLE, "1 of 6: A sum")
     page_in_window_script = "return document.documentElement.scrollWidth <= innerWidth"
@@ -191,7 +191,7 @@ def check_other_sessions(browser, page):
 
 
 def check(browser, page, _folder, _mcs4):
-    browser.go(f"{page.as_uri()}?story={STORY_NAME}")
+    browser.open(f"{page.as_uri()}?story={STORY_NAME}")
     eventually(browser, "the page is ready", IS_READY, True, 90)
     browser.script(SET_SPEED, "real")
     check_sum_step(browser)

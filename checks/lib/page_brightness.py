@@ -4,7 +4,7 @@ always shows its number. A display that the program shifts in after a key press 
 
 import re
 
-from page_in_browser import GET_DIGITS, GET_STATUS, SET_SPEED, TOP, choose_example, send_lines, status_of, until_ready
+from page_basics import GET_DIGITS, GET_STATUS, SET_SPEED, TOP, choose_example, send_lines, status_of, wait_until_ready
 from verdicts import eventually, verdict
 
 ROM = '[[rom]]\nchip = 0\nport = "0000"\n'
@@ -14,7 +14,7 @@ PULSES_PROGRAM = "FIM P0, 0\nSRC P0\nloop: LDM 5\nWRR\nNOP\nLDM 6\nWRR\nFIM P1, 
 # A board with a display, and a program that shifts the number 42 into it again and again, segment by segment.
 REFRESHED_BOARD, REFRESHED_PROGRAM = ((TOP / f"js/test/two_digits.{kind}").read_text() for kind in ("toml", "asm"))
 GET_BRIGHTNESS_STATUS = "return document.getElementById('brightness-status').textContent"
-# Records the brightness of each lamp and the text of the display in each frame, for as many milliseconds as the argument says.
+# Records the brightness of each lamp and the text of the display in each frame, for a time in milliseconds, which is the argument.
 RECORD_BRIGHTNESS = """
 window.shines = [];
 window.numbers = [];
@@ -46,7 +46,7 @@ def lit_fractions(answer):
 def record_brightness(browser, milliseconds):
     """Records the brightness for a time in milliseconds, and waits for the end."""
     browser.script(RECORD_BRIGHTNESS, milliseconds)
-    browser.until("return window.watched", True)
+    browser.wait_until("return window.watched", True)
 
 
 def shown_fractions(browser):
@@ -94,8 +94,8 @@ def check_shifted_display(browser):
     choose_example(browser, "calculator")
     eventually(browser, "the calculator shows 0", GET_DIGITS, "0")
     browser.script(RECORD_BRIGHTNESS, 2000)
-    browser.keys(["1", "2", "3"], 40, 60)
-    browser.until("return window.watched", True)
+    browser.type_keys(["1", "2", "3"], 40, 60)
+    browser.wait_until("return window.watched", True)
     verdict("the display shows digits only after they are shifted in completely",
             browser.script("return [...new Set(window.numbers)].join(' ')"), "0 1 12 123")
 
@@ -124,7 +124,7 @@ def check_pictures(browser):
                "........ .**..**. ******** ******** .******. ..****.. ...**... ........")
     verdict("the title of a lamp names both of its lines", browser.script("return document.querySelectorAll('.matrix .bulb')[13].title"),
             "ram0.1.2 and ram0.2.1")
-    browser.keys(["n"], 100)
+    browser.type_keys(["n"], 100)
     eventually(browser, "NEXT shows another picture", rows_script, "..****.. .*....*. *.*..*.* *......* *.*..*.* *..**..* .*....*. ..****..")
     browser.click("#run")
     eventually(browser, "the program is paused", GET_STATUS, re.compile("^Paused"))
@@ -132,8 +132,8 @@ def check_pictures(browser):
 
 
 def check(browser, page, _folder, _mcs4):
-    browser.go(page.as_uri() + "#example=empty%20bench")
-    until_ready(browser)
+    browser.open(page.as_uri() + "#example=empty%20bench")
+    wait_until_ready(browser)
     status_of(browser, "#board-editor", PULSES_BOARD)
     status_of(browser, "#program-editor", PULSES_PROGRAM)
     for speed in ("real", "tenth", "full"):
