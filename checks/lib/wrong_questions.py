@@ -15,7 +15,7 @@ INVALID_LINES = [
     "press x 0", "press 0 x", "press 0 -1", "press 1.0", "press 1,0", "Press 0 0", "presses 0 0", "test 0", "test 1", "test x", "test test", "Test",
     "tests", "wait", "wait x", "wait -1", "wait 0", "wait 1", "wait 100001", "wait 2 3", f"wait {'9' * 5000}", "wait 0x", "wait 2.5", "Wait 2",
     "waits 2", "held", "held x", "held -1", "held 0", "held 100001", "held 1 2", f"held {'9' * 5000}", "held 0x", "held 1.5", "Held 1", "helds 1",
-    "holds 1", "release 0 0", "together 1\0", "only\0", "press 0 0\0", "test\0", "wait 2\0", "held 1\0", "press 0 0 0 0 0", "test register 0 whole 0 0",
+    "held at most 1", "holds 1", "release 0 0", "together 1\0", "only\0", "press 0 0\0", "test\0", "wait 2\0", "held 1\0", "press 0 0 0 0 0", "test register 0 whole 0 0",
     "open x", "opens", "up", "up 0", "up 0 0 0", "up x 0", "up 0 256", "up 0 -1", "Up 0 0", "ups 0 0", "down", "down 256 0", "in 0 0",
     "\0", "most 1\0", "\x7f", "x" * 100000, "in register 0 whole 0 0", "out register 0 whole 0 0", "mistake code"]
 # Invalid comparisons.
@@ -29,11 +29,10 @@ INVALID_COMPARISONS = [
 # Lines that start a stopwatch with a condition that is never true.
 NEVER_STARTED = ["begin", "in register 0 whole 9 3"]
 # Lines that limit the inputs of the question in QUESTION_LINES, whose board has no inputs.
-LIMIT_LINES = ["together 0", "together 255", " together\t0xFF ", "only", "\tonly ", "test", "press 0 0", "press 255 255", "press 0x0  0xff"]
+LIMIT_LINES = ["together 0", "together 255", " together\t0xFF ", "only", "\tonly ", "test", "press 0 0", "press 255 255", "press 0x0  0xff", "held 1",
+               "held 100000", "\theld  0x1 "]
 # Lines that limit the times of changes, with which the search of this question finds three states.
 WAIT_LINES = ["wait 2", "\twait  0x2 ", "wait 3"]
-# Lines that limit the times for which keys are down. They have no effect without `wait`.
-HELD_LINES = ["held 1", "\theld  0x10 ", "held 100000"]
 # A question about a board with eight keys, which allows the keys alone.
 EIGHT_KEYS = ["most 9", "wire", "[[rom]]", "chip = 0", 'port = "0000"', "[[rom]]", "chip = 1", 'port = "000i"', "[[chain]]", 'clock = "rom0.0"',
               'data = "rom0.1"', "chips = 1", "[keys]", "chain = 0", "first = 0", "rows = 8", 'columns = ["rom1.0"]', ".", *PROGRAM, "only",
@@ -93,17 +92,10 @@ ANSWERS: list[tuple[list[str], int, str]] = [
     *(([*BOARD, "asm", " NOP", line, ".", "prove"], 3, "no 30 2") for line in WAIT_LINES), ([*QUESTION_LINES, *WAIT_LINES], 2, "no question"),
     *(([line, "prove"], 2, "no question") for line in WAIT_LINES), ([*QUESTION_LINES, "wait 2", "wait 100000", "prove"], 0, "too many"),
     ([*QUESTION_LINES, "wait 100000", "only", "prove"], 0, "holds 2"), ([*QUESTION_LINES, "wait 3", "most 2", "prove"], 0, "too many"),
-    # So are lines that limit the times for which keys are down. With `wait`, these times are parts of the states.
-    *(([*lines, "prove"], 0, "holds 1") for line in HELD_LINES for lines in (
-        [line, *QUESTION_LINES], [*QUESTION_LINES[:2], *BOARD, line, *PROGRAM], [*QUESTION_LINES, line, line])),
-    *(([*QUESTION_LINES, "never", line, "in register 0 whole 0 0", "prove"], 0, "may fail") for line in HELD_LINES),
-    *(([*QUESTION_LINES, "never", "in register 0 whole 0 0", line, "in register 1 whole 1 1", "prove"], 0, "holds 1") for line in HELD_LINES),
-    *(([*QUESTION_LINES, "prove", line], 2, f"wrong line {len(QUESTION_LINES) + 2}") for line in HELD_LINES),
-    *(([*BOARD, "asm", " NOP", line, ".", "prove"], 3, "no 30 2") for line in HELD_LINES), ([*QUESTION_LINES, *HELD_LINES], 2, "no question"),
-    *(([line, "prove"], 2, "no question") for line in HELD_LINES), ([*QUESTION_LINES, *HELD_LINES, "wait 2", "prove"], 0, "holds 3"),
-    *(([*QUESTION_LINES, line, "wait 2", "prove"], 0, "holds 3") for line in HELD_LINES),
-    ([*QUESTION_LINES, "wait 3", "held 3", "prove"], 0, "holds 3"), ([*QUESTION_LINES, "wait 3", "held 4", "prove"], 0, "holds 5"),
-    ([*QUESTION_LINES, "held 3", "wait 3", "held 4", "prove"], 0, "holds 5"), ([*QUESTION_LINES, "held 4", "wait 3", "held 3", "prove"], 0, "holds 3"),
+    # With `wait`, the times for which keys are down are parts of the states.
+    *(([*QUESTION_LINES, *lines, "prove"], 0, "holds 3") for lines in (
+        ["held 1", "wait 2"], ["wait 2", "held 100000"], ["wait 3", "held 3"], ["held 4", "wait 3", "held 3"])),
+    *(([*QUESTION_LINES, *lines, "prove"], 0, "holds 5") for lines in (["wait 3", "held 4"], ["held 3", "wait 3", "held 4"])),
     ([*QUESTION_LINES, "wait 3", "held 100000", "prove"], 0, "too many"), ([*EIGHT_KEYS, "wait 2", "held 1", "prove"], 0, "gave up"),
     ([*EIGHT_KEYS, "wait 2", "held 1", "together 0", "prove"], 0, "holds 2"),
     # There may be at most 255 levels.
@@ -147,6 +139,8 @@ ALLOWED_READS: list[tuple[list[str], set[str]]] = [
     # The board does not have these keys.
     (["only", "press 1 0", "press 1 1", "press 0 2", "press 0 255", "press 255 0", "press 255 255"], {"none"}),
     (["only", "press 0 1", "press 1 0"], {"none", "second"}),
+    # Without `wait`, a proof does not use `held`.
+    (["held 1"], ALL_READS), (["held 100000", "together 1"], ALL_BUT_BOTH),
     # Only the last `together` line counts.
     (["together 1", "together 2"], ALL_READS), (["together 2", "together 1"], ALL_BUT_BOTH),
     (["together 0", "together 255", "together 0x1"], ALL_BUT_BOTH), (["together 2", "only", "together 0", "press 0 0"], {"none"}),

@@ -1,14 +1,14 @@
 -- A cycle that changes nothing in a scope does not change whether the conditions in the scope are
 -- met, except for mistakes.
-use Rattle.std.proofs.Common.{◌≡◌, ℕ, ◌+◌, ◌*◌, ◌/◌, ◌%◌, inl, inr, Bool, true, false, not, cond, ◌&&◌, ◌||◌, List, [], ◌∷◌, Option, Some, None, unwrap_or, slice_index, slice_index_or, slice_set, nat_le, nat_lt, get_or-set_other, refl, sym, ap, ◌∙◌, eqb, eqb-true}
-use Rattle.std.proofs.lemmas.Bool.{and_cases, and_from, and_left, and_parts, and_right, both_ways, not-true, not_from_false, or_from, or_parts}
+use Rattle.std.proofs.Common.{◌≡◌, ◌⊎◌, ◌<◌, ◌≤◌, ℕ, ◌+◌, ◌*◌, ◌/◌, ◌%◌, inl, inr, arith, Bool, true, false, not, cond, ◌&&◌, ◌||◌, List, [], ◌∷◌, Option, Some, None, unwrap_or, slice_index, slice_index_or, slice_set, nat_le, nat_lt, get_or-set_other, refl, sym, ap, ◌∙◌, eqb}
+use Rattle.std.proofs.lemmas.Bool.{and_cases, and_from, and_left, and_parts, and_right, both_ways, cases_eq, leb-true, not-true, not_from_false, or_from, or_parts}
 use Rattle.mcs_model.specs.declared.regs.Regs.{Regs}
 use Rattle.mcs_model.specs.declared.op.Op.{Op}
 use Rattle.mcs_model.specs.declared.op.Op.TheVariants.{Jcn, Fim, Src, Fin, Inc, Isz, Xch, Wrm, Wmp, Wrr, Wr0, Wr1, Wr2, Wr3, Daa}
 use Rattle.mcs_model.specs.Bus.{BusState, fetch_of}
 use Rattle.mcs_model.specs.Effect.{address_on_page_of, after_fetch, bus_after, cycle_of, effect, instruction_at, is_taken, registers_after, with_pc_on_page}
 use Rattle.mcs_model.specs.Registers.{pair_of, register_of, with_pair, with_register}
-use Rattle.mcs_drive.specs.TrackedMachine.{Counts, Observer, TrackedMachine, condition_holds_at, counts_after, cycled, machine_in, next_op}
+use Rattle.mcs_drive.specs.TrackedMachine.{Counts, Observer, TrackedMachine, begins_at, condition_holds_at, counts_after, cycled, machine_in, next_op, without_levels}
 use Rattle.mcs_drive.proofs.Tracking.{with_counts}
 use Rattle.mcs_check.specs.declared.cells.CellList.{CellList}
 use Rattle.mcs_check.specs.declared.cells.CellList.TheVariants.{RamNibbles, StatusCharacters, RamPorts, RomPorts, BankSrcBytes, Registers, Counters, Chain}
@@ -133,14 +133,27 @@ meets_none-equal_without_mistakes c t free (xs ∷ never_lists) has =
 
 pub record AgreesInScope (c : Scope) (s t : TrackedMachine) : Type 0 where
   pub seen : t.2.seen ≡ s.2.seen
+  pub elapsed : t.2.elapsed ≡ s.2.elapsed
   pub registers : (r : ℕ) → has_register c r ≡ true → register_of t.0 r ≡ register_of s.0 r
   pub chips : c.chips ≡ true → t.1 ≡ s.1
 
+counter_value-equal_in_scope : (c : Scope) (s t : TrackedMachine) → AgreesInScope c s t → (k : ℕ) → 14 ≤ k → k < 18 → slice_index (values_in_list s Counters) k ≡ slice_index (values_in_list t Counters) k
+counter_value-equal_in_scope c s t same k from below =
+    let value = λ (m : TrackedMachine). slice_index (values_in_list m Counters) in
+    elim (cases_eq k 14) [
+      | inl high ↦ ap (value s) high ∙ ap (λ (n : ℕ). n / 65536) (sym same.elapsed) ∙ ap (value t) (sym high)
+      | inr not_high ↦ elim (cases_eq k 15) [
+        | inl middle ↦ ap (value s) middle ∙ ap (λ (n : ℕ). n / 256 % 256) (sym same.elapsed) ∙ ap (value t) (sym middle)
+        | inr not_middle ↦ elim (cases_eq k 16) [
+          | inl low ↦ ap (value s) low ∙ ap (λ (n : ℕ). n % 256) (sym same.elapsed) ∙ ap (value t) (sym low)
+          | inr not_low ↦ (let last : k ≡ 17 = omega arith in ap (value s) last ∙ sym same.seen ∙ ap (value t) (sym last))
+        ]
+      ]
+    ]
+
 cell_value-equal_in_scope : (c : Scope) (s t : TrackedMachine) → AgreesInScope c s t → (list : CellList) (i : ℕ) → has_cell c list i ≡ true → slice_index (values_in_list s list) (i % max_cell_count list) ≡ slice_index (values_in_list t list) (i % max_cell_count list)
 cell_value-equal_in_scope c s t same Registers i has = sym (same.registers (i % 16) has)
-cell_value-equal_in_scope c s t same Counters i has =
-    let at : i % 18 ≡ 17 = eqb-true (i % 18) 17 has in
-    ap (slice_index (values_in_list s Counters)) at ∙ sym same.seen ∙ ap (slice_index (values_in_list t Counters)) (sym at)
+cell_value-equal_in_scope c s t same Counters i has = counter_value-equal_in_scope c s t same (i % 18) (leb-true 14 (i % 18) has) (omega arith)
 cell_value-equal_in_scope c s t same RamNibbles i has = ap (λ (m : BusState). slice_index m.ram (i % 2048)) (sym (same.chips has))
 cell_value-equal_in_scope c s t same StatusCharacters i has = ap (λ (m : BusState). slice_index m.status (i % 512)) (sym (same.chips has))
 cell_value-equal_in_scope c s t same RamPorts i has = ap (λ (m : BusState). slice_index m.ram_ports (i % 32)) (sym (same.chips has))
@@ -210,19 +223,20 @@ bus_unchanged-by_op_outside_scope c Wr2 s m rest seen = absurd (both_ways c.chip
 bus_unchanged-by_op_outside_scope c Wr3 s m rest seen = absurd (both_ways c.chips rest seen)
 bus_unchanged-by_op_outside_scope c _ s m rest seen = refl
 
-cycle_agrees_in_scope-by_cases : (c : Scope) (s : TrackedMachine) (n : Counts) (b : Bool) (o : Option Op) → n.seen ≡ s.2.seen → cycle_may_change_scope c (cond b None o) ≡ false →
+cycle_agrees_in_scope-by_cases : (c : Scope) (s : TrackedMachine) (n : Counts) (b : Bool) (o : Option Op) → n.seen ≡ s.2.seen → n.elapsed ≡ s.2.elapsed → cycle_may_change_scope c (cond b None o) ≡ false →
     AgreesInScope c s (with_counts n (unwrap_or (cond b (Some (record s.0 { owed = 0 }, s.1)) (elim o as (λ _. Option (Regs × BusState)) [ Some op ↦ Some (effect op s.0 s.1) | None ↦ None ])) (machine_in s)))
-cycle_agrees_in_scope-by_cases c s n true o unseen rest = record { seen = unseen; registers = λ r seen. refl; chips = λ seen. refl }
-cycle_agrees_in_scope-by_cases c s n false None unseen rest = record { seen = unseen; registers = λ r seen. refl; chips = λ seen. refl }
-cycle_agrees_in_scope-by_cases c s n false (Some op) unseen rest = record {
+cycle_agrees_in_scope-by_cases c s n true o unseen stopped rest = record { seen = unseen; elapsed = stopped; registers = λ r seen. refl; chips = λ seen. refl }
+cycle_agrees_in_scope-by_cases c s n false None unseen stopped rest = record { seen = unseen; elapsed = stopped; registers = λ r seen. refl; chips = λ seen. refl }
+cycle_agrees_in_scope-by_cases c s n false (Some op) unseen stopped rest = record {
   seen = unseen;
+  elapsed = stopped;
   registers = λ r seen. register_unchanged-by_op_outside_scope c op (after_fetch op s.0) s.1 r rest seen;
   chips = λ seen. bus_unchanged-by_op_outside_scope c op s.0 s.1 rest seen;
 }
 
-cycle_agrees_in_scope : (w : Observer) (c : Scope) (s : TrackedMachine) → (cycled w s).2.seen ≡ s.2.seen → cycle_may_change_scope c (next_op s.0 s.1) ≡ false → AgreesInScope c s (cycled w s)
+cycle_agrees_in_scope : (w : Observer) (c : Scope) (s : TrackedMachine) → (cycled w s).2.seen ≡ s.2.seen → (cycled w s).2.elapsed ≡ s.2.elapsed → cycle_may_change_scope c (next_op s.0 s.1) ≡ false → AgreesInScope c s (cycled w s)
 unfolding cycle_of
-cycle_agrees_in_scope w c s unseen rest = cycle_agrees_in_scope-by_cases c s (counts_after w s) (eqb s.0.owed 1) (instruction_at s.0 s.1) unseen rest
+cycle_agrees_in_scope w c s unseen stopped rest = cycle_agrees_in_scope-by_cases c s (counts_after w s) (eqb s.0.owed 1) (instruction_at s.0 s.1) unseen stopped rest
 
 -- ---- the property before and after a cycle
 
@@ -231,11 +245,11 @@ cycle_agrees_in_scope w c s unseen rest = cycle_agrees_in_scope-by_cases c s (co
 pub meets_none-if_no_mistake : (c : Scope) (never_lists : List (List Condition)) (t : TrackedMachine) → has_all_lists c never_lists ≡ true → meets_none_without_mistakes never_lists t ≡ true → makes_mistake_in_scope c t ≡ false → meets_none never_lists t ≡ true
 meets_none-if_no_mistake c never_lists t has apart free = meets_none-equal_without_mistakes c t free never_lists has ∙ apart
 
--- Suppose that the property holds before a cycle that changes nothing in the scope and sees no
--- mark. `meets_none_without_mistakes` is then true after the cycle.
-pub meets_none_without_mistakes-after_cycle : (w : Observer) (c : Scope) (never_lists : List (List Condition)) (s t : TrackedMachine) → has_all_lists c never_lists ≡ true → t.2.seen ≡ s.2.seen → cycle_may_change_scope c (next_op s.0 s.1) ≡ false → meets_none never_lists s ≡ true → t ≡ cycled w s → meets_none_without_mistakes never_lists t ≡ true
-meets_none_without_mistakes-after_cycle w c never_lists s t has unseen rest property_holds e =
-    let same = cycle_agrees_in_scope w c s (ap (λ (x : TrackedMachine). x.2.seen) (sym e) ∙ unseen) rest in
+-- Suppose that the property holds before a cycle that changes neither the stopwatch nor anything in
+-- the scope, and sees no mark. `meets_none_without_mistakes` is then true after the cycle.
+pub meets_none_without_mistakes-after_cycle : (w : Observer) (c : Scope) (never_lists : List (List Condition)) (s t : TrackedMachine) → has_all_lists c never_lists ≡ true → t.2.seen ≡ s.2.seen → t.2.elapsed ≡ s.2.elapsed → cycle_may_change_scope c (next_op s.0 s.1) ≡ false → meets_none never_lists s ≡ true → t ≡ cycled w s → meets_none_without_mistakes never_lists t ≡ true
+meets_none_without_mistakes-after_cycle w c never_lists s t has unseen stopped rest property_holds e =
+    let same = cycle_agrees_in_scope w c s (ap (λ (x : TrackedMachine). x.2.seen) (sym e) ∙ unseen) (ap (λ (x : TrackedMachine). x.2.elapsed) (sym e) ∙ stopped) rest in
     ap (meets_none_without_mistakes never_lists) e ∙ sym (keeps-same c s (cycled w s) same never_lists has) ∙ meets_none_without_mistakes-if_meets_none never_lists s property_holds
 
 -- ---- the condition of an observer before and after a cycle
@@ -244,19 +258,37 @@ meets_none_without_mistakes-after_cycle w c never_lists s t has unseen rest prop
 no_mistake_in_scope-if_not_included : (c : Scope) (t : TrackedMachine) → not c.mistakes ≡ true → makes_mistake_in_scope c t ≡ false
 no_mistake_in_scope-if_not_included c t none = and_left c.mistakes (cycle_makes_mistake all_mistakes t) (not-true c.mistakes none)
 
-meets_none-unchanged_by_cycle : (w : Observer) (c : Scope) (lists : List (List Condition)) (s : TrackedMachine) → not c.mistakes ≡ true → has_all_lists c lists ≡ true → (cycled w s).2.seen ≡ s.2.seen → cycle_may_change_scope c (next_op s.0 s.1) ≡ false →
-    meets_none lists s ≡ meets_none lists (cycled w s)
-meets_none-unchanged_by_cycle w c lists s none has unseen rest =
+meets_none-equal_in_scope : (c : Scope) (lists : List (List Condition)) (s t : TrackedMachine) → not c.mistakes ≡ true → has_all_lists c lists ≡ true → AgreesInScope c s t → meets_none lists s ≡ meets_none lists t
+meets_none-equal_in_scope c lists s t none has same =
     meets_none-equal_without_mistakes c s (no_mistake_in_scope-if_not_included c s none) lists has
-    ∙ keeps-same c s (cycled w s) (cycle_agrees_in_scope w c s unseen rest) lists has
-    ∙ sym (meets_none-equal_without_mistakes c (cycled w s) (no_mistake_in_scope-if_not_included c (cycled w s) none) lists has)
+    ∙ keeps-same c s t same lists has
+    ∙ sym (meets_none-equal_without_mistakes c t (no_mistake_in_scope-if_not_included c t none) lists has)
+
+meets_none-unchanged_by_cycle : (w : Observer) (c : Scope) (lists : List (List Condition)) (s : TrackedMachine) → not c.mistakes ≡ true → has_all_lists c lists ≡ true → (cycled w s).2.seen ≡ s.2.seen → (cycled w s).2.elapsed ≡ s.2.elapsed → cycle_may_change_scope c (next_op s.0 s.1) ≡ false →
+    meets_none lists s ≡ meets_none lists (cycled w s)
+meets_none-unchanged_by_cycle w c lists s none has unseen stopped rest = meets_none-equal_in_scope c lists s (cycled w s) none has (cycle_agrees_in_scope w c s unseen stopped rest)
 
 -- Suppose that the scope covers the observer's condition and includes no mistakes. A cycle that
--- changes nothing in the scope and sees no mark then does not change whether the condition holds.
-pub condition_holds-unchanged_by_cycle : (a : PropertyConditions) (c : Scope) (s t : TrackedMachine) → (not c.mistakes && has_all_lists c a.opens) ≡ true → t.2.seen ≡ s.2.seen → cycle_may_change_scope c (next_op s.0 s.1) ≡ false → t ≡ cycled (observer_of_property a) s →
+-- changes neither the stopwatch nor anything in the scope, and sees no mark, then does not change
+-- whether the condition holds.
+pub condition_holds-unchanged_by_cycle : (a : PropertyConditions) (c : Scope) (s t : TrackedMachine) → (not c.mistakes && has_all_lists c a.opens) ≡ true → t.2.seen ≡ s.2.seen → t.2.elapsed ≡ s.2.elapsed → cycle_may_change_scope c (next_op s.0 s.1) ≡ false → t ≡ cycled (observer_of_property a) s →
     condition_holds_at (observer_of_property a) s ≡ condition_holds_at (observer_of_property a) t
-condition_holds-unchanged_by_cycle a c s t covers unseen rest e =
+condition_holds-unchanged_by_cycle a c s t covers unseen stopped rest e =
     let w = observer_of_property a in
     let parts = and_parts (not c.mistakes) (has_all_lists c a.opens) covers in
-    let same = meets_none-unchanged_by_cycle w c a.opens s parts.0 parts.1 (ap (λ (x : TrackedMachine). x.2.seen) (sym e) ∙ unseen) rest in
+    let same = meets_none-unchanged_by_cycle w c a.opens s parts.0 parts.1 (ap (λ (x : TrackedMachine). x.2.seen) (sym e) ∙ unseen) (ap (λ (x : TrackedMachine). x.2.elapsed) (sym e) ∙ stopped) rest in
     ap not (sym (conditions-ignore a.opens s) ∙ same ∙ ap (meets_none a.opens) (sym e) ∙ conditions-ignore a.opens t)
+
+-- ---- the beginning of an observer's stopwatch
+
+-- holds if the stopwatch begins either at both or at none of two machines that agree in the scope
+abbrev pub IsBeginningCovered : Observer → Scope → Type 0
+IsBeginningCovered w c = (s t : TrackedMachine) → AgreesInScope c s t → begins_at w s ≡ begins_at w t
+
+-- this is so if nothing begins the stopwatch, or if the scope covers the conditions that begin it
+-- and includes no mistakes
+pub beginning-covered : (a : PropertyConditions) (c : Scope) → (a.begins ≡ []) ⊎ ((not c.mistakes && has_all_lists c a.begins) ≡ true) → IsBeginningCovered (observer_of_property a) c
+beginning-covered a c (inl none) s t same = ap (λ (lists : List (List Condition)). not (meets_none lists (without_levels s))) none ∙ ap (λ (lists : List (List Condition)). not (meets_none lists (without_levels t))) (sym none)
+beginning-covered a c (inr covers) s t same =
+    let parts = and_parts (not c.mistakes) (has_all_lists c a.begins) covers in
+    ap not (sym (conditions-ignore a.begins s) ∙ meets_none-equal_in_scope c a.begins s t parts.0 parts.1 same ∙ conditions-ignore a.begins t)

@@ -22,7 +22,7 @@ use Rattle.mcs_check.proofs.SpacedSteps.{is_state-by_parts, machine_key-of_parts
 
 -- the bytes of a spaced key before the first step
 abbrev pub first_bytes : List ℕ
-first_bytes = NO_LEVELS ∷ 0 ∷ 0 ∷ 0 ∷ 0 ∷ []
+first_bytes = NO_LEVELS ∷ 0 ∷ 0 ∷ 0 ∷ 0 ∷ 0 ∷ 0 ∷ 0 ∷ 0 ∷ []
 
 key-length : (g : Setting) (key : List ℕ) (a : TrackedMachine) → IsKeyOf g key a → length key ≡ length g.layout
 key-length g key a is = ap length is.cells ∙ length-map g.layout (key_byte_value a)

@@ -1,4 +1,7 @@
--- A transition system whose keys identify machines.
+-- The rules of a search through machines. `Rules` of mcs_search describes any search whose states
+-- are identified by keys, which are lists of bytes. In this search, a key identifies machines, and
+-- a step runs each of them from one read of an input to its next read. `is_key_of` says which
+-- machines a key identifies.
 use Rattle.std.specs.Prelude.{◌≡◌, ℕ, suc, List, Bool, true, false, None}
 use Rattle.std.specs.List.{Contains}
 use Rattle.mcs_model.specs.Boards.{board_fault_of}
@@ -16,15 +19,16 @@ pub record MayHaveKey (p : TrackedMachine → Bool) (a : TrackedMachine) : Type 
 abbrev pub LeadsToIn : Observer → (TrackedMachine → Bool) → ℕ → TrackedMachine → TrackedMachine → Levels → Type 0
 LeadsToIn w p cycles a b l = (run : LeadsTo w p a b l) × (cycles ≡ suc run.more)
 
--- the rules of a search whose keys identify machines. A choice is the value that a machine reads in
+-- The rules of a search whose keys identify machines. A choice is the value that a machine reads in
 -- its next cycle.
--- `covers`: the choices include every value that a machine identified by `key` can read at input
--- levels within the limits
--- `leads`: each machine identified by `key` runs to one identified by `next`, at all input levels at
--- which the first machine reads the choice, and p holds at every step. All these runs take the same
--- number of cycles.
--- `fails`: for each machine identified by `key`, there are input levels l such that p fails after
--- some number of cycles at l
+--
+-- - `covers`: the choices include every value that a machine identified by `key` can read at input
+--   levels within the limits
+-- - `leads`: each machine identified by `key` runs to one identified by `next`, at all input levels
+--   at which the first machine reads the choice, and p holds at every step. All these runs take the
+--   same number of cycles.
+-- - `fails`: for each machine identified by `key`, there are input levels l such that p fails after
+--   some number of cycles at l
 abbrev pub machine_rules : InputLimits → Observer → (TrackedMachine → Bool) → (List ℕ → Type 0) → (List ℕ → TrackedMachine → Type 0) → Rules
 machine_rules limits w p is_state is_key_of = record {
   is_state = is_state;

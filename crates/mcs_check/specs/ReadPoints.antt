@@ -10,7 +10,7 @@ use Rattle.mcs_model.specs.Effect.{address_on_page_of, instruction_at}
 use Rattle.mcs_model.specs.Registers.{register_of, with_register}
 use Rattle.mcs_drive.specs.DrivenRuns.{AreAllowed, FitsBoard, InputLimits, Levels}
 use Rattle.mcs_drive.specs.InputReads.{reads_input}
-use Rattle.mcs_drive.specs.TrackedMachine.{Counts, Observer, TrackedMachine, with_levels, without_levels, cycled, after_cycles, next_reads_input, answer}
+use Rattle.mcs_drive.specs.TrackedMachine.{Observer, TrackedMachine, with_levels, without_levels, begins_at, cycled, after_cycles, next_reads_input, answer}
 use Rattle.mcs_check.specs.declared.reading.InputSource.{InputSource}
 use Rattle.mcs_check.specs.declared.reading.InputSource.TheVariants.{NoInput, Port, Test}
 
@@ -72,12 +72,13 @@ pub record Reaches (w : Observer) (p : TrackedMachine → Bool) (cycles : ℕ) (
   pub property_holds : (i : ℕ) → i ≤ cycles → p (after_cycles w i s) ≡ true
   pub at : t ≡ after_cycles w cycles s
 
--- holds if an observer's stopwatch and count of marks never change. The stopwatch is at 0 and never
--- begins. The observer's condition never holds, and the observer has no marks and has seen none.
-pub record IsObserverIdle (w : Observer) (n : Counts) : Type 0 where
-  pub stopwatch_at_zero : n.elapsed ≡ 0
-  pub never : (t : TrackedMachine) → w.begins t ≡ false
-  pub unseen : n.seen ≡ 0
+-- holds if the next cycle changes neither the stopwatch of an observer nor its count of marks. The
+-- stopwatch is at 0 and does not begin. The observer's condition never holds, and the observer has
+-- no marks and has seen none.
+pub record IsObserverIdle (w : Observer) (s : TrackedMachine) : Type 0 where
+  pub stopwatch_at_zero : s.2.elapsed ≡ 0
+  pub not_begun : begins_at w s ≡ false
+  pub unseen : s.2.seen ≡ 0
   pub closed : (t : TrackedMachine) → w.opens t ≡ false
   pub unmarked : w.marks ≡ []
 
@@ -88,7 +89,7 @@ with_seen n s = (s.0, s.1, record s.2 { seen = n })
 -- holds if the next cycle begins an ISZ of register r that jumps to itself, the ISZ will jump, and
 -- the observer is idle (`IsObserverIdle`)
 pub record Spins (w : Observer) (r : ℕ) (s : TrackedMachine) : Type 0 where
-  pub still : IsObserverIdle w s.2
+  pub still : IsObserverIdle w s
   pub free : s.0.owed ≡ 0
   pub word : ℕ
   pub next : instruction_at s.0 s.1 ≡ Some (Isz r word)

@@ -1,6 +1,6 @@
 -- The scope of conditions: the parts of a machine that the conditions depend on. A cycle that
 -- changes nothing in the scope does not change whether a comparison is met.
-use Rattle.std.specs.Prelude.{ℕ, ◌+◌, ◌*◌, ◌%◌, ◌==◌, List, [], ◌∷◌, Bool, true, false, ◌&&◌, ◌||◌, Option, Some, None, slice_index_or}
+use Rattle.std.specs.Prelude.{ℕ, ◌+◌, ◌*◌, ◌%◌, List, [], ◌∷◌, Bool, true, false, ◌&&◌, ◌||◌, Option, Some, None, nat_le, slice_index_or}
 use Rattle.mcs_model.specs.declared.op.Op.{Op}
 use Rattle.mcs_model.specs.declared.op.Op.TheVariants.{Fim, Src, Fin, Inc, Isz, Xch, Wrm, Wmp, Wrr, Wr0, Wr1, Wr2, Wr3}
 use Rattle.mcs_drive.specs.TrackedMachine.{TrackedMachine}
@@ -17,10 +17,11 @@ abbrev pub has_register : Scope → ℕ → Bool
 has_register c r = slice_index_or c.registers r false
 
 -- true if cell i of a list is in a scope. A cell of a chip is in a scope that includes the chips.
--- Of the counters, the number of marks seen is in every scope, and the others are in no scope.
+-- Of the counters, the bytes of the stopwatch and the number of marks seen are in every scope, and
+-- the others are in no scope.
 abbrev pub has_cell : Scope → CellList → ℕ → Bool
 has_cell c Registers i = has_register c (i % 16)
-has_cell c Counters i = i % 18 == 17
+has_cell c Counters i = nat_le 14 (i % 18)
 has_cell c _ i = c.chips
 
 -- true if a scope covers everything that a condition depends on

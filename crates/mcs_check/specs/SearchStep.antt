@@ -18,7 +18,7 @@ ReadsAt g key l value = (a : TrackedMachine) → IsKeyOf g key a → answer l a 
 
 -- Holds if each machine that `key` identifies runs to a machine that `next` identifies, at all
 -- input levels at which the first machine reads `value`. The run takes exactly `cycles` cycles,
--- with the cycle that reads. The property holds at every step.
+-- including the cycle that reads. The property holds at every step.
 abbrev pub LeadsIn : Setting → ℕ → List ℕ → ℕ → List ℕ → Type 0
 LeadsIn g cycles key value next =
     (a : TrackedMachine) → IsKeyOf g key a → (b : TrackedMachine) × IsKeyOf g next b

@@ -1,9 +1,10 @@
--- A search through inputs whose levels change at moments that are at least `wait` cycles apart. A
--- step of the search runs from one read of an input to the next, so only the levels at its
--- beginning matter. If two steps begin at different levels, the search makes the change between
--- them as early as possible. (Defined by Fethsaim, not by Intel.)
-use Rattle.std.specs.Prelude.{◌≡◌, ◌<◌, ◌+◌, ◌-◌, ◌*◌, ◌==◌, ◌||◌, ℕ, suc, min, List, Bool, true, Some, drop, length, nat_le, slice_get, slice_index, take, if◌then◌else◌}
-use Rattle.std.specs.List.{Contains}
+-- A search through inputs whose levels change at moments that are at least `wait` cycles apart. No
+-- key stays down for more than `held` cycles, if `held` is not 0. A step of the search runs from
+-- one read of an input to the next, so only the levels at its beginning matter. If two steps begin
+-- at different levels, the search makes the change between them as early as possible. (Defined by
+-- Fethsaim, not by Intel.)
+use Rattle.std.specs.Prelude.{◌≡◌, ◌<◌, ◌+◌, ◌-◌, ◌*◌, ◌==◌, ◌||◌, ◌&&◌, ℕ, suc, min, List, Bool, true, Some, drop, length, nat_le, nat_lt, slice_get, slice_index, take, if◌then◌else◌}
+use Rattle.std.specs.List.{Contains, sum}
 use Rattle.mcs_drive.specs.DrivenRuns.{FitsBoard, Levels}
 use Rattle.mcs_drive.specs.TrackedMachine.{TrackedMachine}
 use Rattle.mcs_drive.specs.RunsBetweenReads.{LeadsTo}
@@ -16,10 +17,33 @@ use Rattle.mcs_check.specs.SearchStep.{IsState}
 
 -- ---- the levels at the beginnings of steps
 
--- True if the next step can begin at the levels with index `d`. This is so for the first step, if
--- the last step began at these levels, or if the levels can have changed since.
-abbrev pub can_begin_at : ℕ → Spacing → ℕ → Bool
-can_begin_at wait s d = s.last == NO_LEVELS || d == s.last || nat_le wait s.age
+-- true if a key is down at these levels
+abbrev pub has_key_down : Levels → Bool
+has_key_down l = nat_le 1 (sum l.keys)
+
+-- True if the limit `wait` allows the next step to begin at the levels with index `d`. This is so
+-- for the first step, if the last step began at these levels, or if the levels can have changed
+-- since.
+abbrev pub wait_allows : ℕ → Spacing → ℕ → Bool
+wait_allows wait s d = s.last == NO_LEVELS || d == s.last || nat_le wait s.age
+
+-- The number of cycles for which a key is known to have been down, if the next step begins at the
+-- levels with index `d`. It is 0 if the last step began at other levels.
+abbrev pub down_at_begin : Spacing → ℕ → ℕ
+down_at_begin s d =
+    if s.last == NO_LEVELS then 0
+    else if d == s.last then s.down
+    else 0
+
+-- True if the limit `held` allows the next step to begin at the levels with index `d`. This is so
+-- unless a key is known to have been down for `held` cycles, because it would also be down in the
+-- step's first cycle. A limit of 0 allows all levels.
+abbrev pub held_allows : ℕ → Spacing → ℕ → Bool
+held_allows held s d = held == 0 || nat_lt (down_at_begin s d) held
+
+-- true if the next step can begin at the levels with index `d`
+abbrev pub can_begin_at : ℕ → ℕ → Spacing → ℕ → Bool
+can_begin_at wait held s d = wait_allows wait s d && held_allows held s d
 
 -- The age at the beginning of a step at the levels with index `d`. If the last step began at other
 -- levels, the change between them was made as early as possible. The next change comes after the
@@ -30,18 +54,36 @@ age_at_begin wait s d =
     else if d == s.last then min s.age (wait - 1)
     else min (s.age - wait) (wait - 1)
 
--- what the search remembers after a step of `cycles` cycles that began at the levels with index
--- `d`; no age is above twice `wait`
-abbrev pub spacing_after : ℕ → Spacing → ℕ → ℕ → Spacing
-spacing_after wait s d cycles =
-    record { last = d; age = min (age_at_begin wait s d + cycles) (2 * wait) }
+-- The number of cycles, at most `held`, for which a key is known to have been down after a step.
+-- The step began at the levels `l` with index `d` and took `cycles` cycles, and the levels are `l`
+-- again at its end. If it took at most `wait` cycles, there was no time for a change to other
+-- levels and a change back.
+abbrev pub down_after : ℕ → ℕ → Spacing → ℕ → Levels → ℕ → ℕ
+down_after wait held s d l cycles =
+    if has_key_down l && nat_le cycles wait then min (down_at_begin s d + cycles) held else 0
 
--- what five bytes say: the index of the levels at which the last step began, then the age in four
--- bytes, least significant byte first
+-- what the search remembers after a step of `cycles` cycles that began at the levels `l` with index
+-- `d`; no age is above twice `wait`
+abbrev pub spacing_after : ℕ → ℕ → Spacing → ℕ → Levels → ℕ → Spacing
+spacing_after wait held s d l cycles = record {
+  last = d;
+  age = min (age_at_begin wait s d + cycles) (2 * wait);
+  down = down_after wait held s d l cycles;
+}
+
+-- the number in the four bytes from index `i` on, least significant byte first
+abbrev pub number_at : List ℕ → ℕ → ℕ
+number_at bytes i =
+    slice_index bytes i + 256 * slice_index bytes (i + 1) + 65536 * slice_index bytes (i + 2) + 16777216 * slice_index bytes (i + 3)
+
+-- What nine bytes say. The first byte is the index of the levels at which the last step began. The
+-- next four bytes are the age, and the last four are the cycles for which a key is known to have
+-- been down.
 abbrev pub spacing_of_bytes : List ℕ → Spacing
 spacing_of_bytes bytes = record {
   last = slice_index bytes 0;
-  age = slice_index bytes 1 + 256 * slice_index bytes 2 + 65536 * slice_index bytes 3 + 16777216 * slice_index bytes 4;
+  age = number_at bytes 1;
+  down = number_at bytes 5;
 }
 
 -- ---- spaced keys
@@ -53,7 +95,7 @@ pub record SpacedSetting : Type 0 where
   pub wait : ℕ
   pub levels : List Levels
 
--- a spaced key is the key of a machine, followed by five bytes (`spacing_of_bytes`)
+-- a spaced key is the key of a machine, followed by nine bytes (`spacing_of_bytes`)
 abbrev pub machine_key : SpacedSetting → List ℕ → List ℕ
 machine_key h key = take (length h.machines.layout) key
 
@@ -65,7 +107,7 @@ spacing_of_key h key = spacing_of_bytes (drop (length h.machines.layout) key)
 -- holds if the choices for a key contain the index of all levels at which the next step can begin
 abbrev pub SpacedCovers : SpacedSetting → List ℕ → List ℕ → Type 0
 SpacedCovers h key choices =
-    (d : ℕ) → d < length h.levels → can_begin_at h.wait (spacing_of_key h key) d ≡ true → Contains choices d
+    (d : ℕ) → d < length h.levels → can_begin_at h.wait h.machines.limits.held (spacing_of_key h key) d ≡ true → Contains choices d
 
 -- Holds if machine `a`, at the levels with index `d`, runs to a machine that the key `next`
 -- identifies. The run takes `cycles` cycles, and the property holds at every step.
@@ -73,7 +115,7 @@ pub record RunsToSpacedKey (h : SpacedSetting) (key : List ℕ) (d : ℕ) (next 
   pub to : TrackedMachine
   pub is : IsKeyOf h.machines (machine_key h next) to
   pub cycles : ℕ
-  pub spacing : spacing_of_key h next ≡ spacing_after h.wait (spacing_of_key h key) d cycles
+  pub spacing : (l : Levels) → slice_get h.levels d ≡ Some l → spacing_of_key h next ≡ spacing_after h.wait h.machines.limits.held (spacing_of_key h key) d l cycles
   pub run : (l : Levels) → FitsBoard a.1.board l → slice_get h.levels d ≡ Some l →
       (leads : LeadsTo (observer_of_property h.machines.property) (property_of h.machines) a to l) × (cycles ≡ suc leads.more)
 

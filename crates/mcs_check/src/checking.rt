@@ -44,8 +44,9 @@ pub(crate) fn states_that_fit(memory: usize, key_len: usize) -> usize {
     memory / key_len.saturating_add(STATE_BYTES)
 }
 
-/// Searches all runs of the machine that `key` identifies. The search ignores the limit `wait`: it lets the levels
-/// change before each cycle. See `check_all` for `most` and `memory`. Fails if memory for the first state runs out.
+/// Searches all runs of the machine that `key` identifies. The search ignores the limits `wait` and `held`: it lets the
+/// levels change before each cycle, and lets each key stay down for any time. See `check_all` for `most` and `memory`.
+/// Fails if memory for the first state runs out.
 fn search_by_values(
     alloc: Global,
     mut machines: MachineSearch,
@@ -69,9 +70,10 @@ fn search_by_values(
 }
 
 /// Searches all runs of a machine, for all levels of its keys and its TEST pin within the limits, and checks the
-/// property after each cycle. It gives up if the limit `wait` is above 1 and the limits allow more than 255 levels. It
-/// stores at most `most` states and uses about `memory` bytes. It splits each run of cycles without reads into steps of
-/// `pause` cycles. Fails if memory for the layout or for the first state cannot be allocated.
+/// property after each cycle. It gives up if the limit `wait` is above 1 and the limits allow more than 255 levels. If
+/// `wait` is 0 or 1, it ignores the limit `held`, and so also checks inputs that this limit excludes. It stores at most
+/// `most` states and uses about `memory` bytes. It splits each run of cycles without reads into steps of `pause`
+/// cycles. Fails if memory for the layout or for the first state cannot be allocated.
 pub fn check_all(
     alloc: Global,
     mut replica: SearchMachine,

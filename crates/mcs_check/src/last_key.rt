@@ -77,7 +77,7 @@ pub(crate) fn both(first: bool, second: bool) -> bool
 }
 
 impl LastKey {
-    /// Creates a key of zero bytes, which is not current. Fails if memory runs out.
+    /// Creates a key whose bytes are all 0. The key is not current. Fails if memory runs out.
     pub(crate) fn none(alloc: Global, layout: &[KeyByte]) -> Result<LastKey, AllocError>
         ensures split { IfOk result (λ last. IsMemoryFrom layout.now last.front) }
         ensures current { IfOk result (λ last. last.is_current ≡ false) }

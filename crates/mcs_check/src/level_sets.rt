@@ -7,6 +7,7 @@ ghost use Rattle.mcs_model.specs.Levels.{port_of};
 ghost use Rattle.mcs_drive.specs.InputReads.{value_read_by};
 ghost use Rattle.mcs_drive.specs.TrackedMachine.{answer, with_levels};
 ghost use Rattle.mcs_check.specs.LevelSets.{AreAllAllowedLevels, levels_of_first_keys, with_each_next_key, with_next_key};
+ghost use Rattle.mcs_check.specs.SpacedInputs.{has_key_down};
 
 use crate::highest_levels::set_keys;
 use crate::limits::InputLimits;
@@ -59,6 +60,13 @@ impl Levels {
         ensures { result ≡ self.now.test }
     {
         self.test
+    }
+
+    /// Returns whether a key is down at these levels.
+    pub(crate) fn has_key_down(&self) -> bool
+        ensures { result ≡ has_key_down self.now }
+    {
+        keys_down(&self.keys) >= 1
     }
 
     /// Returns a copy of these levels. Fails if memory runs out.

@@ -7,14 +7,18 @@ use mcs_nibble::Bit;
 use std::alloc::{AllocError, Global};
 use std::marker::Model;
 
-/// Limits on the inputs: the highest level of each key and of the TEST pin, the most keys that are down together, the
-/// fewest cycles between two changes, and the most cycles for which a key stays down.
+/// Limits on the inputs.
 #[derive(Drop)]
 pub struct InputLimits {
+    /// The highest level of each key, row by row.
     keys: Vec<Bit>,
+    /// The highest level of the TEST pin.
     test: Bit,
+    /// The largest number of keys that are down together.
     together: u32,
+    /// The smallest number of cycles between two changes of the levels.
     wait: u32,
+    /// The largest number of cycles for which a key stays down, or 0 if there is no limit.
     held: u32,
 }
 

@@ -1,4 +1,5 @@
-//! The transition system that a search explores. Each key identifies a machine with the same board and ROM bytes.
+//! The search by values. Its keys identify machines with one board and one program. Its choices are the values that the
+//! machine of a key can read in its next cycle.
 ghost use Rattle.std.specs.Prelude.{◌≡◌, ◌≤◌, length, IfOk, IfSome};
 ghost use Rattle.mcs_model.specs.declared.board.BoardParts.{BoardParts};
 ghost use Rattle.mcs_model.specs.Boards.{key_count};
@@ -58,6 +59,13 @@ impl MachineSearch {
         ensures { result ≡ self.now.limits.wait }
     {
         self.limits.wait()
+    }
+
+    /// Returns the largest number of cycles for which a key stays down, or 0 if there is no limit.
+    pub(crate) fn held(&self) -> u32
+        ensures { result ≡ self.now.limits.held }
+    {
+        self.limits.held()
     }
 
     /// Returns all levels of the inputs that the limits allow (see `all_allowed_levels`).

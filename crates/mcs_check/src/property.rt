@@ -1,5 +1,5 @@
 //! The conditions that a run checks, and the stopwatch and marks that it observes.
-ghost use Rattle.std.specs.Prelude.{◌≡◌, ◌≤◌, ◌&&◌, [], length, not, slice_get, true};
+ghost use Rattle.std.specs.Prelude.{◌≡◌, ◌≤◌, ◌⊎◌, ◌&&◌, [], length, not, slice_get, true};
 ghost use Rattle.mcs_drive.specs.TrackedMachine.{condition_holds_at};
 ghost use Rattle.mcs_check.specs.Conditions.{meets_none, observer_of_property};
 ghost use Rattle.mcs_check.specs.Scopes.{has_all_lists};
@@ -7,7 +7,7 @@ ghost use Rattle.mcs_check.specs.Scopes.{has_all_lists};
 use crate::conditions::{Conjunction, meets_none};
 use crate::marks::Marks;
 use crate::replica::SearchMachine;
-use crate::scope::{Scope, scope_of};
+use crate::scope::Scope;
 use mcs_drive::Mark;
 use std::alloc::Global;
 use std::marker::Model;
@@ -86,9 +86,12 @@ impl Property {
         meets_none(replica, &self.never_lists)
     }
 
-    /// Returns the scope of the conditions that must never be met.
+    /// Returns the scope of the conditions that must never be met and of those that begin the stopwatch.
     pub(crate) fn scope(&self) -> Scope {
-        scope_of(&self.never_lists)
+        let mut scope = Scope::empty();
+        scope.add_lists(&self.never_lists);
+        scope.add_lists(&self.begins);
+        scope
     }
 
     /// Returns whether a scope covers all conditions that must never be met.
@@ -96,6 +99,14 @@ impl Property {
         ensures { result ≡ has_all_lists scope.now self.now.never_lists }
     {
         scope.has_all_lists(&self.never_lists)
+    }
+
+    /// Returns true only if nothing begins the stopwatch, or if a scope covers all conditions that begin it and includes
+    /// no mistakes.
+    pub(crate) fn is_beginning_covered_by(&self, scope: &Scope) -> bool
+        ensures { result ≡ true → (self.now.begins ≡ []) ⊎ ((not scope.now.mistakes && has_all_lists scope.now self.now.begins) ≡ true) }
+    {
+        self.never_begins() || !scope.mistakes && scope.has_all_lists(&self.begins)
     }
 
     /// Returns whether a scope covers all conditions in `opens` and includes no mistakes.

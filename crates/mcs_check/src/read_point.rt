@@ -22,6 +22,7 @@ use crate::property::Property;
 use crate::reading::{InputSource, input_source_of};
 use crate::replica::SearchMachine;
 use crate::scope::Scope;
+use crate::stopwatch::StopwatchCycles;
 use mcs_model::op::Op;
 use mcs_model::regs::Regs;
 use mcs_nibble::{Addr, Bit, Nibble, RegNo};
@@ -101,7 +102,7 @@ struct NextCycleFacts {
     /// The number of open calls after the cycle.
     calls: u8,
     /// The register of an ISZ that jumps to itself, if the cycle begins this ISZ and the ISZ will jump. `None` in all
-    /// other cases, and if the stopwatch or the count of marks seen can change.
+    /// other cases, and if the cycle can change the stopwatch or the count of marks seen.
     spins: Option<RegNo>,
 }
 
@@ -144,20 +145,15 @@ fn begins_spin_pass(regs: &Regs, r: RegNo, word: u8) -> bool
 
 /// Returns whether the passes of an ISZ that jumps to itself may run in one step. At least
 /// `MAX_CYCLES_BEFORE_LAST_PASS` cycles must be left, and the ISZ must not be at the address at which the run compares
-/// keys (`is_sought`). The scope must cover all conditions, and the next cycle must change nothing in the scope and
-/// make no mistake.
-fn may_spin(
-    left: u32,
-    is_sought: bool,
-    has_all_lists: bool,
-    next_cycle_facts: &NextCycleFacts,
-) -> bool
+/// keys (`is_sought`). The scope must cover all conditions that must never be met and all that begin the stopwatch
+/// (`is_covered`). The next cycle must change nothing in the scope and make no mistake.
+fn may_spin(left: u32, is_sought: bool, is_covered: bool, next_cycle_facts: &NextCycleFacts) -> bool
     ensures left { result ≡ true → 30 ≤ left }
-    ensures scope { result ≡ true → (has_all_lists ≡ true) × ((next_cycle_facts.now.makes_mistake_in_scope ≡ false) × (next_cycle_facts.now.changes ≡ false)) }
+    ensures scope { result ≡ true → (is_covered ≡ true) × ((next_cycle_facts.now.makes_mistake_in_scope ≡ false) × (next_cycle_facts.now.changes ≡ false)) }
 {
     left >= MAX_CYCLES_BEFORE_LAST_PASS
         && !is_sought
-        && has_all_lists
+        && is_covered
         && !next_cycle_facts.makes_mistake_in_scope
         && !next_cycle_facts.changes
 }
@@ -197,7 +193,8 @@ impl SearchMachine {
     }
 
     /// Returns the register of `op`, the instruction at the program counter, if `op` is an ISZ that will jump to
-    /// itself. Returns `None` in all other cases, and if the stopwatch or the count of marks seen can change.
+    /// itself. Returns `None` in all other cases, and if the next cycle can change the stopwatch or the count of marks
+    /// seen.
     fn spins(&self, property: &Property, op: Op) -> Option<RegNo>
         requires { instruction_at self.now.0 self.now.1 ≡ Some op }
         ensures { IfSome result (λ r. Spins (observer_of_property property.now) r self.now) }
@@ -484,11 +481,12 @@ impl SearchMachine {
     }
 
     /// Returns whether the last step may have changed something in a scope. `changes` is true if the step may have
-    /// changed a register or a chip in the scope. `seen` is the number of marks seen before the step.
-    fn has_changed(&self, changes: bool, seen: u8) -> bool
-        ensures { result ≡ false → (changes ≡ false) × (self.now.2.seen ≡ seen) }
+    /// changed a register or a chip in the scope. Before the step, `seen` was the number of marks seen, and the
+    /// stopwatch showed `elapsed`.
+    fn has_changed(&self, changes: bool, seen: u8, elapsed: StopwatchCycles) -> bool
+        ensures { result ≡ false → (changes ≡ false) × ((self.now.2.seen ≡ seen) × (self.now.2.elapsed ≡ elapsed)) }
     {
-        changes || self.seen != seen
+        changes || self.seen != seen || self.elapsed.cycles() != elapsed.cycles()
     }
 
     /// Returns `run` if the property holds, and `None` otherwise.
@@ -519,6 +517,7 @@ impl SearchMachine {
     {
         let scope = property.scope();
         let has_all_lists = property.is_covered_by(&scope);
+        let is_covered = both(has_all_lists, property.is_beginning_covered_by(&scope));
         let has_opening = property.is_opening_covered_by(&scope);
         let mut changed = true;
         let mut is_open = false;
@@ -547,11 +546,11 @@ impl SearchMachine {
                 return Some(run);
             }
             let is_sought = self.program_counter().get() == at.get();
-            let may = may_spin(left, is_sought, has_all_lists, &next_cycle_facts);
+            let may = may_spin(left, is_sought, is_covered, &next_cycle_facts);
             is_open = self.is_open(property, has_opening, changed, is_open);
-            let seen = self.seen;
+            let (seen, elapsed) = (self.seen, self.elapsed);
             left -= self.run_step(property, &next_cycle_facts, may, is_open);
-            changed = self.has_changed(next_cycle_facts.changes, seen);
+            changed = self.has_changed(next_cycle_facts.changes, seen, elapsed);
             keeps_memory = both(keeps_memory, next_cycle_facts.keeps_memory);
         }
         let cycles = most - left;

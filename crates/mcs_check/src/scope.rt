@@ -18,20 +18,23 @@ pub(crate) struct Scope {
     pub(crate) mistakes: bool,
 }
 
-/// Returns the scope of all conditions in the conjunctions.
-pub(crate) fn scope_of(never_lists: &[Conjunction]) -> Scope {
-    let mut scope = Scope {
-        registers: [false; 16],
-        chips: false,
-        mistakes: false,
-    };
-    for i in 0..never_lists.len() {
-        scope.add_all(never_lists[i].conditions());
-    }
-    scope
-}
-
 impl Scope {
+    /// Returns the scope of no conditions.
+    pub(crate) fn empty() -> Scope {
+        Scope {
+            registers: [false; 16],
+            chips: false,
+            mistakes: false,
+        }
+    }
+
+    /// Adds everything that the conditions in these conjunctions depend on.
+    pub(crate) fn add_lists(&mut self, lists: &[Conjunction]) {
+        for i in 0..lists.len() {
+            self.add_all(lists[i].conditions());
+        }
+    }
+
     /// Adds a cell to the scope. A cell of a chip adds all chips, and a counter adds nothing.
     fn add_cell(&mut self, cell: Cell) {
         match cell.list {
@@ -67,14 +70,14 @@ impl Scope {
         self.has_register(even) || self.has_register(even + 1)
     }
 
-    /// Returns whether a cell is in the scope. Of the counters, the number of marks seen is in every scope, and the
-    /// others are in none.
+    /// Returns whether a cell is in the scope. Of the counters, the bytes of the stopwatch and the number of marks seen
+    /// are in every scope, and the others are in none.
     fn has_cell(&self, cell: Cell) -> bool
         ensures { result ≡ has_cell self.now cell.list cell.index }
     {
         match cell.list {
             CellList::Registers => self.has_register(cell.reduced_index() as u8),
-            CellList::Counters => cell.reduced_index() == 17,
+            CellList::Counters => cell.reduced_index() >= 14,
             _ => self.chips,
         }
     }

@@ -23,8 +23,8 @@ use std::alloc::AllocError;
 /// The end of a step of the search.
 #[derive(Clone, Copy, Debug)]
 pub(crate) enum StepEnd {
-    /// The step reached the next key, and the property held at every moment. The field is the number of cycles, with
-    /// the cycle that reads.
+    /// The step reached the next key, and the property held at every moment. The field is the number of cycles,
+    /// including the cycle that reads.
     Reached(u64),
     /// The property failed at some moment.
     Failed,

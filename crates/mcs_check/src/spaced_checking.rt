@@ -1,4 +1,4 @@
-//! Checks a machine for inputs whose changes are far enough apart.
+//! Checks a machine for inputs whose changes are far enough apart, and whose keys stay down for a limited time.
 ghost use Rattle.std.specs.Prelude.{◌≤◌, IfOk};
 ghost use Rattle.mcs_search.specs.declared.searching.TheConstants.{MAX_STATES};
 ghost use Rattle.mcs_check.specs.OutcomeMeaning.{IsProvedAt};
@@ -11,9 +11,10 @@ use crate::spacing::MAX_WAIT;
 use mcs_search::{MAX_STATES, Verdict, search_all};
 use std::alloc::{AllocError, Global};
 
-/// Searches all runs of the machine that `key` identifies, for inputs whose changes are at least `wait` cycles apart.
-/// Gives up if the limits allow more than 255 levels. See `check_all` for `most` and `memory`. Fails if memory for the
-/// levels or for the first state runs out.
+/// Searches all runs of the machine that `key` identifies, for inputs within the limits. Two changes of these inputs
+/// are at least `wait` cycles apart, and no key stays down for more than `held` cycles. Gives up if the limits allow
+/// more than 255 levels. See `check_all` for `most` and `memory`. Fails if memory for the levels or for the first state
+/// runs out.
 pub(crate) fn search_by_levels(
     alloc: Global,
     machines: MachineSearch,

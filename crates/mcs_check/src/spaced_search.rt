@@ -1,5 +1,5 @@
-//! The transition system that a search through spaced inputs explores. Each spaced key identifies a machine and what
-//! the search remembers of its inputs.
+//! The search by levels. Its keys, the spaced keys, identify a machine and what the search remembers of the machine's
+//! inputs. Its choices are the levels at which the next step can begin.
 ghost use Rattle.std.specs.Prelude.{[], ◌∷◌, ◌++◌, ◌≡◌, ◌<◌, ◌≤◌, ℕ, length, true, IfOk, OnOk};
 ghost use Rattle.std.specs.List.{All, Contains};
 ghost use Rattle.mcs_check.specs.declared.spacing.TheConstants.{NO_LEVELS};
@@ -52,11 +52,11 @@ impl SpacedSearch {
 
 /// Returns the spaced key of a machine before its first step. Fails if memory runs out.
 pub(crate) fn first_spaced_key(alloc: Global, key: &[u8]) -> Result<Vec<u8>, AllocError>
-    ensures { IfOk result (λ spaced. spaced.items ≡ key.now ++ NO_LEVELS ∷ 0 ∷ 0 ∷ 0 ∷ 0 ∷ []) }
+    ensures { IfOk result (λ spaced. spaced.items ≡ key.now ++ NO_LEVELS ∷ 0 ∷ 0 ∷ 0 ∷ 0 ∷ 0 ∷ 0 ∷ 0 ∷ 0 ∷ []) }
 {
     let mut spaced = Vec::new(alloc);
     spaced.extend_from_slice(key)?;
-    spaced.extend_from_slice(&[NO_LEVELS, 0, 0, 0, 0])?;
+    spaced.extend_from_slice(&[NO_LEVELS, 0, 0, 0, 0, 0, 0, 0, 0])?;
     Ok(spaced)
 }
 
@@ -65,13 +65,14 @@ fn push_indices(
     count: usize,
     spacing: Spacing,
     wait: u32,
+    held: u32,
     into: &mut Vec<u8>,
 ) -> Result<(), AllocError>
     requires { count ≤ NO_LEVELS }
-    ensures { OnOk result ((d : ℕ) → d < count → can_begin_at wait spacing d ≡ true → Contains into.new.items d) }
+    ensures { OnOk result ((d : ℕ) → d < count → can_begin_at wait held spacing d ≡ true → Contains into.new.items d) }
 {
     for index in 0..count {
-        if spacing.can_begin_at(wait, index as u8) {
+        if spacing.can_begin_at(wait, held, index as u8) {
             into.push(index as u8)?;
         }
     }
@@ -90,11 +91,13 @@ impl System for SpacedSearch {
     fn choices(&mut self, key: &[u8], into: &mut Vec<u8>) -> Result<(), AllocError> {
         let spacing = Spacing::of_key(key, self.machines.key_len());
         into.clear();
-        push_indices(self.levels.len(), spacing, self.wait, into)
+        let held = self.machines.held();
+        push_indices(self.levels.len(), spacing, self.wait, held, into)
     }
 
     fn apply_choice(&mut self, key: &[u8], choice: u8, into: &mut [u8]) -> Option<bool> {
         let len = self.machines.key_len();
+        let held = self.machines.held();
         if key.len() < len || key.len() - len != SPACING_BYTES {
             return None;
         }
@@ -107,7 +110,9 @@ impl System for SpacedSearch {
             return Some(false);
         };
         let before = Spacing::of_key(key, len);
-        before.after(self.wait, choice, cycles).write(spacing);
+        before
+            .after(self.wait, held, choice, levels, cycles)
+            .write(spacing);
         Some(true)
     }
 }

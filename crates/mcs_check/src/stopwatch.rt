@@ -1,6 +1,6 @@
 //! The number of cycles that a stopwatch shows, and a limit on this number.
 ghost use Rattle.std.specs.Prelude.{◌≡◌, ◌==◌, ◌<◌, ◌/◌, ◌%◌, ◌∷◌, ◌&&◌, ◌↔◌, [], false, true, nat_le, IsSome, IfSome, OnOk};
-ghost use Rattle.mcs_drive.specs.TrackedMachine.{TrackedMachine, elapsed_after, stopwatch_after};
+ghost use Rattle.mcs_drive.specs.TrackedMachine.{TrackedMachine, begins_at, elapsed_after, stopwatch_after};
 ghost use Rattle.mcs_check.specs.Conditions.{elapsed_byte_comparison, meets_none, observer_of_property};
 ghost use Rattle.mcs_check.specs.declared.conditions.Condition.TheVariants.{Compare};
 ghost use Rattle.mcs_check.specs.ReadPoints.{IsObserverIdle};
@@ -48,6 +48,13 @@ impl StopwatchCycles {
         } else {
             None
         }
+    }
+
+    /// Returns the number.
+    pub(crate) fn cycles(self) -> u32
+        ensures { result ≡ self }
+    {
+        self.cycles
     }
 
     /// Returns whether the number is 0.
@@ -167,11 +174,19 @@ impl SearchMachine {
         self.elapsed.is_zero() && property.never_begins()
     }
 
-    /// Returns true only if the stopwatch and the count of marks seen never change.
-    pub(crate) fn is_observer_idle(&self, property: &Property) -> bool
-        ensures { result ≡ true → IsObserverIdle (observer_of_property property.now) self.now.2 }
+    /// Returns true only if the stopwatch is at 0 and the next cycle does not begin it.
+    fn stays_at_zero(&self, property: &Property) -> bool
+        ensures zero { result ≡ true → self.now.2.elapsed ≡ 0 }
+        ensures not_begun { result ≡ true → begins_at (observer_of_property property.now) self.now ≡ false }
     {
-        self.is_stopped(property) && self.seen == 0 && property.has_no_marks()
+        self.elapsed.is_zero() && !property.begins(self)
+    }
+
+    /// Returns true only if the next cycle changes neither the stopwatch nor the count of marks seen.
+    pub(crate) fn is_observer_idle(&self, property: &Property) -> bool
+        ensures { result ≡ true → IsObserverIdle (observer_of_property property.now) self.now }
+    {
+        self.stays_at_zero(property) && self.seen == 0 && property.has_no_marks()
     }
 
     /// Returns the number of cycles that the stopwatch shows after the machine's next cycle.

@@ -53,9 +53,9 @@ abbrev pub AreReleasedWithin : ℕ → (ℕ → Levels) → Type 0
 AreReleasedWithin limit f =
     1 ≤ limit → (key k : ℕ) → (d : ℕ) × (d ≤ limit) × (slice_index (f (k + d)).keys key ≡ 0)
 
--- Holds if the inputs `f` are within the limits: all levels before each cycle are within the
--- limits, two changes of the levels are at least `wait` cycles apart, and no key stays down for more
--- than `held` cycles. `f i` has the levels before cycle `i`, counted from 0.
+-- Holds if the inputs `f` are within the limits. All levels before each cycle are within the limits,
+-- two changes of the levels are at least `wait` cycles apart, and no key stays down for more than
+-- `held` cycles. `f i` has the levels before cycle `i`, counted from 0.
 pub record AreInputsAllowed (limits : InputLimits) (b : BoardParts) (f : ℕ → Levels) : Type 0 where
   pub levels : (k : ℕ) → AreAllowed limits b (f k)
   pub spaced : (i j : ℕ) → i < j → Changes f i → Changes f j → i + limits.wait ≤ j

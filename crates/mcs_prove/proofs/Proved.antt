@@ -1,5 +1,5 @@
 -- An outcome that is proved for a rig is proved for the machine that two texts define.
-use Rattle.std.proofs.Common.{◌≡◌, ◌∙◌, ◌<◌, ◌&&◌, ◌/◌, ℕ, List, [], ◌∷◌, Bool, true, false, not, cond, nat_lt, Option, Some, None, Result, Ok, Err, IfOk, is_some, length, slice_set, refl, sym, ap, subst, arith, eqb}
+use Rattle.std.proofs.Common.{◌≡◌, ◌∙◌, ◌<◌, ◌&&◌, ◌/◌, ℕ, List, [], ◌∷◌, Bool, true, false, not, cond, nat_lt, Option, Some, None, is_some, length, slice_set, refl, sym, ap, subst, arith, eqb}
 use Rattle.std.proofs.lemmas.Bool.{and_parts, eqb-true}
 use Rattle.mcs_model.specs.declared.regs.Regs.{Regs}
 use Rattle.mcs_model.specs.declared.board.BoardParts.{BoardParts}
@@ -18,7 +18,6 @@ use Rattle.mcs_check.specs.Conditions.{meets_none, observer_of}
 use Rattle.mcs_check.specs.OutcomeMeaning.{IsProved}
 use Rattle.mcs_prove.specs.MachineOfTexts.{IsRigOfTexts, IsProvedOf, machine_with_program}
 use Rattle.mcs_prove.proofs.Ignoring.{conditions-ignore}
-use Rattle.mcs_prove.specs.declared.refusal.Refusal.{Refusal}
 use Rattle.mcs_prove.specs.Questions.{QuestionSoFar, IsAnswerTo, IsPropertyProvedOf, question_of_text, keeps_property, limits_of_question, are_marks_complete, is_consistent, is_stopwatch_complete, is_stopwatch_complete_with, observer_of_question}
 
 -- ---- the board of the machine
@@ -105,8 +104,8 @@ no_marks-if_entries_allowed q false is h some =
 -- question.
 question_proved-if_never_lists_proved : (board program : List ℕ) (limits : BoardParts → InputLimits) (q : QuestionSoFar) (found : Outcome) → is_consistent q ≡ true → 0 < q.max_entries → IsProvedOf board program limits no_observer (meets_none q.never_lists) found →
     IsPropertyProvedOf board program limits (observer_of_question q) q.never_lists q.limit found
-question_proved-if_never_lists_proved board program limits q found posed some h =
-    let complete = and_parts (is_stopwatch_complete q) (are_marks_complete q) posed in
+question_proved-if_never_lists_proved board program limits q found consistent some h =
+    let complete = and_parts (is_stopwatch_complete q) (are_marks_complete q) consistent in
     let parts = no_stopwatch-if_entries_allowed q q.limit complete.0 some in
     let marks = no_marks-if_entries_allowed q (eqb (length q.marks) 0) refl complete.1 some in
     let nevers_proved : IsPropertyProvedOf board program limits no_observer q.never_lists None found = record {
@@ -126,36 +125,30 @@ abbrev pub IsQuestionProvedOf : List ℕ → List ℕ → QuestionSoFar → Outc
 IsQuestionProvedOf board program q found =
     IsPropertyProvedOf board program (limits_of_question q) (observer_of_question q) q.never_lists q.limit found
 
-pub is_answer-if_question_proved : (text board program : List ℕ) (q : QuestionSoFar) (found : Result Outcome Refusal) →
+pub is_answer-if_question_proved : (text board program : List ℕ) (q : QuestionSoFar) (found : Outcome) →
     question_of_text text ≡ Some q → q.has_prove_line ≡ true → is_consistent q ≡ true → q.board ≡ Some board → q.program ≡ Some program →
-    IfOk found (IsQuestionProvedOf board program q) → IfOk found (IsAnswerTo text)
-is_answer-if_question_proved text board program q (Ok found) spells whole posed has_board has_program h = record {
+    IsQuestionProvedOf board program q found → IsAnswerTo text found
+is_answer-if_question_proved text board program q found spells ended consistent has_board has_program h = record {
   question = q;
   board = board;
   program = program;
   spells = spells;
-  has_prove_line = whole;
-  is_consistent = posed;
+  has_prove_line = ended;
+  is_consistent = consistent;
   has_board = has_board;
   has_program = has_program;
   proved = h;
 }
-is_answer-if_question_proved text board program q (Err why) spells whole posed has_board has_program h = h
 
--- holds if the promise of an outcome about `never` lists is true for any limits of the inputs
+-- holds if the promise of an outcome about `never` lists is true for any limits on the inputs
 abbrev AreNeverListsProvedOf : List ℕ → List ℕ → List (List Condition) → Outcome → Type 0
 AreNeverListsProvedOf board program never_lists found =
     (limits : BoardParts → InputLimits) → IsProvedOf board program limits no_observer (meets_none never_lists) found
 
-question_proved-if_result_proved : (board program : List ℕ) (q : QuestionSoFar) (never_lists : List (List Condition)) (found : Result Outcome Refusal) → is_consistent q ≡ true → 0 < q.max_entries → never_lists ≡ q.never_lists →
-    IfOk found (AreNeverListsProvedOf board program never_lists) → IfOk found (IsQuestionProvedOf board program q)
-question_proved-if_result_proved board program q never_lists (Ok found) posed some same h =
-    let limits = limits_of_question q in
-    question_proved-if_never_lists_proved board program limits q found posed some (subst (λ (n : List (List Condition)). IsProvedOf board program limits no_observer (meets_none n) found) same (h limits))
-question_proved-if_result_proved board program q never_lists (Err why) posed some same h = h
-
-pub is_answer-if_never_lists_proved : (text board program : List ℕ) (q : QuestionSoFar) (never_lists : List (List Condition)) (found : Result Outcome Refusal) →
+pub is_answer-if_never_lists_proved : (text board program : List ℕ) (q : QuestionSoFar) (never_lists : List (List Condition)) (found : Outcome) →
     question_of_text text ≡ Some q → q.has_prove_line ≡ true → is_consistent q ≡ true → q.board ≡ Some board → q.program ≡ Some program → 0 < q.max_entries → never_lists ≡ q.never_lists →
-    IfOk found (AreNeverListsProvedOf board program never_lists) → IfOk found (IsAnswerTo text)
-is_answer-if_never_lists_proved text board program q never_lists found spells whole posed has_board has_program some same h =
-    is_answer-if_question_proved text board program q found spells whole posed has_board has_program (question_proved-if_result_proved board program q never_lists found posed some same h)
+    AreNeverListsProvedOf board program never_lists found → IsAnswerTo text found
+is_answer-if_never_lists_proved text board program q never_lists found spells ended consistent has_board has_program some same h =
+    let limits = limits_of_question q in
+    is_answer-if_question_proved text board program q found spells ended consistent has_board has_program
+    (question_proved-if_never_lists_proved board program limits q found consistent some (subst (λ (n : List (List Condition)). IsProvedOf board program limits no_observer (meets_none n) found) same (h limits)))

@@ -1,4 +1,4 @@
--- The inputs that a question allows, and the limits of the inputs of a machine with a given board.
+-- The inputs that a question allows, and the limits on the inputs of a machine with a given board.
 use Rattle.std.specs.Prelude.{ℕ, Bool, false, ◌&&◌, not, List, [], ◌∷◌, replicate, slice_set, Option, None, unwrap_or, if◌then◌else◌}
 use Rattle.mcs_model.specs.declared.board.BoardParts.{BoardParts}
 use Rattle.mcs_model.specs.Boards.{has_key, key_count, key_index}
@@ -8,18 +8,26 @@ use Rattle.mcs_prove.specs.declared.inputs.KeyPosition.{KeyPosition}
 -- The inputs that a question allows. If `is_restricted` is false, all keys may be pressed and TEST
 -- may be 1. If it is true, only the keys in `pressable` may be pressed, and TEST may be 1 only if
 -- `test_may_change` is true. `together` is the maximum number of keys that are down at a time; None
--- means any number. `wait` is the smallest number of cycles between two changes of the levels; 0
--- means no limit.
+-- means any number. `wait` is the smallest number of cycles between two changes of the levels.
+-- `held` is the largest number of cycles for which a key stays down. For both, 0 means no limit.
 pub record AllowedInputs : Type 0 where
   pub is_restricted : Bool
   pub pressable : List KeyPosition
   pub test_may_change : Bool
   pub together : Option ℕ
   pub wait : ℕ
+  pub held : ℕ
 
 -- the inputs that a question without a line about inputs allows
 abbrev pub all_inputs : AllowedInputs
-all_inputs = record { is_restricted = false; pressable = []; test_may_change = false; together = None; wait = 0 }
+all_inputs = record {
+  is_restricted = false;
+  pressable = [];
+  test_may_change = false;
+  together = None;
+  wait = 0;
+  held = 0;
+}
 
 -- the highest levels of the keys of a board, changed to allow one more key to be pressed; unchanged
 -- if the board does not have the key
@@ -47,11 +55,12 @@ highest_test_level a = if a.is_restricted && not a.test_may_change then 0 else 1
 abbrev pub most_keys_down : AllowedInputs → BoardParts → ℕ
 most_keys_down a b = unwrap_or a.together (key_count b)
 
--- the limits of the inputs of a machine with this board
+-- the limits on the inputs of a machine with this board
 abbrev pub limits_of : AllowedInputs → BoardParts → InputLimits
 limits_of a b = record {
   keys = highest_key_levels a b;
   test = highest_test_level a;
   together = most_keys_down a b;
   wait = a.wait;
+  held = a.held;
 }

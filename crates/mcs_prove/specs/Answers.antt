@@ -16,20 +16,21 @@ use Rattle.mcs_prove.specs.Questions.{IsAnswerTo}
 abbrev pub space_and_decimal : ℕ → List ℕ
 space_and_decimal n = codes " " ++ decimal n
 
--- level `i` of the levels of all keys, row by row, and then of TEST; 0 beyond the last one
+-- the level at index `i` of a list that has the levels of all keys, row by row, and then the level
+-- of TEST; 0 beyond its end
 abbrev pub level_at : Levels → ℕ → ℕ
 level_at l i = if nat_lt i (length l.keys) then slice_index l.keys i else if i == length l.keys then l.test else 0
 
--- the number of digits for the levels of all keys and TEST. Each digit has four levels.
+-- the number of digits that encode the levels of all keys and TEST. Each digit encodes four levels.
 abbrev pub digit_count : Levels → ℕ
 digit_count l = length l.keys / 4 + 1
 
--- digit `d` for the levels of all keys and TEST. It has four levels, the first one in its lowest
--- bit.
+-- digit `d` of those that encode the levels of all keys and TEST. Its lowest bit is the first of
+-- its four levels.
 abbrev pub digit_at : Levels → ℕ → ℕ
 digit_at l d = level_at l (4 * d) + 2 * level_at l (4 * d + 1) + 4 * level_at l (4 * d + 2) + 8 * level_at l (4 * d + 3)
 
--- the hexadecimal digit for a number below 16
+-- the hexadecimal digit of a number below 16
 abbrev pub hex_digit : ℕ → List ℕ
 hex_digit n =
     if n == 10 then codes "a"
@@ -40,12 +41,12 @@ hex_digit n =
     else if n == 15 then codes "f"
     else decimal n
 
--- the first digits for the levels of all keys and TEST, in lower-case hexadecimal
+-- the first digits that encode the levels of all keys and TEST, in lower-case hexadecimal
 abbrev pub first_digits : Levels → ℕ → List ℕ
 first_digits l zero = []
 first_digits l (suc n) = first_digits l n ++ hex_digit (digit_at l n)
 
--- a space and a word with all digits for the levels of all keys and TEST
+-- a space and a word with all digits that encode the levels of all keys and TEST
 abbrev pub space_and_word : Levels → List ℕ
 space_and_word l = codes " " ++ first_digits l (digit_count l)
 

@@ -38,7 +38,7 @@ pub record IsRigOfTexts (board program : List ℕ) (rig : BusState) : Type 0 whe
   pub is_machine : with_zero_counts (new_regs, rig) ≡ machine_with_program parts loaded
 
 -- Holds if the promise of an outcome about the property `p` is true of the machine that two texts
--- define. `limits` has the limits of the inputs for each board, and `w` is the observer of the
+-- define. `limits` has the limits on the inputs for each board, and `w` is the observer of the
 -- machine's runs.
 pub record IsProvedOf (board program : List ℕ) (limits : BoardParts → InputLimits) (w : Observer) (p : TrackedMachine → Bool) (outcome : Outcome) : Type 0 where
   pub parts : BoardParts

@@ -18,9 +18,9 @@ use Rattle.mcs_check.specs.declared.conditions.Part.TheVariants.{Whole, Line}
 use Rattle.mcs_check.specs.Cells.{max_cell_count}
 use Rattle.mcs_prove.specs.declared.inputs.KeyPosition.{KeyPosition}
 use Rattle.mcs_prove.specs.declared.lines.QuestionLine.{QuestionLine}
-use Rattle.mcs_prove.specs.declared.lines.QuestionLine.TheVariants.{Blank, MaxStates, MaxEntries, MaxMemory, Pause, TimeLimit, BoardText, ProgramText, Conditions, OneCondition, NextMark, Together, Wait, Only, Pressable, TestMayChange, Prove}
+use Rattle.mcs_prove.specs.declared.lines.QuestionLine.TheVariants.{Blank, MaxStates, MaxEntries, MaxMemory, Pause, TimeLimit, BoardText, ProgramText, Conditions, OneCondition, NextMark, Together, Wait, Held, Only, Pressable, TestMayChange, Prove}
 use Rattle.mcs_prove.specs.declared.lines.ListRole.TheVariants.{Never, Begin, End, Open}
-use Rattle.mcs_prove.specs.declared.lines.TheConstants.{LAST_INDEX, MAX_TIME_LIMIT, MAX_PAUSE, MAX_ENTRIES, MAX_MEMORY, MAX_WAIT, MIN_WAIT}
+use Rattle.mcs_prove.specs.declared.lines.TheConstants.{LAST_INDEX, MAX_TIME_LIMIT, MAX_PAUSE, MAX_ENTRIES, MAX_MEMORY, MAX_WAIT, MIN_WAIT, MAX_HELD}
 
 -- ---- a comparison: `in ramport 0 line1 1 1`
 
@@ -143,13 +143,17 @@ one_word_lines =
     ∷ (codes "prove", Prove)
     ∷ []
 
--- the line `pause n`; None if n is 0
+-- the `pause` line with the number n; None if n is 0
 abbrev pub pause_line : ℕ → Option QuestionLine
 pause_line n = if nat_lt 0 n then Some (Pause n) else None
 
--- the line `wait` with the number that a word spells; None if the number is too small or too large
+-- the `wait` line with the number that a word spells; None if the number is too small or too large
 abbrev pub wait_line : List ℕ → Option QuestionLine
 wait_line word = number_up_to MAX_WAIT word >>= λ n. if nat_le MIN_WAIT n then Some (Wait n) else None
+
+-- the `held` line with the number that a word spells; None if the number is 0 or too large
+abbrev pub held_line : List ℕ → Option QuestionLine
+held_line word = number_up_to MAX_HELD word >>= λ n. if nat_lt 0 n then Some (Held n) else None
 
 -- a line of two words: a name and a number
 abbrev pub number_line : List ℕ → List ℕ → Option QuestionLine
@@ -159,6 +163,7 @@ number_line name word =
     else if bytes_eq name (codes "memory") then option_map MaxMemory (number_up_to MAX_MEMORY word)
     else if bytes_eq name (codes "together") then option_map Together (number_up_to 255 word)
     else if bytes_eq name (codes "wait") then wait_line word
+    else if bytes_eq name (codes "held") then held_line word
     else if bytes_eq name (codes "within") then option_map TimeLimit (number_up_to MAX_TIME_LIMIT word)
     else if bytes_eq name (codes "pause") then number_up_to MAX_PAUSE word >>= pause_line
     else None

@@ -125,6 +125,7 @@ after_parsed_line a (line.OneCondition c) = with_condition a c a.conditions
 after_parsed_line a (line.NextMark mark) = Some (record a { marks = a.marks ++ mark ∷ [] })
 after_parsed_line a (line.Together n) = Some (with_inputs a (record a.inputs { together = Some n }))
 after_parsed_line a (line.Wait n) = Some (with_inputs a (record a.inputs { wait = n }))
+after_parsed_line a (line.Held n) = Some (with_inputs a (record a.inputs { held = n }))
 after_parsed_line a line.Only = Some (with_inputs a (record a.inputs { is_restricted = true }))
 after_parsed_line a (line.Pressable key) =
     Some (with_inputs a (record a.inputs { pressable = a.inputs.pressable ++ key ∷ [] }))
@@ -182,7 +183,7 @@ are_marks_complete a = if length a.marks == 0 then length a.opens == 0 else not 
 abbrev pub is_consistent : QuestionSoFar → Bool
 is_consistent a = is_stopwatch_complete a && are_marks_complete a
 
--- the limits of the inputs of a question, for each board
+-- the limits on the inputs that a question sets, for each board
 abbrev pub limits_of_question : QuestionSoFar → BoardParts → InputLimits
 limits_of_question a b = limits_of a.inputs b
 
@@ -202,7 +203,7 @@ abbrev pub keeps_property : Observer → List (List Condition) → Option ℕ �
 keeps_property w never_lists limit s = meets_none never_lists s && is_within_limit limit s && holds_only_after_marks w s
 
 -- holds if the promise of an outcome is true of the machine that two texts define, for these limits
--- of the inputs, this observer and this property
+-- on the inputs, this observer and this property
 abbrev pub IsPropertyProvedOf : List ℕ → List ℕ → (BoardParts → InputLimits) → Observer → List (List Condition) → Option ℕ → Outcome → Type 0
 IsPropertyProvedOf board program limits w never_lists limit outcome =
     IsProvedOf board program limits w (keeps_property w never_lists limit) outcome

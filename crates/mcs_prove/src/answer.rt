@@ -1,8 +1,8 @@
 //! The answer to a question: one line and an exit status.
-ghost use Rattle.std.specs.Prelude.{◌≡◌, ◌<◌, ◌≤◌, ◌^◌, ◌++◌, string_bytes, IfOk, OnOk};
+ghost use Rattle.std.specs.Prelude.{◌≡◌, ◌<◌, ◌≤◌, ◌^◌, ◌++◌, ℕ, true, List, Some, string_bytes, IfOk, OnOk};
 ghost use Rattle.std.specs.List.{flat_map};
 ghost use Rattle.mcs_prove.specs.Answers.{AnswersQuestion, digit_at, digit_count, first_digits, hex_digit, level_at, line_of_answer, outcome_line, refusal_line, refusal_status, space_and_decimal, space_and_word, status_of_answer};
-ghost use Rattle.mcs_prove.specs.Questions.{IsAnswerTo};
+ghost use Rattle.mcs_prove.specs.Questions.{IsAnswerTo, is_consistent, question_of_text};
 
 use crate::proving::{Goal, prove, prove_by_sets};
 use crate::question::{Question, question_of};
@@ -28,7 +28,9 @@ const STATUS_REFUSED: u8 = 3;
 /// The answer to a question: its line and its exit status.
 #[derive(Drop)]
 pub struct Answer {
+    /// The line, without a line feed.
     pub text: String,
+    /// The exit status.
     pub status: u8,
 }
 
@@ -42,7 +44,8 @@ fn push_values(out: &mut String, values: &[u8]) -> Result<(), AllocError>
     Ok(())
 }
 
-/// Returns level `index` of the levels of all keys, row by row, and then of TEST. Returns 0 beyond the last one.
+/// Returns the level at `index` of a list that has the levels of all keys, row by row, and then the level of TEST.
+/// Returns 0 beyond its end.
 fn level_at(levels: &Levels, index: usize) -> Bit
     ensures { result ≡ level_at levels.now index }
 {
@@ -56,7 +59,7 @@ fn level_at(levels: &Levels, index: usize) -> Bit
     }
 }
 
-/// Returns the number of digits for the levels of all keys and TEST. Each digit has four levels.
+/// Returns the number of digits that encode the levels of all keys and TEST. Each digit encodes four levels.
 fn digit_count(levels: &Levels) -> usize
     ensures value { result ≡ digit_count levels.now }
     ensures few { result ≤ 2 ^ 61 }
@@ -64,7 +67,8 @@ fn digit_count(levels: &Levels) -> usize
     levels.keys().len() / 4 + 1
 }
 
-/// Returns one of the digits for the levels of all keys and TEST. It has four levels, the first one in its lowest bit.
+/// Returns one of the digits that encode the levels of all keys and TEST. Its lowest bit is the first of its four
+/// levels.
 fn digit_at(levels: &Levels, index: usize) -> u8
     requires { index < 2 ^ 61 }
     ensures { result ≡ digit_at levels.now index }
@@ -76,7 +80,7 @@ fn digit_at(levels: &Levels, index: usize) -> u8
         + 8 * level_at(levels, first + 3).get()
 }
 
-/// Appends a hexadecimal digit for a number below 16. Fails if memory runs out.
+/// Appends the hexadecimal digit of a number below 16. Fails if memory runs out.
 fn push_digit(out: &mut String, number: u8) -> Result<(), AllocError>
     ensures { OnOk result (string_bytes out.new ≡ string_bytes out.old ++ hex_digit number) }
 {
@@ -91,7 +95,7 @@ fn push_digit(out: &mut String, number: u8) -> Result<(), AllocError>
     }
 }
 
-/// Appends all digits for the levels of all keys and TEST, in hexadecimal. Fails if memory runs out.
+/// Appends the hexadecimal digits that encode the levels of all keys and TEST. Fails if memory runs out.
 fn push_digits(out: &mut String, levels: &Levels) -> Result<(), AllocError>
     ensures { OnOk result (string_bytes out.new
         ≡ string_bytes out.old ++ first_digits levels.now (digit_count levels.now)) }
@@ -184,12 +188,12 @@ fn status_of(found: &Result<Outcome, Refusal>) -> u8
     }
 }
 
-/// Parses a question, tries to prove its property and returns the outcome.
-fn outcome_of(alloc: Global, text: &str) -> Result<Outcome, Refusal>
-    ensures { IfOk result (IsAnswerTo text.now) }
+/// Searches all runs of a question's machine, for all inputs that the question allows. If the question is complete and
+/// consistent, the outcome is an answer to each text that contains the question.
+fn outcome_by_search(alloc: Global, question: Question) -> Result<Outcome, Refusal>
+    ensures { IfOk result (λ outcome. (text : List ℕ) → question_of_text text ≡ Some question
+        → question.has_prove_line ≡ true → is_consistent question ≡ true → IsAnswerTo text outcome) }
 {
-    let question = question_of(alloc, text)?;
-    let is_consistent = question.is_consistent();
     let Question {
         board,
         program,
@@ -201,47 +205,54 @@ fn outcome_of(alloc: Global, text: &str) -> Result<Outcome, Refusal>
         marks,
         inputs,
         max_states,
-        max_entries,
         memory,
         pause,
-        has_prove_line,
         ..
     } = question;
-    let (Some(board), Some(program), Some(marks), true, true) = (
-        board,
-        program,
-        Marks::of(marks),
-        has_prove_line,
-        is_consistent,
-    ) else {
+    let (Some(board), Some(program), Some(marks)) = (board, program, Marks::of(marks)) else {
         return Err(Refusal::Incomplete);
     };
-    if max_entries > 0 {
-        return prove_by_sets(
-            alloc,
-            board.as_str(),
-            program.as_str(),
-            &never_lists,
-            max_entries as usize,
-            memory as usize * MB,
-        );
-    }
+    let goal = Goal {
+        never_lists,
+        begins,
+        ends,
+        limit,
+        opens,
+        marks,
+    };
     prove(
         alloc,
         board.as_str(),
         program.as_str(),
         &inputs,
-        Goal {
-            never_lists,
-            begins,
-            ends,
-            limit,
-            opens,
-            marks,
-        },
+        goal,
         (max_states as usize).min(MAX_STATES),
         memory as usize * MB,
         pause,
+    )
+}
+
+/// Parses a question, tries to prove its property and returns the outcome.
+fn outcome_of(alloc: Global, text: &str) -> Result<Outcome, Refusal>
+    ensures { IfOk result (IsAnswerTo text.now) }
+{
+    let question = question_of(alloc, text)?;
+    if !question.has_prove_line || !question.is_consistent() {
+        return Err(Refusal::Incomplete);
+    }
+    if question.max_entries == 0 {
+        return outcome_by_search(alloc, question);
+    }
+    let (Some(board), Some(program)) = (&question.board, &question.program) else {
+        return Err(Refusal::Incomplete);
+    };
+    prove_by_sets(
+        alloc,
+        board.as_str(),
+        program.as_str(),
+        &question.never_lists,
+        question.max_entries as usize,
+        question.memory as usize * MB,
     )
 }
 

@@ -1,4 +1,4 @@
-//! The inputs that a question allows, and the limits of the inputs that result for a board.
+//! The inputs that a question allows, and the resulting limits on the inputs of a machine with a given board.
 ghost use Rattle.std.specs.Prelude.{◌≡◌, length, replicate, IfOk};
 ghost use Rattle.mcs_model.specs.declared.board.BoardParts.{BoardParts};
 ghost use Rattle.mcs_model.specs.Boards.{key_count};
@@ -20,8 +20,8 @@ pub struct KeyPosition {
     pub column: u8,
 }
 
-/// The inputs that a question allows: which keys may be pressed, how many of them at a time, whether TEST may be 1, and
-/// how often the levels may change.
+/// The inputs that a question allows. A question can limit the keys that may be pressed, their number at a time and the
+/// time for which one stays down. It can also keep TEST at 0, and limit how often the levels change.
 #[derive(Drop)]
 pub struct AllowedInputs {
     /// True if only the keys in `pressable` may be pressed, and TEST may be 1 only if `test_may_change` is true. False
@@ -35,6 +35,8 @@ pub struct AllowedInputs {
     pub together: Option<u8>,
     /// The smallest number of cycles between two changes of the levels, or 0 if there is no limit.
     pub wait: u32,
+    /// The largest number of cycles for which a key stays down, or 0 if there is no limit.
+    pub held: u32,
 }
 
 impl Model for AllowedInputs {
@@ -48,6 +50,7 @@ impl Model for AllowedInputs {
       test_may_change = a.test_may_change;
       together = a.together;
       wait = a.wait;
+      held = a.held;
     } };
 }
 
@@ -81,8 +84,8 @@ fn levels_of_pressable(
 }
 
 impl AllowedInputs {
-    /// Returns the inputs of a question without limits: all keys may be pressed, any number of them at a time, and TEST
-    /// may be 1.
+    /// Returns the inputs of a question without limits. All keys may be pressed, any number of them at a time and for
+    /// any number of cycles, and TEST may be 1.
     pub fn all(alloc: Global) -> AllowedInputs
         ensures value { result ≡ all_inputs }
         ensures no_limits { (b : BoardParts) → limits_of result b ≡ no_limits b }
@@ -93,6 +96,7 @@ impl AllowedInputs {
             test_may_change: false,
             together: None,
             wait: 0,
+            held: 0,
         }
     }
 
@@ -128,7 +132,7 @@ impl AllowedInputs {
         }
     }
 
-    /// Returns the limits of the inputs of a machine with this board.
+    /// Returns the limits on the inputs of a machine with this board.
     pub fn limits_of(&self, alloc: Global, board: &Board) -> Result<InputLimits, AllocError>
         ensures { IfOk result (λ limits. limits ≡ limits_of self.now board.now) }
     {
@@ -137,6 +141,7 @@ impl AllowedInputs {
             self.highest_test_level(),
             self.most_keys_down(board),
             self.wait,
+            self.held,
         ))
     }
 }

@@ -17,20 +17,28 @@
 //!     down 1 0                    mark: a read shows that the key at row 1, column 0 is down
 //!     together 2                  at most 2 keys are down at a time
 //!     wait 1000                   the levels of keys and TEST change at moments that are at least 1000 cycles apart
+//!     held 500                    no key is down for more than 500 cycles in succession
 //!     only                        no key may be pressed and TEST stays at 0, except as `press` and `test` lines allow
 //!     press 1 0                   the key at row 1, column 0 may be pressed
 //!     test                        TEST may be 0 or 1
 //!     prove                       the question is complete; every question must end with this line
 //!
-//! Without a line `together`, any number of keys may be down at a time. Without a line `wait`, the levels may change
-//! before each cycle. A `wait` is 2 to 100000. Of several lines `together` or `wait`, the last one of each counts.
-//! Without a line `only`, all keys may be pressed and TEST may be 0 or 1. `press` and `test` lines then have no effect.
+//! The defaults and the ranges of the limits on the inputs:
+//!
+//! - Without a `together` line, any number of keys may be down at a time.
+//! - Without a `wait` line, the levels may change before each cycle. The number of cycles is 2 to 100000.
+//! - Without a `held` line, a key may stay down for any number of cycles. The number of cycles is 1 to 100000. A proof
+//!   without `wait` does not use `held`.
+//! - Without an `only` line, all keys may be pressed and TEST may be 0 or 1. `press` and `test` lines then have no
+//!   effect.
+//!
+//! If a question has several `together`, `wait` or `held` lines, the last one of each kind counts.
 ghost use Rattle.std.specs.Prelude.{◌≡◌};
 ghost use Rattle.std.specs.Str.{bytes_eq};
 ghost use Rattle.mcs_model.specs.Numerals.{number_up_to};
 ghost use Rattle.mcs_model.specs.TextLines.{words_of};
 ghost use Rattle.mcs_model.specs.WordTables.{lookup_entry};
-ghost use Rattle.mcs_prove.specs.QuestionLines.{cell_lists, cell_of, cell_parts, comparison_kinds, comparison_line, comparison_of, key_levels, key_of, line_by_words, line_of, longer_line, mark_of, mistakes_of, no_mistakes, number_line, one_word_lines, three_word_line, wait_line, with_mistake, with_mistakes};
+ghost use Rattle.mcs_prove.specs.QuestionLines.{cell_lists, cell_of, cell_parts, comparison_kinds, comparison_line, comparison_of, held_line, key_levels, key_of, line_by_words, line_of, longer_line, mark_of, mistakes_of, no_mistakes, number_line, one_word_lines, three_word_line, wait_line, with_mistake, with_mistakes};
 
 use crate::inputs::KeyPosition;
 use mcs_check::{Cell, CellList, Comparison, Condition, Mark, Mistakes, Part, StopwatchCycles};
@@ -55,6 +63,9 @@ const MIN_WAIT: u32 = 2;
 
 /// The largest `wait` that a question can set, in cycles.
 const MAX_WAIT: u32 = 100_000;
+
+/// The largest `held` that a question can set, in cycles.
+const MAX_HELD: u32 = 100_000;
 
 /// The largest stopwatch limit that a question can set, in cycles: one less than a stopwatch can show.
 const MAX_TIME_LIMIT: u32 = 16_777_214;
@@ -101,6 +112,8 @@ pub(crate) enum QuestionLine {
     Together(u8),
     /// The smallest number of cycles between two changes of the levels.
     Wait(u32),
+    /// The largest number of cycles for which a key stays down.
+    Held(u32),
     /// Only the keys of the `press` lines may be pressed, and TEST may be 1 only if there is a `test` line.
     Only,
     /// A key that may be pressed.
@@ -295,13 +308,25 @@ fn one_word_line(word: &[u8]) -> Option<QuestionLine>
     }
 }
 
-/// Parses the number of a line `wait`. Returns `None` if the number is too small or too large.
+/// Parses the number of a `wait` line. Returns `None` if the number is too small or too large.
 fn wait_line(word: &[u8]) -> Option<QuestionLine>
     ensures { result ≡ wait_line word.now }
 {
     let wait = number_within(word, MAX_WAIT)?;
     if wait >= MIN_WAIT {
         Some(QuestionLine::Wait(wait))
+    } else {
+        None
+    }
+}
+
+/// Parses the number of a `held` line. Returns `None` if the number is 0 or too large.
+fn held_line(word: &[u8]) -> Option<QuestionLine>
+    ensures { result ≡ held_line word.now }
+{
+    let held = number_within(word, MAX_HELD)?;
+    if held > 0 {
+        Some(QuestionLine::Held(held))
     } else {
         None
     }
@@ -325,6 +350,9 @@ fn number_line(name: &[u8], word: &[u8]) -> Option<QuestionLine>
     }
     if equals(name, b"wait") {
         return wait_line(word);
+    }
+    if equals(name, b"held") {
+        return held_line(word);
     }
     if equals(name, b"within") {
         let limit = StopwatchCycles::of(number_within(word, MAX_TIME_LIMIT)?)?;

@@ -56,7 +56,7 @@ pub(crate) struct Question {
     pub(crate) memory: u32,
     /// The number of cycles after which a search splits a stretch of cycles without reads.
     pub(crate) pause: u32,
-    /// True after the line `prove`.
+    /// True after the `prove` line.
     pub(crate) has_prove_line: bool,
     /// The role of the current list of conditions.
     role: ListRole,
@@ -236,6 +236,7 @@ impl Question {
             QuestionLine::NextMark(mark) => self.marks.push(mark)?,
             QuestionLine::Together(together) => self.inputs.together = Some(together),
             QuestionLine::Wait(wait) => self.inputs.wait = wait,
+            QuestionLine::Held(held) => self.inputs.held = held,
             QuestionLine::Only => self.inputs.is_restricted = true,
             QuestionLine::Pressable(key) => self.inputs.pressable.push(key)?,
             QuestionLine::TestMayChange => self.inputs.test_may_change = true,

@@ -23,7 +23,7 @@ pub enum Refusal {
     #[error("line {0} of the question is invalid")]
     Line(usize),
     /// The question is incomplete or inconsistent, for one of these reasons:
-    /// - It lacks the board's text, the program's text or the line `prove`.
+    /// - It lacks the board's text, the program's text or the `prove` line.
     /// - Its stopwatch lacks its begin, its end or its limit.
     /// - It has marks without an `open` list, an `open` list without marks, or more than 200 marks.
     /// - It combines a stopwatch or marks with sets of values.

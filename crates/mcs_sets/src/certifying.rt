@@ -192,8 +192,8 @@ fn stays_covered_one_cycle_at(
     stays_covered_one_cycle(rig, entries, links, &entries[i])
 }
 
-/// Returns true only if a certificate covers this machine at every moment, for all inputs. The machine has no open
-/// calls now. Returns false if the first entry does not cover the machine in its current state.
+/// Returns true only if a certificate covers this machine at every moment, for all inputs. The count of open calls
+/// begins at 0. Returns false if the first entry does not cover the machine in its current state.
 pub fn stays_covered(cpu: &Cpu, rig: &mut BenchRig, entries: &[Entry], links: &[usize]) -> bool
     ensures { IsTrue result → StaysCovered entries.now (with_zero_counts (cpu.now, rig.old)) }
 {

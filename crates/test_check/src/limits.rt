@@ -32,9 +32,19 @@ const TEST_CHANGES_TWICE: [u8; 20] = [
     0x19, 4, 0x40, 0, 0x11, 8, 0x40, 0, 0x19, 18, 0x40, 0, 0, 0, 0, 0, 0, 0, 0x40, 18,
 ];
 
+/// A program that drives row 0 and reads its key in an endless loop. It reaches address 18 if three reads show the key
+/// down. The reads are 6 and 4 cycles apart. The instructions from address 0: FIM P0 0, SRC P0, LDM 2, WRR, IAC, WRR,
+/// FIM P0 16, SRC P0. From address 10: RDR, RAR, JCN NC 10, JUN 20. At address 18: JUN 10. From address 20: RDR, RAR,
+/// JCN NC 10, RDR, RAR, JCN NC 10, JUN 18.
+const THREE_READS_DOWN: [u8; 30] = [
+    32, 0, 33, 210, 226, 242, 226, 32, 16, 33, 234, 246, 26, 10, 64, 20, 0, 0, 64, 10, 234, 246,
+    26, 10, 234, 246, 26, 10, 64, 18,
+];
+
 /// Checks that a machine never reaches the address `OPEN_ADDRESS`, and returns the outcome. The
 /// limits of the inputs are `keys` (1 for each key that can be down), the highest level `test` of
-/// TEST, and at most `together` keys down at once. Two changes are at least `wait` cycles apart.
+/// TEST, and at most `together` keys down at once. Two changes are at least `wait` cycles apart, and
+/// a key stays down for at most `held` cycles, unless `held` is 0.
 fn check_with_limits(
     alloc: Global,
     rt: &impl Abort,
@@ -43,11 +53,12 @@ fn check_with_limits(
     test: Bit,
     together: u32,
     wait: u32,
+    held: u32,
 ) -> Outcome {
     let never_lists = begins_at(alloc, OPEN_ADDRESS).expect(rt, "memory");
     let property = Property::without_stopwatch(alloc, never_lists);
     let keys = keys.to_vec(alloc).expect(rt, "memory");
-    let limits = InputLimits::of(keys, test, together, wait);
+    let limits = InputLimits::of(keys, test, together, wait, held);
     check_all(alloc, machine, property, limits, MAX_STATES, MEMORY, PAUSE).expect(rt, "memory")
 }
 
@@ -61,7 +72,7 @@ fn may_open(
     keys: [Bit; 2],
     together: u32,
 ) -> bool {
-    match check_with_limits(alloc, rt, machine, &keys, Bit::ZERO, together, 0) {
+    match check_with_limits(alloc, rt, machine, &keys, Bit::ZERO, together, 0, 0) {
         Outcome::MayFail(_) => true,
         Outcome::Holds(_) => false,
         _ => panic!(rt; "another outcome"),
@@ -94,7 +105,7 @@ fn two_keys_are_down_together_only_within_the_limit(rt: HostRuntime) {
 fn test_stays_at_0_within_its_limit(rt: HostRuntime) {
     for test in [Bit::ZERO, Bit::ONE] {
         let machine = machine(rt.alloc(), &rt, &TEST_AT_1).expect(&rt, "memory");
-        let outcome = check_with_limits(rt.alloc(), &rt, machine, &[Bit::ZERO], test, 0, 0);
+        let outcome = check_with_limits(rt.alloc(), &rt, machine, &[Bit::ZERO], test, 0, 0, 0);
         let is_reached = matches!(outcome, Outcome::MayFail(_));
         assert!(&rt; is_reached == (test == Bit::ONE));
     }
@@ -104,13 +115,52 @@ fn test_stays_at_0_within_its_limit(rt: HostRuntime) {
 fn levels_change_only_at_moments_within_the_limit(rt: HostRuntime) {
     for wait in 0..6 {
         let machine = machine(rt.alloc(), &rt, &TEST_CHANGES_TWICE).expect(&rt, "memory");
-        let outcome = check_with_limits(rt.alloc(), &rt, machine, &[Bit::ZERO], Bit::ONE, 0, wait);
+        let outcome = check_with_limits(
+            rt.alloc(),
+            &rt,
+            machine,
+            &[Bit::ZERO],
+            Bit::ONE,
+            0,
+            wait,
+            0,
+        );
         let is_reached = match outcome {
             Outcome::MayFail(_) | Outcome::MayFailWith(_) => true,
             Outcome::Holds(_) => false,
             _ => panic!(&rt; "another outcome"),
         };
         assert!(&rt; is_reached == (wait <= 3), "{wait}");
+    }
+}
+
+#[test]
+fn a_key_stays_down_only_within_the_limit(rt: HostRuntime) {
+    // If changes are 5 cycles apart, the key can be up between the first two reads. It is down at the last two reads,
+    // and so for 5 cycles. If changes are farther apart, it is down for 11 cycles.
+    for (wait, shortest) in [(5, 5), (6, 11), (8, 11)] {
+        for held in 0..14 {
+            let machine = machine(rt.alloc(), &rt, &THREE_READS_DOWN).expect(&rt, "memory");
+            let outcome = check_with_limits(
+                rt.alloc(),
+                &rt,
+                machine,
+                &[Bit::ONE],
+                Bit::ZERO,
+                1,
+                wait,
+                held,
+            );
+            let is_reached = match outcome {
+                Outcome::MayFailWith(_) => true,
+                Outcome::Holds(_) => false,
+                _ => panic!(&rt; "another outcome"),
+            };
+            assert!(&rt;
+                is_reached == (held == 0 || shortest <= held),
+                "{wait} {held}"
+            );
+        }
     }
 }
 
@@ -122,7 +172,7 @@ fn limits_of_another_board_give_no_result(rt: HostRuntime) {
         &[Bit::ONE, Bit::ONE, Bit::ONE][..],
     ] {
         let lock = machine_with_two_keys(rt.alloc(), &rt, &LOCK).expect(&rt, "memory");
-        let outcome = check_with_limits(rt.alloc(), &rt, lock, keys, Bit::ONE, 2, 0);
+        let outcome = check_with_limits(rt.alloc(), &rt, lock, keys, Bit::ONE, 2, 0, 0);
         assert!(&rt; matches!(outcome, Outcome::GaveUp));
     }
 }

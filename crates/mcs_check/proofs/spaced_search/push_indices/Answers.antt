@@ -10,7 +10,7 @@ pub loop-index-preserved : goal.loop-index-preserved
 loop-index-preserved c =
     let before = c.loop-index.into.items in
     let d = c.loop-index.index in
-    let can = can_begin_at c.args.wait c.args.spacing in
+    let can = can_begin_at c.args.wait c.args.held c.args.spacing in
     elim c.if-can_begin_at.branch [
       | then-can_begin_at+in_ok-push w ↦
           let items : c.if-can_begin_at.into.items ≡ before ++ d ∷ [] = ap (λ (x : Vec ℕ Global). x.items) w.into-is ∙ w.in_ok-push.ensures.items in

@@ -4,4 +4,4 @@ use Rattle.mcs_check.specs.SpacedInputs.{can_begin_at}
 use Rattle.mcs_check.proofs.spaced_search.push_indices.Given as goal
 
 abbrev pub invariant-loop-index : goal.invariant-loop-index
-invariant-loop-index l = (d : ℕ) → d < l.index → can_begin_at l.wait l.spacing d ≡ true → Contains l.into.items d
+invariant-loop-index l = (d : ℕ) → d < l.index → can_begin_at l.wait l.held l.spacing d ≡ true → Contains l.into.items d

@@ -6,7 +6,7 @@ use Rattle.mcs_check.specs.Conditions.{meets_none, observer_of_property}
 use Rattle.mcs_check.specs.ReadPoints.{Reaches}
 use Rattle.mcs_check.specs.Scopes.{has_all_lists}
 use Rattle.mcs_check.proofs.Going.{RunSoFar, walked-none, walked-more, walked-reaches, walked-keeps}
-use Rattle.mcs_check.proofs.Scoping.{meets_none-if_no_mistake, meets_none_without_mistakes-after_cycle, condition_holds-unchanged_by_cycle}
+use Rattle.mcs_check.proofs.Scoping.{beginning-covered, meets_none-if_no_mistake, meets_none_without_mistakes-after_cycle, condition_holds-unchanged_by_cycle}
 use Rattle.mcs_check.proofs.Memory.{memory-refl, memory-trans, memory-same, cycle-memory}
 use Rattle.mcs_check.proofs.Spinning.{spun-apart, spun-walked}
 use Rattle.mcs_check.proofs.replica.SearchMachine.run_to_read_point.Goals as goal
@@ -41,28 +41,32 @@ loop-preserved c =
         walked = subst so_far count (walked-more w (meets_none never_lists) before c.args.self.now s t c.loop.invariant.walked property_holds quiet e);
         known = λ has rest.
             let same = c.has_changed-changed.ensures rest in
-            let seen = same.1 ∙ ap (λ (m : TrackedMachine). m.2.seen) c.self.view_is in
-            meets_none_without_mistakes-after_cycle (observer_of_property c.args.property.now) scope never_lists s t (sym c.is_covered_by-has_all_lists.ensures ∙ has) seen (sym c.next_cycle_facts-next_cycle_facts.ensures.changes ∙ same.0) property_holds e;
+            let seen = same.1.0 ∙ ap (λ (m : TrackedMachine). m.2.seen) c.self.view_is in
+            let elapsed = same.1.1 ∙ ap (λ (m : TrackedMachine). m.2.elapsed) c.self.view_is in
+            meets_none_without_mistakes-after_cycle (observer_of_property c.args.property.now) scope never_lists s t (sym c.is_covered_by-has_all_lists.ensures ∙ has) seen elapsed (sym c.next_cycle_facts-next_cycle_facts.ensures.changes ∙ same.0) property_holds e;
         memory = λ keeps.
             let parts = c.both-keeps_memory.ensures keeps in
             memory-trans c.args.self.now.1 s.1 t.1 (c.loop.invariant.memory parts.0) (memory-same s.1 s.1 t.1 (cycled w s).1 refl (ap (λ (m : TrackedMachine). m.1) e) (cycle-memory w s (c.next_cycle_facts-next_cycle_facts.ensures.memory parts.1)));
         opening = λ has rest.
             let same = c.has_changed-changed.ensures rest in
-            let seen = same.1 ∙ ap (λ (m : TrackedMachine). m.2.seen) c.self.view_is in
+            let seen = same.1.0 ∙ ap (λ (m : TrackedMachine). m.2.seen) c.self.view_is in
+            let elapsed = same.1.1 ∙ ap (λ (m : TrackedMachine). m.2.elapsed) c.self.view_is in
             c.is_open-is_open.ensures
-            ∙ condition_holds-unchanged_by_cycle c.args.property.now scope s t (sym c.is_opening_covered_by-has_opening.ensures ∙ has) seen (sym c.next_cycle_facts-next_cycle_facts.ensures.changes ∙ same.0) e;
+            ∙ condition_holds-unchanged_by_cycle c.args.property.now scope s t (sym c.is_opening_covered_by-has_opening.ensures ∙ has) seen elapsed (sym c.next_cycle_facts-next_cycle_facts.ensures.changes ∙ same.0) e;
       })
       | inr spun ↦
           let may = c.may_spin-may.ensures.scope spun.0 in
           let room = c.may_spin-may.ensures.left spun.0 in
           let count : before + c.run_step-left.result ≡ after = omega arith in
-          let has : has_all_lists scope never_lists ≡ true = sym c.is_covered_by-has_all_lists.ensures ∙ may.0 in
+          let covered = c.both-is_covered.ensures may.0 in
+          let beginning = beginning-covered c.args.property.now scope (c.is_beginning_covered_by.ensures covered.1) in
+          let has : has_all_lists scope never_lists ≡ true = sym c.is_covered_by-has_all_lists.ensures ∙ covered.0 in
           let rest = sym c.next_cycle_facts-next_cycle_facts.ensures.changes ∙ may.1.1 in
           let sound = sym c.next_cycle_facts-next_cycle_facts.ensures.makes_mistake_in_scope ∙ may.1.0 in
           record {
             left = omega arith;
-            walked = subst so_far count (spun-walked w scope never_lists before c.run_step-left.result c.args.self.now s t has rest sound property_holds spun.1 c.loop.invariant.walked);
-            known = λ _ _. spun-apart w scope never_lists c.run_step-left.result s t has rest sound property_holds spun.1;
+            walked = subst so_far count (spun-walked w scope never_lists before c.run_step-left.result c.args.self.now s t beginning has rest sound property_holds spun.1 c.loop.invariant.walked);
+            known = λ _ _. spun-apart w scope never_lists c.run_step-left.result s t beginning has rest sound property_holds spun.1;
             memory = λ keeps. memory-same c.args.self.now.1 c.args.self.now.1 t.1 s.1 refl (ap (λ (m : TrackedMachine). m.1) spun.1.at) (c.loop.invariant.memory (c.both-keeps_memory.ensures keeps).0);
             opening = λ _ _.
                 let closed = spun.1.spins.still.closed in

@@ -27,9 +27,10 @@ returns-clause-leads c = λ well.
     let leads : LeadsIn w.machines cycles (machine_key h key) value next =
     subst (λ (k : List ℕ). LeadsIn w.machines cycles k value next) machine
     (subst (λ (g : Setting). LeadsIn g cycles (take len key) value next) c.value_at_key.ensures.setting ended) in
+    let held : c.held-held.result ≡ w.machines.limits.held = c.held-held.ensures in
     let before : c.of_key-before.result ≡ spacing_of_key h key = c.of_key-before.ensures ∙ ap (λ (n : ℕ). spacing_of_bytes (drop n key)) c.key_len-len.ensures in
-    let spacing : spacing_of_bytes c.write.new.bytes ≡ spacing_after w.wait (spacing_of_key h key) c.args.choice cycles =
-    c.write.ensures ∙ (c.after.ensures ∙ ap (λ (s : Spacing). spacing_after w.wait s c.args.choice cycles) before) in
+    let spacing : spacing_of_bytes c.write.new.bytes ≡ spacing_after w.wait w.machines.limits.held (spacing_of_key h key) c.args.choice levels cycles =
+    c.write.ensures ∙ (c.after.ensures ∙ (ap (λ (n : ℕ). spacing_after w.wait n c.of_key-before.result c.args.choice levels cycles) held ∙ ap (λ (s : Spacing). spacing_after w.wait w.machines.limits.held s c.args.choice levels cycles) before)) in
     let xs : List Levels = c.deref.result.now in
     let found : slice_get xs c.from.result ≡ Some levels = slice_get_read xs (length xs) c.from.result levels refl c.in_ok-levels.ensures.lookup.3.0 c.in_ok-levels.ensures.lookup.1 in
     let chosen : slice_get xs c.args.choice ≡ Some levels = subst (λ (i : ℕ). slice_get xs i ≡ Some levels) c.from.ensures found in

@@ -12,7 +12,9 @@ returns-clause-covers c =
     let into = c.push_indices.new.into.items in
     let spacing : c.of_key-spacing.result ≡ spacing_of_key h key = c.of_key-spacing.ensures ∙ ap (λ (n : ℕ). spacing_of_bytes (drop n key)) c.key_len.ensures in
     let len : c.len.result ≡ length w.levels.items = omega (arith, w.levels.ok.0) in
-    let listed = subst (λ (n : ℕ). OnOk c.push_indices.result ((d : ℕ) → d < n → can_begin_at w.wait c.of_key-spacing.result d ≡ true → Contains into d)) len c.push_indices.ensures in
+    let held : c.held-held.result ≡ w.machines.limits.held = c.held-held.ensures in
+    let listed = subst (λ (n : ℕ). OnOk c.push_indices.result ((d : ℕ) → d < n → can_begin_at w.wait c.held-held.result c.of_key-spacing.result d ≡ true → Contains into d)) len c.push_indices.ensures in
+    let limited = subst (λ (most : ℕ). OnOk c.push_indices.result ((d : ℕ) → d < length h.levels → can_begin_at w.wait most c.of_key-spacing.result d ≡ true → Contains into d)) held listed in
     let covers : OnOk c.push_indices.result (SpacedCovers h key into) =
-    subst (λ (s : Spacing). OnOk c.push_indices.result ((d : ℕ) → d < length h.levels → can_begin_at h.wait s d ≡ true → Contains into d)) spacing listed in
+    subst (λ (s : Spacing). OnOk c.push_indices.result ((d : ℕ) → d < length h.levels → can_begin_at h.wait h.machines.limits.held s d ≡ true → Contains into d)) spacing limited in
     subst (λ (h : SpacedSetting). OnOk c.push_indices.result (SpacedCovers h key into)) c.self.view_is covers
