@@ -7,6 +7,7 @@ from __future__ import annotations
 import re
 from collections.abc import Callable
 from contextlib import AbstractContextManager
+from dataclasses import replace
 from typing import Any
 from unittest import mock
 
@@ -15,7 +16,7 @@ import second_search
 import second_waits
 import expected_tool_output
 from board4004 import Board, Chips
-from second_search import Comparison, Condition, Levels, Mark, QuestionBoard
+from second_search import Comparison, Condition, InputLimits, Levels, Mark, QuestionBoard
 from second_waits import Spacing
 
 
@@ -358,31 +359,35 @@ WAIT_MUTANTS: dict[str, Callable[[], AbstractContextManager]] = {
 
 # ---- keys that are down for a limited time
 
-def is_held_before(held: int, spacing: Spacing, levels: Levels) -> bool:
-    """Excludes a key a cycle too early."""
-    return held > 0 and bool(levels[0]) and second_waits.steady_at_begin(spacing, levels) + 1 >= held
+def down_without_long_steps(limits: InputLimits, down: int, levels: Levels, cycles: int) -> int:
+    """Keeps the time after a step of more than `wait` cycles."""
+    return min(down + cycles, limits.held) if levels[0] else 0
 
 
-def are_levels_held(are_limited: Callable[[Levels], bool]) -> Callable[[int, Spacing, Levels], bool]:
+def down_with_limited(are_limited: Callable[[Levels], bool]) -> Callable[[InputLimits, int, Levels, int], int]:
     """Limits the time for which levels are the same, if they are limited."""
-    return lambda held, spacing, levels: held > 0 and are_limited(levels) and second_waits.steady_at_begin(spacing, levels) >= held
+    return lambda limits, down, levels, cycles: min(down + cycles, limits.held) if are_limited(levels) and cycles <= limits.wait else 0
 
 
-CORRECT_STEADY_AFTER, CORRECT_STEADY_AT_BEGIN = second_waits.steady_after, second_waits.steady_at_begin
+def down_with_longer_wait(cycle_count: int) -> Callable[[InputLimits, int, Levels, int], int]:
+    """Lets the levels change twice only during a step that is longer by a number of cycles."""
+    return lambda limits, down, levels, cycles: CORRECT_DOWN_AFTER(replace(limits, wait=limits.wait + cycle_count), down, levels, cycles)
+
+
+CORRECT_DOWN_AFTER, CORRECT_DOWN_AT_BEGIN = second_waits.down_after, second_waits.down_at_begin
 HELD_MUTANTS: dict[str, Callable[[], AbstractContextManager]] = {
     "`held` is ignored": replace_function(second_waits, "is_held_too_long", lambda _held, _spacing, _levels: False),
-    "a key must be up a cycle early": replace_function(second_waits, "is_held_too_long", is_held_before),
-    "levels without keys are limited": replace_function(second_waits, "is_held_too_long", are_levels_held(lambda _levels: True)),
-    "TEST is limited as a key": replace_function(second_waits, "is_held_too_long", are_levels_held(lambda levels: levels != (frozenset(), 0))),
-    "the time is kept after a long step": replace_function(second_waits, "steady_after", lambda _wait, held, steady, cycles: min(steady + cycles, held)),
-    "a step of a cycle more than `wait` is not long": replace_function(second_waits, "steady_after", lambda wait, held, steady, cycles: (
-        CORRECT_STEADY_AFTER(wait + 1, held, steady, cycles))),
-    "a step of `wait` cycles is long": replace_function(second_waits, "steady_after", lambda wait, held, steady, cycles: (
-        CORRECT_STEADY_AFTER(wait - 1, held, steady, cycles))),
-    "the first cycle of a step does not count": replace_function(second_waits, "steady_after", lambda wait, held, steady, cycles: (
-        CORRECT_STEADY_AFTER(wait, held, steady, cycles - 1))),
-    "a step counts as one cycle": replace_function(second_waits, "steady_after", lambda wait, held, steady, _cycles: (
-        CORRECT_STEADY_AFTER(wait, held, steady, 1))),
-    "only the last step counts": replace_function(second_waits, "steady_at_begin", lambda _spacing, _levels: 0),
-    "the time is kept when the levels change": replace_function(second_waits, "steady_at_begin", lambda spacing, _levels: spacing.steady),
+    "a key must be up a cycle early": replace_function(second_waits, "is_held_too_long", lambda held, spacing, levels: (
+        held > 0 and bool(levels[0]) and CORRECT_DOWN_AT_BEGIN(spacing, levels) + 1 >= held)),
+    "levels without keys are limited": replace_function(second_waits, "down_after", down_with_limited(lambda _levels: True)),
+    "TEST is limited as a key": replace_function(second_waits, "down_after", down_with_limited(lambda levels: levels != (frozenset(), 0))),
+    "the time is kept after a long step": replace_function(second_waits, "down_after", down_without_long_steps),
+    "a step of a cycle more than `wait` is not long": replace_function(second_waits, "down_after", down_with_longer_wait(1)),
+    "a step of `wait` cycles is long": replace_function(second_waits, "down_after", down_with_longer_wait(-1)),
+    "the first cycle of a step does not count": replace_function(second_waits, "down_after", lambda limits, down, levels, cycles: (
+        CORRECT_DOWN_AFTER(limits, down, levels, cycles - 1))),
+    "a step counts as one cycle": replace_function(second_waits, "down_after", lambda limits, down, levels, _cycles: (
+        CORRECT_DOWN_AFTER(limits, down, levels, 1))),
+    "only the last step counts": replace_function(second_waits, "down_at_begin", lambda _spacing, _levels: 0),
+    "the time is kept when the levels change": replace_function(second_waits, "down_at_begin", lambda spacing, _levels: spacing.down),
 }

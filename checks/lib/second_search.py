@@ -191,9 +191,9 @@ class MarkSequence:
 
 
 class QuestionBoard(Board):
-    """The board of a question, with what the search adds to it: the limits on the inputs, the number of open calls, the stopwatch and its reading in
-    cycles (0 if it does not run), and the marks with the number of marks seen. While the condition of the marks is true, and in the cycle after that,
-    this number is the number of all marks plus 1. A question can have no stopwatch and no marks."""
+    """The board of a question, with what the search adds to it. `elapsed` is the number of cycles that the stopwatch shows, or 0 if it does not run.
+    `seen_count` is the number of marks seen. While the condition of the marks is true, and in the cycle after that, it is the number of all marks
+    plus 1. A question can have no stopwatch and no marks."""
 
     def __init__(self, limits: InputLimits) -> None:
         super().__init__()
@@ -354,6 +354,7 @@ def max_keys_down(board: QuestionBoard) -> int:
 
 # ---- what a machine reads
 
+# The result of `next_instruction` if no instruction takes effect in the next cycle.
 NO_INSTRUCTION = ("", 0)
 
 

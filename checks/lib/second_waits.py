@@ -155,12 +155,12 @@ def literal_verdict(question: Question, max_cycles: int) -> str:
 
 class Spacing(NamedTuple):
     """The levels at which the last step began, or None before the first step, and two numbers. The age is `wait` at the first moment at which the
-    levels can change again. It is never above twice `wait`. `steady` is the number of cycles, at most `held`, for which the levels have certainly
-    been the same if the next step begins at them again."""
+    levels can change again. It is never above twice `wait`. `down` is the number of cycles, at most `held`, for which a key has certainly been down
+    if the next step begins at the same levels. It is 0 if no key is down at these levels."""
 
     last: Levels | None
     age: int
-    steady: int
+    down: int
 
 
 def can_begin_at(wait: int, spacing: Spacing, levels: Levels) -> bool:
@@ -180,19 +180,20 @@ def age_after(wait: int, age: int, cycles: int) -> int:
     return min(age + cycles, 2 * wait)
 
 
-def steady_at_begin(spacing: Spacing, levels: Levels) -> int:
-    """Returns the number of cycles for which the levels have certainly been the same at the beginning of a step at these levels."""
-    return spacing.steady if levels == spacing.last else 0
+def down_at_begin(spacing: Spacing, levels: Levels) -> int:
+    """Returns the number of cycles for which a key has certainly been down at the beginning of a step at these levels."""
+    return spacing.down if levels == spacing.last else 0
 
 
-def steady_after(wait: int, held: int, steady: int, cycles: int) -> int:
-    """Returns this number after a step that began with `steady`. The levels can change twice during a step of more than `wait` cycles."""
-    return min(steady + cycles, held) if cycles <= wait else 0
+def down_after(limits: InputLimits, down: int, levels: Levels, cycles: int) -> int:
+    """Returns this number after a step at these levels, which began with `down`. The levels can change twice during a step of more than `wait`
+    cycles."""
+    return min(down + cycles, limits.held) if levels[0] and cycles <= limits.wait else 0
 
 
 def is_held_too_long(held: int, spacing: Spacing, levels: Levels) -> bool:
     """Returns true if a key would be down for more than `held` cycles if the next step began at these levels."""
-    return held > 0 and bool(levels[0]) and steady_at_begin(spacing, levels) >= held
+    return held > 0 and down_at_begin(spacing, levels) >= held
 
 
 @dataclass
@@ -213,7 +214,7 @@ class StepSearch:
     """A search that decides a question step by step. A state has a machine and a spacing."""
 
     def __init__(self, question: Question) -> None:
-        self.question, self.wait, self.held = question, question.limits.wait, question.limits.held
+        self.question, self.limits = question, question.limits
         self.board, self.is_failure = power_on(question), failure_condition(question)
         self.levels = all_levels(self.board)
         # The steps that ran, by machine and levels: the next machine (None if the property failed) and the number of cycles.
@@ -231,14 +232,14 @@ class StepSearch:
         """Yields the levels at which the next step can begin, each with the next state. Its machine is None if the property fails. A step that reads
         no input also begins at levels that the search chooses, as in the program."""
         for levels in self.levels:
-            if can_begin_at(self.wait, spacing, levels) and not is_held_too_long(self.held, spacing, levels):
+            if can_begin_at(self.limits.wait, spacing, levels) and not is_held_too_long(self.limits.held, spacing, levels):
                 following, cycles = self.step(machine, levels)
                 yield levels, following, self.spacing_after(spacing, levels, cycles)
 
     def spacing_after(self, spacing: Spacing, levels: Levels, cycles: int) -> Spacing:
         """Returns the spacing after a step at these levels."""
-        age = age_after(self.wait, age_at_begin(self.wait, spacing, levels), cycles)
-        return Spacing(levels, age, steady_after(self.wait, self.held, steady_at_begin(spacing, levels), cycles))
+        age = age_after(self.limits.wait, age_at_begin(self.limits.wait, spacing, levels), cycles)
+        return Spacing(levels, age, down_after(self.limits, down_at_begin(spacing, levels), levels, cycles))
 
     def result(self) -> StepsResult:
         """Searches, and returns the result."""

@@ -188,7 +188,7 @@ def question_at_smallest_held(rng: random.Random) -> tuple[Question, bool]:
         question.pause = min(question.pause, question.limits.wait - 1)
     question.max_states = MAX_STATES
     smallest = smallest_failing_held(question)
-    question = with_held(question, min(max(smallest + rng.choice([-1, -1, 0, 0, rng.randrange(-3, 4)]), 1), MAX_HELD))
+    question = with_held(question, min(max(smallest + rng.choice([-1, -1, -1, 0, 0, rng.randrange(-3, 4)]), 1), MAX_HELD))
     return question, question.limits.wait < smallest <= MAX_HELD
 
 
