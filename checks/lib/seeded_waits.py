@@ -212,7 +212,7 @@ def question_without_presses(rng: random.Random) -> tuple[Question, bool]:
 
 def held_question(seed: int) -> Question:
     """Returns a random question with `wait` and `held`. It is usually the first one, among some attempts, for which `held` matters. The search for one
-    in eight may visit only a few states."""
+    in eight may visit only a few states. One in sixteen has the largest `wait`, with which some properties hold without `held`."""
     rng, most = random.Random(f"held {seed}"), question_at_smallest_held
     make_question = (most, most, question_at_largest_wait, most, most, most, question_at_largest_wait, question_without_presses)[seed % 8]
     for _attempt in range(3 * MAX_ATTEMPTS):
@@ -220,7 +220,7 @@ def held_question(seed: int) -> Question:
         if is_chosen:
             break
     question.max_states = rng.randrange(4, 30) if seed % 8 == 3 else MAX_STATES
-    return question
+    return with_wait(question, MAX_WAIT) if seed % 16 == 12 else question
 
 
 def long_wait_question() -> tuple[Question, int]:
