@@ -71,26 +71,17 @@ class Chips:
         """Returns true if a bank has the chip that the upper two bits of an SRC byte select."""
         return src >> 6 < self.chips.get(bank, 0)
 
-    def has_line(self, line: Line) -> bool:
-        """Returns true if the board has a line."""
-        kind, numbers = line
-        if kind == "rom":
-            return numbers[0] in self.masks
-        if kind == "ram":
-            return numbers[:2] in self.ram_latch
-        return numbers[0] < len(self.chains) and numbers[1] < len(self.chains[numbers[0]])
-
     def level(self, line: Line) -> int:
         """Returns the level of a line, or 0 if the board does not have it."""
         kind, numbers = line
-        if not self.has_line(line):
-            return 0
-        if kind == "chain":
-            return self.chains[numbers[0]][numbers[1]]
         if kind == "ram":
-            return self.ram_latch[numbers[0], numbers[1]] >> numbers[2] & 1
-        chip, k = numbers
-        return self.is_pulled(line) if self.masks[chip][k] == "i" else self.rom_latch[chip] >> k & 1
+            return self.ram_latch.get(numbers[:2], 0) >> numbers[2] & 1
+        number, k = numbers
+        if kind == "chain":
+            return self.chains[number][k] if number < len(self.chains) and k < len(self.chains[number]) else 0
+        if number not in self.masks:
+            return 0
+        return self.is_pulled(line) if self.masks[number][k] == "i" else self.rom_latch[number] >> k & 1
 
     def levels(self, kind: str, *chip: int) -> int:
         """Returns the levels of a port's four lines; line k is bit k."""

@@ -7,6 +7,7 @@ from __future__ import annotations
 import re
 from collections.abc import Callable
 from contextlib import AbstractContextManager
+from dataclasses import replace
 from typing import Any
 from unittest import mock
 
@@ -15,7 +16,7 @@ import second_search
 import second_waits
 import expected_tool_output
 from board4004 import Board, Chips
-from second_search import Comparison, Condition, Levels, Mark
+from second_search import Comparison, Condition, InputLimits, Levels, Mark, QuestionBoard
 from second_waits import Spacing
 
 
@@ -151,26 +152,26 @@ def zeros_like(value: Any) -> Any:
     return type(value)(map(zeros_like, value)) if isinstance(value, (tuple, bytes)) else 0
 
 
-def save_state_without(index: int) -> Callable[[Board], tuple]:
+def save_state_without(index: int) -> Callable[[QuestionBoard], tuple]:
     """Returns a function that saves a machine's state without one of its parts."""
-    def save_state(board: Board) -> tuple:
+    def save_state(board: QuestionBoard) -> tuple:
         state = CORRECT_STATE_OF(board)
         return (*state[:index], zeros_like(state[index]), *state[index + 1:])
     return save_state
 
 
-def values_without_largest(board: Board) -> dict[int, Levels]:
+def values_without_largest(board: QuestionBoard) -> dict[int, Levels]:
     """Omits the largest value that the next cycle can read, unless it is the only value."""
     values = CORRECT_VALUES_READ(board)
     return {value: values[value] for value in sorted(values)[:max(len(values) - 1, 1)]}
 
 
-def values_at_constant_test(board: Board) -> dict[int, Levels]:
+def values_at_constant_test(board: QuestionBoard) -> dict[int, Levels]:
     """Keeps TEST at 1, so that JCN never reads a 0 there."""
     return {value: levels for value, levels in CORRECT_VALUES_READ(board).items() if second_search.next_instruction(board)[0] != "JCN" or levels[1] == 1}
 
 
-def test_only_at_next_state(board: Board, levels: Levels, is_failure: Condition, pause: int) -> tuple[int, bool]:
+def test_only_at_next_state(board: QuestionBoard, levels: Levels, is_failure: Condition, pause: int) -> tuple[int, bool]:
     """Tests conditions only when the search reaches a state, not in the cycles between two states."""
     cycle_count, _bad = CORRECT_RUN_TO_NEXT_STATE(board, levels, lambda _board: False, pause)
     return cycle_count, is_failure(board)
@@ -182,7 +183,7 @@ def condition_between_instructions(conditions: list[list[Comparison]]) -> Condit
     return lambda board: not board.owed and is_failure(board)
 
 
-def is_met_with_reversed_bits(board: Board, comparison: Comparison) -> bool:
+def is_met_with_reversed_bits(board: QuestionBoard, comparison: Comparison) -> bool:
     """Reverses the bits of a number, so that line 0 is the highest bit."""
     if comparison[0] == "mistake":
         return CORRECT_IS_MET(board, comparison)
@@ -190,44 +191,44 @@ def is_met_with_reversed_bits(board: Board, comparison: Comparison) -> bool:
     return CORRECT_IS_MET(board, (operator, name, index, part if part == "whole" else f"line{3 - int(part[4:])}", low, high))
 
 
-def cycle_without_closing(board: Board) -> None:
+def cycle_without_closing(board: QuestionBoard) -> None:
     """Opens calls but never closes any."""
-    count_before = second_search.open_call_count(board)
+    count_before = board.call_count
     CORRECT_RUN_CYCLE(board)
-    second_search.set_open_call_count(board, max(count_before, second_search.open_call_count(board)))
+    board.call_count = max(count_before, board.call_count)
 
 
-def elapsed_with_restart(board: Board) -> int:
+def elapsed_with_restart(board: QuestionBoard) -> int:
     """Restarts a stopwatch that is already running."""
-    stopwatch = second_search.stopwatch_of(board)
+    stopwatch = board.stopwatch
     return 1 if stopwatch and stopwatch.begins(board) else CORRECT_ELAPSED_AFTER(board)
 
 
-def elapsed_without_restart(board: Board) -> int:
+def elapsed_without_restart(board: QuestionBoard) -> int:
     """Does not restart a stopwatch in the cycle in which it stops."""
-    stopwatch = second_search.stopwatch_of(board)
-    return 0 if stopwatch and second_search.elapsed_of(board) and stopwatch.ends(board) else CORRECT_ELAPSED_AFTER(board)
+    stopwatch = board.stopwatch
+    return 0 if stopwatch and board.elapsed and stopwatch.ends(board) else CORRECT_ELAPSED_AFTER(board)
 
 
 CORRECT_STATE_OF, CORRECT_VALUES_READ, CORRECT_RUN_TO_NEXT_STATE = second_search.state_of, second_search.values_read, second_search.run_to_next_state
 CORRECT_CONDITION, CORRECT_IS_MET, CORRECT_NEXT_INSTRUCTION = second_search.condition_of, second_search.is_met, second_search.next_instruction
 CORRECT_RUN_CYCLE, CORRECT_MISTAKES = second_search.run_cycle, second_search.mistakes_of_next_cycle
-def marks_seen_without_reset(board: Board) -> int:
+def marks_seen_without_reset(board: QuestionBoard) -> int:
     """Does not reset the number of seen marks when the condition becomes true."""
-    sequence = second_search.mark_sequence_of(board)
-    return second_search.marks_seen(board) if sequence and sequence.opens(board) else CORRECT_MARKS_SEEN_AFTER(board)
+    sequence = board.mark_sequence
+    return board.seen_count if sequence and sequence.opens(board) else CORRECT_MARKS_SEEN_AFTER(board)
 
 
-def marks_seen_while_condition_true(board: Board) -> int:
+def marks_seen_while_condition_true(board: QuestionBoard) -> int:
     """Counts marks while the condition is true, instead of starting after it."""
-    sequence = second_search.mark_sequence_of(board)
+    sequence = board.mark_sequence
     return int(second_search.is_mark_shown(board, sequence.marks[0])) if sequence and sequence.opens(board) else CORRECT_MARKS_SEEN_AFTER(board)
 
 
-def is_shown_by_line(level: str) -> Callable[[Board, Mark], bool]:
+def is_shown_by_line(level: str) -> Callable[[QuestionBoard, Mark], bool]:
     """Decides only from the level of the key's column line whether the key is down or up. Ignores other keys on that line, and whether the key's row
     is driven."""
-    def is_shown(board: Board, mark: Mark) -> bool:
+    def is_shown(board: QuestionBoard, mark: Mark) -> bool:
         chips = board.chips
         if mark[0] != level or second_search.next_instruction(board)[0] != "RDR" or mark[1:] not in second_search.all_keys(board):
             return CORRECT_IS_MARK_SHOWN(board, mark)
@@ -261,7 +262,7 @@ SEARCH_MUTANTS: dict[str, Callable[[], AbstractContextManager]] = {
     "a stopwatch begins while it runs": replace_function(second_search, "elapsed_after", elapsed_with_restart),
     "a stopwatch that ends does not begin": replace_function(second_search, "elapsed_after", elapsed_without_restart),
     "a stopwatch stands while a cycle reads": replace_function(second_search, "elapsed_after", lambda board: (
-        second_search.elapsed_of(board) if second_search.is_reading(board) else CORRECT_ELAPSED_AFTER(board))),
+        board.elapsed if second_search.is_reading(board) else CORRECT_ELAPSED_AFTER(board))),
     "a limit is a cycle longer": replace_function(second_search, "is_late", lambda board, within: within is not None and CORRECT_IS_LATE(board, within + 1)),
     "a limit is a cycle shorter": replace_function(second_search, "is_late", lambda board, within: within is not None and CORRECT_IS_LATE(board, within - 1)),
     "marks are kept when the condition holds": replace_function(second_search, "marks_seen_after", marks_seen_without_reset),
@@ -270,14 +271,14 @@ SEARCH_MUTANTS: dict[str, Callable[[], AbstractContextManager]] = {
     "a key is down if its line is 1": replace_function(second_search, "is_mark_shown", is_shown_by_line("down")),
     "up is down": replace_function(second_search, "is_mark_shown", lambda board, mark: CORRECT_IS_MARK_SHOWN(board, ("down" if mark[0] == "up" else "up", *mark[1:]))),
     "the last mark need not be seen": replace_function(second_search, "is_early", lambda board: (
-        CORRECT_IS_EARLY(board) and second_search.marks_seen(board) < len(second_search.mark_sequence_of(board).marks) - 1)),
+        CORRECT_IS_EARLY(board) and board.seen_count < len(board.mark_sequence.marks) - 1)),
     **{f"no mistake {kind}": replace_function(second_search, "mistakes_of_next_cycle", lambda board, kind=kind: CORRECT_MISTAKES(board) - {kind}) for kind in second_search.MISTAKES},
 }
 
 
 # ---- limits on the inputs
 
-def values_with_few_lines(board: Board) -> dict[int, Levels]:
+def values_with_few_lines(board: QuestionBoard) -> dict[int, Levels]:
     """Limits the number of lines that read 1, instead of the number of keys. A port can have lines that always read 1."""
     values = CORRECT_VALUES_READ(board)
     is_port_read = second_search.next_instruction(board)[0] == "RDR"
@@ -292,16 +293,16 @@ LIMIT_MUTANTS: dict[str, Callable[[], AbstractContextManager]] = {
     "together counts lines that read 1": replace_function(second_search, "values_read", values_with_few_lines),
     "only allows all keys": replace_function(second_search, "allowed_keys", second_search.all_keys),
     "only excludes all keys": replace_function(second_search, "allowed_keys", lambda board: (
-        [] if second_search.limits_of(board).only else CORRECT_ALLOWED_KEYS(board))),
+        [] if board.limits.only else CORRECT_ALLOWED_KEYS(board))),
     "press limits keys without only": replace_function(second_search, "allowed_keys", lambda board: [
-        key for key in second_search.all_keys(board) if key in second_search.limits_of(board).keys]),
+        key for key in second_search.all_keys(board) if key in board.limits.keys]),
     "press has the column first": replace_function(second_search, "allowed_keys", lambda board: [
-        key for key in second_search.all_keys(board) if not second_search.limits_of(board).only or key[::-1] in second_search.limits_of(board).keys]),
+        key for key in second_search.all_keys(board) if not board.limits.only or key[::-1] in board.limits.keys]),
     "TEST is free": replace_function(second_search, "allowed_test_levels", lambda _board: [0, 1]),
     "TEST is 0 with only": replace_function(second_search, "allowed_test_levels", lambda board: (
-        [0] if second_search.limits_of(board).only else CORRECT_TEST_LEVELS(board))),
+        [0] if board.limits.only else CORRECT_TEST_LEVELS(board))),
     "TEST is 0 without test": replace_function(second_search, "allowed_test_levels", lambda board: (
-        [0, 1] if second_search.limits_of(board).test else [0])),
+        [0, 1] if board.limits.test else [0])),
     "TEST stays at 1": replace_function(second_search, "allowed_test_levels", lambda board: (
         [1] if CORRECT_TEST_LEVELS(board) == [0] else [0, 1])),
 }
@@ -353,4 +354,40 @@ WAIT_MUTANTS: dict[str, Callable[[], AbstractContextManager]] = {
         CORRECT_AGE_AFTER(wait, age, cycles - 1))),
     "an age is at most `wait`": replace_function(second_waits, "age_after", lambda wait, age, cycles: (
         min(CORRECT_AGE_AFTER(wait, age, cycles), wait))),
+}
+
+
+# ---- keys that are down for a limited time
+
+def down_without_long_steps(limits: InputLimits, down: int, levels: Levels, cycles: int) -> int:
+    """Keeps the time after a step of more than `wait` cycles."""
+    return min(down + cycles, limits.held) if levels[0] else 0
+
+
+def down_with_limited(are_limited: Callable[[Levels], bool]) -> Callable[[InputLimits, int, Levels, int], int]:
+    """Limits the time for which levels are the same, if they are limited."""
+    return lambda limits, down, levels, cycles: min(down + cycles, limits.held) if are_limited(levels) and cycles <= limits.wait else 0
+
+
+def down_with_longer_wait(cycle_count: int) -> Callable[[InputLimits, int, Levels, int], int]:
+    """Lets the levels change twice only during a step that is longer by a number of cycles."""
+    return lambda limits, down, levels, cycles: CORRECT_DOWN_AFTER(replace(limits, wait=limits.wait + cycle_count), down, levels, cycles)
+
+
+CORRECT_DOWN_AFTER, CORRECT_DOWN_AT_BEGIN = second_waits.down_after, second_waits.down_at_begin
+HELD_MUTANTS: dict[str, Callable[[], AbstractContextManager]] = {
+    "`held` is ignored": replace_function(second_waits, "is_held_too_long", lambda _held, _spacing, _levels: False),
+    "a key must be up a cycle early": replace_function(second_waits, "is_held_too_long", lambda held, spacing, levels: (
+        held > 0 and bool(levels[0]) and CORRECT_DOWN_AT_BEGIN(spacing, levels) + 1 >= held)),
+    "levels without keys are limited": replace_function(second_waits, "down_after", down_with_limited(lambda _levels: True)),
+    "TEST is limited as a key": replace_function(second_waits, "down_after", down_with_limited(lambda levels: levels != (frozenset(), 0))),
+    "the time is kept after a long step": replace_function(second_waits, "down_after", down_without_long_steps),
+    "a step of a cycle more than `wait` is not long": replace_function(second_waits, "down_after", down_with_longer_wait(1)),
+    "a step of `wait` cycles is long": replace_function(second_waits, "down_after", down_with_longer_wait(-1)),
+    "the first cycle of a step does not count": replace_function(second_waits, "down_after", lambda limits, down, levels, cycles: (
+        CORRECT_DOWN_AFTER(limits, down, levels, cycles - 1))),
+    "a step counts as one cycle": replace_function(second_waits, "down_after", lambda limits, down, levels, _cycles: (
+        CORRECT_DOWN_AFTER(limits, down, levels, 1))),
+    "only the last step counts": replace_function(second_waits, "down_at_begin", lambda _spacing, _levels: 0),
+    "the time is kept when the levels change": replace_function(second_waits, "down_at_begin", lambda spacing, _levels: spacing.down),
 }

@@ -31,7 +31,7 @@ Mark = tuple[str, int, int]
 Key = tuple[int, int]
 # The keys that are down, and the level of TEST.
 Levels = tuple[frozenset[Key], int]
-Condition = Callable[[Board], bool]
+Condition = Callable[["QuestionBoard"], bool]
 # The levels of the inputs at power-on.
 LEVELS_AT_POWER_ON: Levels = (frozenset(), 1)
 
@@ -45,19 +45,21 @@ def condition_lines(word: str, rows: list[Row]) -> list[str]:
 class InputLimits:
     """The inputs that a question allows. At most `together` keys are down at a time, or any number if it is None. If `only` is true, a key can be
     pressed only if it is one of `keys`, and TEST can be 1 only if `test` is true. Otherwise all keys can be pressed, and TEST can be 0 or 1. Two
-    changes of the levels are at least `wait` cycles apart. `search` ignores `wait`, and second_waits.py does not."""
+    changes of the levels are at least `wait` cycles apart. With `held`, no key is down for more than `held` cycles in succession. `search` ignores
+    `wait` and `held`, and second_waits.py does not. Without `wait`, the program ignores `held`, too."""
 
     together: int | None = None
     only: bool = False
     keys: list[Key] = field(default_factory=list)
     test: bool = False
     wait: int = 0
+    held: int = 0
 
     def lines(self) -> list[str]:
         """Returns the lines of a question for these limits."""
         return [*([] if self.together is None else [f"together {self.together}"]), *(["only"] if self.only else []),
                 *(f"press {row} {column}" for row, column in self.keys), *(["test"] if self.test else []),
-                *([f"wait {self.wait}"] if self.wait else [])]
+                *([f"wait {self.wait}"] if self.wait else []), *([f"held {self.held}"] if self.held else [])]
 
     def allow(self, levels: Levels) -> bool:
         """Returns true if the limits allow these levels of keys and TEST."""
@@ -120,27 +122,38 @@ class SearchResult:
 
 # ---- the values that conditions compare
 
-def address_bytes(board: Board) -> list[int]:
-    """Returns the program counter and the return addresses, each as two bytes."""
-    return [half for address in (board.pc, *board.ret) for half in divmod(address, 256)]
+# The readers of the numbers in the list `counter`. A program counter, a return address and the stopwatch have several numbers, the highest first.
+COUNTER_READERS: list[Callable[[QuestionBoard], int]] = [
+    lambda board: board.acc, lambda board: board.cy, lambda board: board.dcl, lambda board: board.owed,
+    *(lambda board, shift=shift: board.pc >> shift & 255 for shift in (8, 0)),
+    *(lambda board, n=n, shift=shift: board.ret[n] >> shift & 255 for n in range(3) for shift in (8, 0)),
+    lambda board: board.chips.rom_src, lambda board: board.call_count,
+    *(lambda board, shift=shift: board.elapsed >> shift & 255 for shift in (16, 8, 0)),
+    lambda board: board.seen_count]
 
 
-def cell_value(board: Board, name: str, index: int) -> int:
+def chain_bit(board: QuestionBoard, n: int, index: int) -> int:
+    """Returns a bit of a chain, or 0 if the board does not have it."""
+    chain = board.chips.chains[n] if n < len(board.chips.chains) else []
+    return chain[index] if index < len(chain) else 0
+
+
+# The readers of the cells in each list.
+CELL_READERS: dict[str, Callable[[QuestionBoard, int], int]] = {
+    "character": lambda board, index: board.chips.ram[index // 256][index % 256],
+    "status": lambda board, index: board.chips.status[index // 64][index // 4 % 16][index % 4],
+    "ramport": lambda board, index: board.chips.ram_latch.get((index // 4, index % 4), 0),
+    "romport": lambda board, index: board.chips.rom_latch.get(index, 0),
+    "banksrc": lambda board, index: board.chips.bank_src[index],
+    "register": lambda board, index: board.r[index],
+    "counter": lambda board, index: COUNTER_READERS[index](board),
+    **{f"chain{n}": lambda board, index, n=n: chain_bit(board, n, index) for n in range(4)},
+}
+
+
+def cell_value(board: QuestionBoard, name: str, index: int) -> int:
     """Returns the value of a cell, or 0 if the board does not have it."""
-    chips = board.chips
-    if name.startswith("chain"):
-        chain = chips.chains[int(name[5:])] if int(name[5:]) < len(chips.chains) else []
-        return chain[index] if index < len(chain) else 0
-    return {
-        "character": lambda: chips.ram[index // 256][index % 256],
-        "status": lambda: chips.status[index // 64][index // 4 % 16][index % 4],
-        "ramport": lambda: chips.ram_latch.get((index // 4, index % 4), 0),
-        "romport": lambda: chips.rom_latch.get(index, 0),
-        "banksrc": lambda: chips.bank_src[index],
-        "register": lambda: board.r[index],
-        "counter": lambda: [board.acc, board.cy, board.dcl, board.owed, *address_bytes(board), chips.rom_src, open_call_count(board),
-                            *elapsed_of(board).to_bytes(3, "big"), marks_seen(board)][index],
-    }[name]()
+    return CELL_READERS[name](board, index)
 
 
 # ---- mistakes, by the instruction table of the manual
@@ -150,19 +163,6 @@ MAX_OPEN_CALLS = 3
 # The instructions that access a RAM chip: its nibbles, its status nibbles and its port.
 RAM_INSTRUCTIONS = {"WRM", "RDM", "ADM", "SBM", "WMP", *(f"{prefix}{k}" for prefix in ("WR", "RD") for k in range(4))}
 MISTAKES = ("code", "call", "return", "ram", "rom", "rdr", "wrr")
-# The attributes that the search adds to a board: the number of open calls, the stopwatch and its cycles, the marks and the number of marks seen. The
-# last attribute has the limits on the inputs.
-CALLS, STOPWATCH, ELAPSED, MARK_SEQUENCE, SEEN, LIMITS = "calls", "stopwatch", "elapsed", "mark_sequence", "seen", "limits"
-
-
-def open_call_count(board: Board) -> int:
-    """Returns the number of open calls."""
-    return getattr(board, CALLS, 0)
-
-
-def set_open_call_count(board: Board, call_count: int) -> None:
-    """Sets the number of open calls."""
-    setattr(board, CALLS, call_count)
 
 
 @dataclass
@@ -173,27 +173,11 @@ class Stopwatch:
     ends: Condition
 
 
-def stopwatch_of(board: Board) -> Stopwatch | None:
-    """Returns the stopwatch of a board, or None if the question has no stopwatch."""
-    return getattr(board, STOPWATCH, None)
-
-
-def elapsed_of(board: Board) -> int:
-    """Returns the number of cycles that the stopwatch shows, or 0 if it does not run."""
-    return getattr(board, ELAPSED, 0)
-
-
-def set_elapsed(board: Board, cycles: int) -> None:
-    """Sets the reading of the stopwatch."""
-    setattr(board, ELAPSED, cycles)
-
-
-def elapsed_after(board: Board) -> int:
+def elapsed_after(board: QuestionBoard) -> int:
     """Returns the reading of the stopwatch after the next cycle."""
-    stopwatch, elapsed = stopwatch_of(board), elapsed_of(board)
-    if not stopwatch:
+    if not board.stopwatch:
         return 0
-    return elapsed + 1 if elapsed and not stopwatch.ends(board) else int(stopwatch.begins(board))
+    return board.elapsed + 1 if board.elapsed and not board.stopwatch.ends(board) else int(board.stopwatch.begins(board))
 
 
 # ---- marks
@@ -206,22 +190,20 @@ class MarkSequence:
     marks: list[Mark]
 
 
-def mark_sequence_of(board: Board) -> MarkSequence | None:
-    """Returns the marks that must be seen on a board, or None if the question has no marks."""
-    return getattr(board, MARK_SEQUENCE, None)
+class QuestionBoard(Board):
+    """The board of a question, with what the search adds to it. `elapsed` is the number of cycles that the stopwatch shows, or 0 if it does not run.
+    `seen_count` is the number of marks seen. While the condition of the marks is true, and in the cycle after that, it is the number of all marks
+    plus 1. A question can have no stopwatch and no marks."""
+
+    def __init__(self, limits: InputLimits) -> None:
+        super().__init__()
+        self.limits = limits
+        self.call_count = self.elapsed = self.seen_count = 0
+        self.stopwatch: Stopwatch | None = None
+        self.mark_sequence: MarkSequence | None = None
 
 
-def marks_seen(board: Board) -> int:
-    """Returns the number of marks seen so far. While the condition is true, and in the cycle after that, returns the number of all marks plus 1."""
-    return getattr(board, SEEN, 0)
-
-
-def set_marks_seen(board: Board, seen_count: int) -> None:
-    """Sets the number of marks seen."""
-    setattr(board, SEEN, seen_count)
-
-
-def value_with(board: Board, keys_down: Iterable[Key]) -> int:
+def value_with(board: QuestionBoard, keys_down: Iterable[Key]) -> int:
     """Returns the value of the selected port with these keys down."""
     chips = board.chips
     previous_keys, chips.pressed_keys = chips.pressed_keys, set(keys_down)
@@ -230,12 +212,12 @@ def value_with(board: Board, keys_down: Iterable[Key]) -> int:
     return value
 
 
-def all_keys(board: Board) -> list[Key]:
+def all_keys(board: QuestionBoard) -> list[Key]:
     """Returns the keys of a board."""
     return [(row, column) for row in range(board.chips.keys["rows"]) for column in range(len(board.chips.columns))]
 
 
-def is_mark_shown(board: Board, mark: Mark) -> bool:
+def is_mark_shown(board: QuestionBoard, mark: Mark) -> bool:
     """Returns true if the next cycle sees a mark: it reads a port, and the value that it reads proves that the mark's key is down or up. The key is
     down if the line of its column is 1 although no other key can pull it to 1. It is up if the line is 0 although this key would pull it to 1."""
     level, *key_position = mark
@@ -250,68 +232,74 @@ def is_mark_shown(board: Board, mark: Mark) -> bool:
     return line_levels[0] == 1 and line_levels[2] == 0 if level == "down" else line_levels[0] == 0 and line_levels[1] == 1
 
 
-def marks_seen_after(board: Board) -> int:
-    """Returns the number of marks that will have been seen after the next cycle, as `marks_seen` counts them."""
-    sequence = mark_sequence_of(board)
+def marks_seen_after(board: QuestionBoard) -> int:
+    """Returns the number of marks that will have been seen after the next cycle, as `seen_count` counts them."""
+    sequence = board.mark_sequence
     if not sequence:
         return 0
     if sequence.opens(board):
         return len(sequence.marks) + 1
-    seen = marks_seen(board) if marks_seen(board) <= len(sequence.marks) else 0
+    seen = board.seen_count if board.seen_count <= len(sequence.marks) else 0
     return seen + int(seen < len(sequence.marks) and is_mark_shown(board, sequence.marks[seen]))
 
 
-def is_early(board: Board) -> bool:
+def is_early(board: QuestionBoard) -> bool:
     """Returns true if the condition is true although not all marks were seen."""
-    sequence = mark_sequence_of(board)
-    return sequence is not None and marks_seen(board) < len(sequence.marks) and sequence.opens(board)
+    sequence = board.mark_sequence
+    return sequence is not None and board.seen_count < len(sequence.marks) and sequence.opens(board)
 
 
-def addresses_read(board: Board, name: str) -> list[int]:
+def addresses_read(board: QuestionBoard, name: str) -> list[int]:
     """Returns the addresses of the ROM words that the instruction at the counter reads: its own words, and for FIN the word that it loads."""
     next_address = (board.pc + 1) % ADDRESS_COUNT
     return [board.pc] + ([next_address] if name in TWO_WORDS else []) + ([next_address & 0xF00 | board.pair(0)] if name == "FIN" else [])
 
 
-def mistakes_of_next_cycle(board: Board) -> set[str]:
+def mistakes_of_next_cycle(board: QuestionBoard) -> set[str]:
     """Returns the names of the mistakes that the next cycle makes. There are none in the second cycle of an instruction."""
     if board.owed:
         return set()
     if board.is_at_invalid_code():
         return {"code"}
     name, chips = CODES[board.rom[board.pc]][0], board.chips
-    port = chips.masks.get(chips.rom_src >> 4, "")
-    return {mistake for mistake, is_made in {
-        "call": name == "JMS" and open_call_count(board) == MAX_OPEN_CALLS,
-        "return": name == "BBL" and open_call_count(board) == 0,
-        "ram": name in RAM_INSTRUCTIONS and not chips.has_ram(board.dcl, chips.bank_src[board.dcl]),
-        "rom": any(address >> 8 not in chips.masks for address in addresses_read(board, name)),
-        "rdr": name == "RDR" and "i" not in port,
-        "wrr": name == "WRR" and port.strip("i") == "",
-    }.items() if is_made}
+    mistakes = {"rom"} if any(address >> 8 not in chips.masks for address in addresses_read(board, name)) else set()
+    if name == "JMS" and board.call_count == MAX_OPEN_CALLS:
+        mistakes.add("call")
+    elif name == "BBL" and board.call_count == 0:
+        mistakes.add("return")
+    elif name in RAM_INSTRUCTIONS and not chips.has_ram(board.dcl, chips.bank_src[board.dcl]):
+        mistakes.add("ram")
+    elif name == "RDR" and "i" not in chips.masks.get(chips.rom_src >> 4, ""):
+        mistakes.add("rdr")
+    elif name == "WRR" and chips.masks.get(chips.rom_src >> 4, "").strip("i") == "":
+        mistakes.add("wrr")
+    return mistakes
 
 
-def run_cycle(board: Board) -> None:
+def run_cycle(board: QuestionBoard) -> None:
     """Executes one cycle, which can open or close a call. A fourth nested call replaces the first one. At a code that is not an instruction, only the
     stopwatch and the number of marks can change."""
-    elapsed, seen = elapsed_after(board), marks_seen_after(board)
-    if board.owed or not board.is_at_invalid_code():
-        name = "" if board.owed else CODES[board.rom[board.pc]][0]
-        change = {"JMS": 1, "BBL": -1}.get(name, 0)
-        set_open_call_count(board, min(max(open_call_count(board) + change, 0), MAX_OPEN_CALLS))
+    elapsed, seen_count = elapsed_after(board), marks_seen_after(board)
+    if board.owed:
         board.cycle()
-    set_elapsed(board, elapsed)
-    set_marks_seen(board, seen)
+    elif not board.is_at_invalid_code():
+        name = CODES[board.rom[board.pc]][0]
+        if name == "JMS":
+            board.call_count = min(board.call_count + 1, MAX_OPEN_CALLS)
+        elif name == "BBL":
+            board.call_count = max(board.call_count - 1, 0)
+        board.cycle()
+    board.elapsed, board.seen_count = elapsed, seen_count
 
 
 # ---- conditions
 
-def is_met(board: Board, condition: Comparison | Mistakes) -> bool:
+def is_met(board: QuestionBoard, condition: Comparison | Mistakes) -> bool:
     """Returns true if a condition is met."""
     if condition[0] == "mistake":
-        return bool(mistakes_of_next_cycle(board) & set(condition[1:]))
+        return not mistakes_of_next_cycle(board).isdisjoint(condition[1:])
     operator, name, index, part, low, high = condition
-    number = cell_value(board, name, index)
+    number = CELL_READERS[name](board, index)
     if part != "whole":
         number = number >> int(part[4:]) & 1
     return (low <= number <= high) == (operator == "in")
@@ -319,12 +307,22 @@ def is_met(board: Board, condition: Comparison | Mistakes) -> bool:
 
 def condition_of(rows: list[Row]) -> Condition:
     """Returns a function that returns true if all conditions of at least one row are met."""
-    return lambda board: any(all(is_met(board, condition) for condition in row) for row in rows)
+    def is_any_row_met(board: QuestionBoard) -> bool:
+        # Loops are much faster than `any` and `all` here.
+        for row in rows:
+            for condition in row:
+                if not is_met(board, condition):
+                    break
+            else:
+                return True
+        return False
+
+    return is_any_row_met
 
 
-def is_late(board: Board, within: int | None) -> bool:
+def is_late(board: QuestionBoard, within: int | None) -> bool:
     """Returns true if the stopwatch shows more than its limit."""
-    return within is not None and elapsed_of(board) > within
+    return within is not None and board.elapsed > within
 
 
 def failure_condition(question: Question) -> Condition:
@@ -336,44 +334,43 @@ def failure_condition(question: Question) -> Condition:
 
 # ---- the inputs that a question allows
 
-def limits_of(board: Board) -> InputLimits:
-    """Returns the limits of a board's inputs."""
-    return getattr(board, LIMITS)
-
-
-def allowed_keys(board: Board) -> list[Key]:
+def allowed_keys(board: QuestionBoard) -> list[Key]:
     """Returns the keys of a board that can be pressed."""
-    limits = limits_of(board)
+    limits = board.limits
     return [key for key in all_keys(board) if key in limits.keys] if limits.only else all_keys(board)
 
 
-def allowed_test_levels(board: Board) -> list[int]:
+def allowed_test_levels(board: QuestionBoard) -> list[int]:
     """Returns the levels that TEST can have."""
-    limits = limits_of(board)
+    limits = board.limits
     return [0] if limits.only and not limits.test else [0, 1]
 
 
-def max_keys_down(board: Board) -> int:
+def max_keys_down(board: QuestionBoard) -> int:
     """Returns the maximum number of keys that can be down at a time."""
-    together = limits_of(board).together
+    together = board.limits.together
     return len(all_keys(board)) if together is None else together
 
 
 # ---- what a machine reads
 
-def next_instruction(board: Board) -> tuple[str, int]:
-    """Returns the mnemonic of the instruction that takes effect in the next cycle, and the lower half of its code. The mnemonic is "" if there is no
-    such instruction."""
-    return ("", 0) if board.owed or board.is_at_invalid_code() else CODES[board.rom[board.pc]]
+# The result of `next_instruction` if no instruction takes effect in the next cycle.
+NO_INSTRUCTION = ("", 0)
 
 
-def is_reading(board: Board) -> bool:
+def next_instruction(board: QuestionBoard) -> tuple[str, int]:
+    """Returns the mnemonic of the instruction that takes effect in the next cycle, and the lower half of its code. Returns NO_INSTRUCTION if there is
+    none."""
+    return NO_INSTRUCTION if board.owed else CODES.get(board.rom[board.pc], NO_INSTRUCTION)
+
+
+def is_reading(board: QuestionBoard) -> bool:
     """Returns true if the next cycle reads an input."""
     name, low = next_instruction(board)
     return name == "RDR" or (name == "JCN" and low % 2 == 1)
 
 
-def port_values(board: Board) -> dict[int, Levels]:
+def port_values(board: QuestionBoard) -> dict[int, Levels]:
     """Returns the values that RDR can read, each with allowed levels that produce it. Tries all sets of allowed keys up to the maximum number of
     keys. Keys that pull the same lines are interchangeable, so the sets contain one of them. Keys that pull no line are omitted."""
     test, value_without_keys = allowed_test_levels(board)[-1], value_with(board, [])
@@ -386,7 +383,7 @@ def port_values(board: Board) -> dict[int, Levels]:
     return values
 
 
-def values_read(board: Board) -> dict[int, Levels]:
+def values_read(board: QuestionBoard) -> dict[int, Levels]:
     """Returns the values that the next cycle can read, each with allowed levels that produce it. If the cycle reads no input, the only value is 0."""
     name, low = next_instruction(board)
     if name == "RDR":
@@ -395,14 +392,14 @@ def values_read(board: Board) -> dict[int, Levels]:
     return {level: (frozenset(), level) for level in levels} if name == "JCN" and low % 2 == 1 else {0: (frozenset(), levels[-1])}
 
 
-def values_by_enumeration(board: Board, max_keys: int) -> set[int] | None:
+def values_by_enumeration(board: QuestionBoard, max_keys: int) -> set[int] | None:
     """Returns the values that the next cycle can read (0 if it reads no input). Tries all levels of keys and TEST that the limits allow. Returns
     None if the board has more than `max_keys` keys."""
     keys, (name, low) = all_keys(board), next_instruction(board)
     if len(keys) > max_keys:
         return None
     all_levels = [(frozenset(itertools.compress(keys, pattern)), test) for pattern in itertools.product((0, 1), repeat=len(keys)) for test in (0, 1)]
-    allowed = [levels for levels in all_levels if limits_of(board).allow(levels)]
+    allowed = [levels for levels in all_levels if board.limits.allow(levels)]
     if name == "RDR":
         return {value_with(board, keys_down) for keys_down, _test in allowed}
     return {test for _keys_down, test in allowed} if name == "JCN" and low % 2 == 1 else {0}
@@ -410,36 +407,41 @@ def values_by_enumeration(board: Board, max_keys: int) -> set[int] | None:
 
 # ---- from state to state
 
-def state_of(board: Board) -> tuple:
+def state_of(board: QuestionBoard) -> tuple:
     """Returns the state of a machine: everything except its inputs, and also the number of open calls, the cycles that the stopwatch shows, and the
     number of marks seen."""
     chips = board.chips
     return (board.acc, board.cy, board.pc, board.dcl, board.owed, tuple(board.r), tuple(board.ret), chips.rom_src, tuple(chips.bank_src),
             tuple(chips.rom_latch.values()), tuple(chips.ram_latch.values()), tuple(map(tuple, chips.chains)),
-            tuple((bytes(chips.ram[bank]), *map(bytes, chips.status[bank])) for bank in sorted(chips.chips)), open_call_count(board), elapsed_of(board),
-            marks_seen(board))
+            tuple((bytes(chips.ram[bank]), *map(bytes, chips.status[bank])) for bank in sorted(chips.chips)), board.call_count, board.elapsed,
+            board.seen_count)
 
 
-def load_state(board: Board, state: tuple) -> None:
+def load_state(board: QuestionBoard, state: tuple) -> None:
     """Loads a state into a machine."""
     chips = board.chips
-    board.acc, board.cy, board.pc, board.dcl, board.owed, r, ret, chips.rom_src, srcs, roms, rams, chains, banks, call_count, elapsed, seen = state
-    set_open_call_count(board, call_count)
-    set_elapsed(board, elapsed)
-    set_marks_seen(board, seen)
+    board.acc, board.cy, board.pc, board.dcl, board.owed, r, ret, chips.rom_src, srcs, roms, rams, chains, banks, *added = state
+    board.call_count, board.elapsed, board.seen_count = added
     board.r, board.ret, chips.bank_src, chips.chains = list(r), list(ret), list(srcs), [list(chain) for chain in chains]
     chips.rom_latch, chips.ram_latch = dict(zip(chips.rom_latch, roms)), dict(zip(chips.ram_latch, rams))
     for bank, (characters, *status) in zip(sorted(chips.chips), banks):
         chips.ram[bank], chips.status[bank] = bytearray(characters), list(map(bytearray, status))
 
 
-def run_to_next_state(board: Board, levels: Levels, is_failure: Condition, pause: int) -> tuple[int, bool]:
-    """Executes one cycle with these levels of keys and TEST, and then continues to the next state, or until the property fails. Returns the number
-    of cycles, and true if the property failed after the last one."""
+def set_levels(board: QuestionBoard, levels: Levels) -> None:
+    """Sets the levels of the keys and TEST."""
     board.chips.pressed_keys, board.test = set(levels[0]), levels[1]
+
+
+def run_to_next_state(board: QuestionBoard, levels: Levels, is_failure: Condition, pause: int, counts_idle_cycles: bool = False) -> tuple[int, bool]:
+    """Executes one cycle with these levels of keys and TEST, and then continues to the next state, or until the property fails. Returns the number
+    of cycles, and true if the property failed after the last one. The cycles at a code that is not an instruction count only if something else
+    changes in them, or if `counts_idle_cycles` is true."""
+    set_levels(board, levels)
     start_address, start_state = board.pc, state_of(board)
+    counts_idle_cycles = counts_idle_cycles or bool(board.stopwatch or board.mark_sequence)
     for cycles in range(1, pause + 2):
-        if not board.owed and board.is_at_invalid_code() and not stopwatch_of(board) and not mark_sequence_of(board):
+        if not counts_idle_cycles and not board.owed and board.is_at_invalid_code():
             # The state repeats, so nothing changes any more.
             return cycles - 1, False
         run_cycle(board)
@@ -450,19 +452,16 @@ def run_to_next_state(board: Board, levels: Levels, is_failure: Condition, pause
     return pause + 1, False
 
 
-def power_on(question: Question) -> Board:
+def power_on(question: Question) -> QuestionBoard:
     """Returns the machine of a question at power-on."""
-    board = Board()
+    board = QuestionBoard(question.limits)
     board.wire("\n".join(question.board))
     bench4004.load(board, question.program)
     board.power_on()
-    set_open_call_count(board, 0)
-    setattr(board, LIMITS, question.limits)
     if question.within is not None:
-        setattr(board, STOPWATCH, Stopwatch(condition_of(question.begins), condition_of(question.ends)))
+        board.stopwatch = Stopwatch(condition_of(question.begins), condition_of(question.ends))
     if question.marks:
-        setattr(board, MARK_SEQUENCE, MarkSequence(condition_of(question.opens), question.marks))
-    set_marks_seen(board, 0)
+        board.mark_sequence = MarkSequence(condition_of(question.opens), question.marks)
     return board
 
 

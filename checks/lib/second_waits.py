@@ -1,14 +1,25 @@
-"""A second implementation of the search of mcs4-prove with `wait`. It shares no code with the program. The levels of keys and TEST change at moments
-that are at least `wait` cycles apart. The levels before the first cycle are no change.
+"""A second implementation of the search of mcs4-prove with `wait` and `held`. It shares no code with the program. The levels of keys and TEST change
+at moments that are at least `wait` cycles apart. The levels before the first cycle are no change. With `held`, each key is up at some moment of any
+`held` + 1 successive moments, so that no key is down for more than `held` cycles in succession.
 
 Two searches answer whether a property can fail:
 
 - The literal search uses only this definition. It runs the board of board4004.py one cycle at a time. Before each cycle, it makes each change that is
-  allowed. Its states contain the machine, the levels, and the number of cycles since the last change. It does not know which cycles read an input.
+  allowed. Its states contain the machine, the levels, the number of cycles since the last change, and the number of cycles for which each key has
+  been down. It does not know which cycles read an input.
 - The search by steps works like the program. Its steps are those of second_search.py. A step begins at levels that the search chooses. If they differ
   from those of the last step, the change between the two steps was made as early as possible. It counts the states, as the program does.
 
-The two verdicts must agree. A counterexample has the levels at the beginning of each step. `replay_steps` finds moments for its changes.
+A counterexample has the levels at the beginning of each step. `replay_steps` finds moments for its changes.
+
+Without `held`, the two verdicts must agree. With `held`, the search by steps allows more inputs than the definition. If it answers `holds`, the
+property also holds by the definition. But it can answer `may fail` although the property holds, because it does not remember
+
+- that a key stays down when another key or TEST changes: it counts the cycles again from 0;
+- what happened in a step that is longer than `wait`: the key can have been up during the step, but then the next change is later;
+- that a key that was pressed must be released. If `wait` is more than `held`, it must not be released in time.
+
+It is exact on a way that `is_simple` describes. On such a way, there must be moments for the changes. On another way, there may be none.
 """
 
 from __future__ import annotations
@@ -18,10 +29,9 @@ from collections.abc import Iterator
 from dataclasses import dataclass, field, replace
 from typing import NamedTuple
 
-from board4004 import Board
 from second_search import (
-    LEVELS_AT_POWER_ON, Condition, Levels, Question, all_keys, allowed_keys, allowed_test_levels, commands, failure_condition, is_reading, load_state,
-    max_keys_down, power_on, run_cycle, run_lengths, state_of)
+    LEVELS_AT_POWER_ON, InputLimits, Levels, Question, QuestionBoard, all_keys, allowed_keys, allowed_test_levels, commands, failure_condition, load_state,
+    max_keys_down, power_on, run_cycle, run_lengths, run_to_next_state, set_levels, state_of)
 
 # The maximum number of levels that the program tries. It gives up if there are more.
 MAX_LEVELS = 255
@@ -29,7 +39,7 @@ MAX_LEVELS = 255
 
 # ---- levels
 
-def all_levels(board: Board) -> list[Levels]:
+def all_levels(board: QuestionBoard) -> list[Levels]:
     """Returns the levels of the keys and TEST of a board that its limits allow, in the program's order: by TEST, then by each key. Returns at most
     MAX_LEVELS + 1."""
     keys = allowed_keys(board)
@@ -38,41 +48,42 @@ def all_levels(board: Board) -> list[Levels]:
     return sorted(itertools.islice(levels, MAX_LEVELS + 1), key=lambda each: (each[1], [key in each[0] for key in keys]))
 
 
-def levels_of_word(board: Board, word: str) -> Levels:
+def levels_of_word(board: QuestionBoard, word: str) -> Levels:
     """Returns the levels that a word of an answer describes. The word has the levels of all keys, row by row, and then of TEST. Each hexadecimal
     digit has four of them, the first one in its lowest bit."""
     keys, levels = all_keys(board), [int(digit, 16) >> bit & 1 for digit in word for bit in range(4)]
     return frozenset(key for key, level in zip(keys, levels, strict=False) if level), levels[len(keys)]
 
 
-def max_word(board: Board) -> str:
+def max_word(board: QuestionBoard) -> str:
     """Returns the word for levels that are all 1."""
     full_digits, levels_in_last = divmod(len(all_keys(board)) + 1, 4)
     return "f" * full_digits + (f"{(1 << levels_in_last) - 1:x}" if levels_in_last else "")
 
 
-def set_levels(board: Board, levels: Levels) -> None:
-    """Sets the levels of the keys and TEST."""
-    board.chips.pressed_keys, board.test = set(levels[0]), levels[1]
-
-
 # ---- the literal search
 
+# The number of cycles for which each key of a board has been down, or 0 if it is up. It is empty if the question does not limit this time.
+DownTimes = tuple[int, ...]
+
+
 class LiteralSearch:
-    """All states that the machine of a question reaches. A state has a machine, its levels, and the age of the last change in cycles, at most
-    `wait`. If there was no change yet, the age is `wait`, too: both allow a change. The ages of all states with the same machine and levels are the
-    bits of one number."""
+    """All states that the machine of a question reaches. A state has a machine, its levels for the next cycle, the age of the last change in cycles,
+    at most `wait`, and the times for which keys are down. If there was no change yet, the age is `wait`, too: both allow a change. The ages of all
+    states that are otherwise the same are the bits of one number."""
 
     def __init__(self, question: Question) -> None:
-        self.board, self.is_failure, self.wait = power_on(question), failure_condition(question), question.limits.wait
+        self.board, self.is_failure = power_on(question), failure_condition(question)
+        self.wait, self.held = question.limits.wait, question.limits.held
         self.levels = all_levels(self.board)
+        self.limited_keys = all_keys(self.board) if self.held else []
         # The states of the machine that were seen, with a number for each, and the next one for each machine and levels (-1 if the property fails).
         self.machines: list[tuple] = []
         self.numbers: dict[tuple, int] = {}
         self.successors: dict[tuple[int, int], int] = {}
-        # The ages that were reached for each machine and levels. Those in `new_ages` have not been continued yet.
-        self.ages: dict[tuple[int, int], int] = {}
-        self.new_ages: dict[tuple[int, int], int] = {}
+        # The ages that were reached for each machine, levels and times. Those in `new_ages` have not been continued yet.
+        self.ages: dict[tuple[int, int, DownTimes], int] = {}
+        self.new_ages: dict[tuple[int, int, DownTimes], int] = {}
 
     def number_of(self, machine: tuple) -> int:
         """Returns the number of a machine's state."""
@@ -90,33 +101,48 @@ class LiteralSearch:
             self.successors[number, levels] = -1 if self.is_failure(self.board) else self.number_of(state_of(self.board))
         return self.successors[number, levels]
 
-    def reach(self, number: int, levels: int, ages: int) -> None:
-        """Adds states with this machine, these levels and these ages."""
-        if added := ages & ~self.ages.get((number, levels), 0):
-            self.ages[number, levels] = self.ages.get((number, levels), 0) | added
-            self.new_ages[number, levels] = self.new_ages.get((number, levels), 0) | added
+    def reach(self, number: int, levels: int, times: DownTimes, ages: int) -> None:
+        """Adds states with this machine, these levels, these times and these ages."""
+        if added := ages & ~self.ages.get((number, levels, times), 0):
+            self.ages[number, levels, times] = self.ages.get((number, levels, times), 0) | added
+            self.new_ages[number, levels, times] = self.new_ages.get((number, levels, times), 0) | added
+
+    def times_after(self, times: DownTimes, levels: int) -> DownTimes:
+        """Returns the times for which keys are down after one cycle at these levels."""
+        keys_down = self.levels[levels][0]
+        return tuple(time + 1 if key in keys_down else 0 for key, time in zip(self.limited_keys, times, strict=True))
+
+    def ages_after(self, ages: int, times: DownTimes) -> int:
+        """Returns the ages after one cycle, with these times after it. Each change is one cycle older, and all ages from `wait` on are the same. Omits
+        the ages that allow no inputs for all later cycles. There are such inputs if the next change can release all keys in time."""
+        older_ages = ages << 1
+        older_ages = older_ages & (1 << self.wait + 1) - 1 | (older_ages >> self.wait + 1) << self.wait
+        lowest_age = self.wait - self.held + max(times) if any(times) else 0
+        return older_ages >> max(lowest_age, 0) << max(lowest_age, 0)
 
     def verdict(self, max_cycles: int) -> str:
-        """Returns the verdict `holds` or `may fail`. Returns `too many` after `max_cycles` different cycles."""
+        """Returns the verdict `holds` or `may fail`. Returns `too many` after `max_cycles` different cycles, or if there are several times as many
+        states."""
         if self.is_failure(self.board):
             return "may fail"
         for levels in range(len(self.levels)):
-            self.reach(self.number_of(state_of(self.board)), levels, 1 << self.wait)
+            self.reach(self.number_of(state_of(self.board)), levels, len(self.limited_keys) * (0,), 1 << self.wait)
         while self.new_ages:
-            (number, levels), ages = self.new_ages.popitem()
+            (number, levels, times), ages = self.new_ages.popitem()
+            times = self.times_after(times, levels)
+            ages = self.ages_after(ages, times)
+            if not ages:
+                continue
             following = self.next_machine(number, levels)
             if following < 0:
                 return "may fail"
-            if len(self.successors) > max_cycles:
+            if len(self.successors) > max_cycles or len(self.ages) > 4 * max_cycles:
                 return "too many"
-            # Each change is one cycle older now. All ages from `wait` on are the same.
-            older_ages = ages << 1
-            older_ages = older_ages & (1 << self.wait + 1) - 1 | (older_ages >> self.wait + 1) << self.wait
-            self.reach(following, levels, older_ages)
-            if older_ages >> self.wait:
+            self.reach(following, levels, times, ages)
+            if ages >> self.wait:
                 for other_levels in range(len(self.levels)):
                     if other_levels != levels:
-                        self.reach(following, other_levels, 1)
+                        self.reach(following, other_levels, times, 1)
         return "holds"
 
 
@@ -128,11 +154,13 @@ def literal_verdict(question: Question, max_cycles: int) -> str:
 # ---- the search by steps
 
 class Spacing(NamedTuple):
-    """The levels at which the last step began, or None before the first step, and an age. The age is `wait` at the first moment at which the levels
-    can change again. It is never above twice `wait`."""
+    """The levels at which the last step began, or None before the first step, and two numbers. The age is `wait` at the first moment at which the
+    levels can change again. It is never above twice `wait`. `down` is the number of cycles, at most `held`, for which a key has certainly been down
+    if the next step begins at the same levels. It is 0 if no key is down at these levels."""
 
     last: Levels | None
     age: int
+    down: int
 
 
 def can_begin_at(wait: int, spacing: Spacing, levels: Levels) -> bool:
@@ -152,18 +180,20 @@ def age_after(wait: int, age: int, cycles: int) -> int:
     return min(age + cycles, 2 * wait)
 
 
-def run_step(board: Board, levels: Levels, is_failure: Condition, pause: int) -> tuple[int, bool]:
-    """Executes one cycle at these levels, and then continues to the next state, as `run_to_next_state` of second_search.py does. Returns the number
-    of cycles, and true if the property failed after the last one. A machine at a code that is not an instruction also takes its cycles."""
-    set_levels(board, levels)
-    start_address, start_state = board.pc, state_of(board)
-    for cycles in range(1, pause + 2):
-        run_cycle(board)
-        if is_failure(board):
-            return cycles, True
-        if is_reading(board) or board.pc == start_address and state_of(board) == start_state:
-            return cycles, False
-    return pause + 1, False
+def down_at_begin(spacing: Spacing, levels: Levels) -> int:
+    """Returns the number of cycles for which a key has certainly been down at the beginning of a step at these levels."""
+    return spacing.down if levels == spacing.last else 0
+
+
+def down_after(limits: InputLimits, down: int, levels: Levels, cycles: int) -> int:
+    """Returns this number after a step at these levels, which began with `down`. The levels can change twice during a step of more than `wait`
+    cycles."""
+    return min(down + cycles, limits.held) if levels[0] and cycles <= limits.wait else 0
+
+
+def is_held_too_long(held: int, spacing: Spacing, levels: Levels) -> bool:
+    """Returns true if a key would be down for more than `held` cycles if the next step began at these levels."""
+    return held > 0 and down_at_begin(spacing, levels) >= held
 
 
 @dataclass
@@ -184,7 +214,7 @@ class StepSearch:
     """A search that decides a question step by step. A state has a machine and a spacing."""
 
     def __init__(self, question: Question) -> None:
-        self.question, self.wait = question, question.limits.wait
+        self.question, self.limits = question, question.limits
         self.board, self.is_failure = power_on(question), failure_condition(question)
         self.levels = all_levels(self.board)
         # The steps that ran, by machine and levels: the next machine (None if the property failed) and the number of cycles.
@@ -194,7 +224,7 @@ class StepSearch:
         """Returns the machine after a step at these levels, or None if the property fails, and the number of cycles."""
         if (machine, levels) not in self.steps:
             load_state(self.board, machine)
-            cycles, has_failed = run_step(self.board, levels, self.is_failure, self.question.pause)
+            cycles, has_failed = run_to_next_state(self.board, levels, self.is_failure, self.question.pause, counts_idle_cycles=True)
             self.steps[machine, levels] = None if has_failed else state_of(self.board), cycles
         return self.steps[machine, levels]
 
@@ -202,9 +232,14 @@ class StepSearch:
         """Yields the levels at which the next step can begin, each with the next state. Its machine is None if the property fails. A step that reads
         no input also begins at levels that the search chooses, as in the program."""
         for levels in self.levels:
-            if can_begin_at(self.wait, spacing, levels):
+            if can_begin_at(self.limits.wait, spacing, levels) and not is_held_too_long(self.limits.held, spacing, levels):
                 following, cycles = self.step(machine, levels)
-                yield levels, following, Spacing(levels, age_after(self.wait, age_at_begin(self.wait, spacing, levels), cycles))
+                yield levels, following, self.spacing_after(spacing, levels, cycles)
+
+    def spacing_after(self, spacing: Spacing, levels: Levels, cycles: int) -> Spacing:
+        """Returns the spacing after a step at these levels."""
+        age = age_after(self.limits.wait, age_at_begin(self.limits.wait, spacing, levels), cycles)
+        return Spacing(levels, age, down_after(self.limits, down_at_begin(spacing, levels), levels, cycles))
 
     def result(self) -> StepsResult:
         """Searches, and returns the result."""
@@ -214,7 +249,7 @@ class StepSearch:
             return StepsResult("gave up", 0)
         if self.question.max_states < 1:
             return StepsResult("too many", 1)
-        states = [(state_of(self.board), Spacing(None, 0))]
+        states = [(state_of(self.board), Spacing(None, 0, 0))]
         origins, known_states = [(0, self.levels[0])], set(states)
         for index, state in enumerate(states):
             for levels, machine, spacing in self.next_states(*state):
@@ -259,59 +294,120 @@ def steps_of(question: Question, path: list[Levels]) -> tuple[list[Change], int,
         if has_failed or not question.limits.allow(levels) or not levels[0] <= set(all_keys(board)):
             return begins, moment, f"step {index + 1}: " + ("the property fails before" if has_failed else f"{levels} is not allowed")
         begins.append((moment, levels))
-        cycles, has_failed = run_step(board, levels, is_failure, question.pause)
+        cycles, has_failed = run_to_next_state(board, levels, is_failure, question.pause, counts_idle_cycles=True)
         moment += cycles
     return begins, moment, "" if has_failed else "the property does not fail"
 
 
-def earliest_changes(begins: list[Change], wait: int) -> list[Change] | None:
-    """Returns changes for which the levels at the beginning of each step are right, or None if there are none. The first of them is at moment 0. Each
-    change is as early as possible."""
-    changes = [(0, begins[0][1])] if begins else []
-    for (before, _levels), (moment, levels) in itertools.pairwise(begins):
-        if levels != changes[-1][1]:
-            earliest = max(before + 1, changes[-1][0] + wait if len(changes) > 1 else 0)
-            if earliest > moment:
-                return None
-            changes.append((earliest, levels))
-    return changes
+def is_simple(begins: list[Change], limits: InputLimits) -> bool:
+    """Returns true if the search by steps is exact on a way with these begins of steps. Without `held`, it always is. With `held`, keys may be down
+    at two successive begins only if the levels are the same and the begins are at most `wait` cycles apart."""
+    return not limits.held or limits.wait <= limits.held and all(
+        not (before[0] and levels[0]) or before == levels and moment - previous <= limits.wait
+        for (previous, before), (moment, levels) in itertools.pairwise(begins))
+
+
+def presses_of(changes: list[Change]) -> list[tuple[int, int]]:
+    """Returns the index of each change that presses a key, with the index of the change that releases this key."""
+    presses, pressed_at = [], {}
+    for index, (_moment, (keys_down, _test)) in enumerate(changes):
+        presses += [(pressed_at.pop(key), index) for key in [*pressed_at] if key not in keys_down]
+        pressed_at.update({key: index for key in keys_down if key not in pressed_at})
+    return presses
+
+
+def possible_changes(begins: list[Change], limits: InputLimits) -> tuple[list[Change], list[int]]:
+    """Returns the changes between steps that begin at these moments and levels, each at the earliest possible moment. Also returns the latest moment
+    of each. The first one is at moment 0. With `held`, a last change releases all keys after the begin of the last step."""
+    changes, latest = begins[:1], [0] * len(begins[:1])
+    for (before, levels_before), (moment, levels) in itertools.pairwise(begins):
+        if levels != levels_before:
+            changes.append((before + 1, levels))
+            latest.append(moment)
+    if limits.held and changes and changes[-1][1][0]:
+        moment, (_keys_down, test) = begins[-1]
+        changes.append((moment + 1, (frozenset(), test)))
+        latest.append(moment + limits.held)
+    return changes, latest
+
+
+def earliest_changes(begins: list[Change], limits: InputLimits) -> list[Change] | None:
+    """Returns changes that are within the limits, and for which the levels at the beginning of each step are right. Each change is as early as
+    possible. Returns None if there are no such changes."""
+    changes, latest = possible_changes(begins, limits)
+    # The indexes of two changes and a number of cycles: the first change is not before the second one plus this number.
+    constraints = [(index, index - 1, limits.wait) for index in range(2, len(changes))]
+    constraints += [(pressed, released, -limits.held) for pressed, released in presses_of(changes) if limits.held]
+    moments = [moment for moment, _levels in changes]
+    previous_moments: list[int] = []
+    while moments != previous_moments:
+        previous_moments = [*moments]
+        for index, other, cycles in constraints:
+            moments[index] = max(moments[index], moments[other] + cycles)
+        if any(moment > last for moment, last in zip(moments, latest, strict=True)):
+            return None
+    return [(moment, levels) for moment, (_earliest, levels) in zip(moments, changes, strict=True)]
+
+
+def limit_error(limits: InputLimits, changes: list[Change]) -> str:
+    """Returns a description of the error in changes that the limits do not allow, or "" if they are allowed. The levels are constant after the last
+    change. The first change sets the levels from moment 0 on, and is none of the limits' changes."""
+    moments = [moment for moment, _levels in changes[1:]]
+    if any(earlier + limits.wait > later for earlier, later in itertools.combinations(moments, 2)):
+        return f"the changes at {moments} are less than {limits.wait} cycles apart"
+    if excluded := [levels for _moment, levels in changes if not limits.allow(levels)]:
+        return f"{excluded} is not allowed"
+    if limits.held and (changes and changes[-1][1][0] or any(
+            changes[released][0] - changes[pressed][0] > limits.held for pressed, released in presses_of(changes))):
+        return f"a key is down for more than {limits.held} cycles with {changes}"
+    return ""
 
 
 def change_error(question: Question, changes: list[Change], cycle_count: int) -> str:
-    """Runs the machine of a question one cycle at a time with these changes. Returns a description of the error, or "" if the changes are allowed and
-    the property fails only after the last cycle."""
-    board, is_failure, limits = power_on(question), failure_condition(question), question.limits
-    levels_at = dict(changes)
-    moments = [moment for (_moment, before), (moment, after) in itertools.pairwise(changes) if before != after]
-    if any(earlier + limits.wait > later for earlier, later in itertools.combinations(moments, 2)):
-        return f"the changes at {moments} are less than {limits.wait} cycles apart"
-    levels = (frozenset(), 0)
+    """Runs the machine of a question one cycle at a time with these changes. Returns a description of the error, or "" if the property fails only
+    after the last cycle."""
+    board, is_failure = power_on(question), failure_condition(question)
+    levels_at, levels = dict(changes), (frozenset(), 0)
     for moment in range(cycle_count):
+        if is_failure(board):
+            return f"cycle {moment}: the property fails before"
         levels = levels_at.get(moment, levels)
-        if is_failure(board) or not limits.allow(levels):
-            return f"cycle {moment}: " + ("the property fails before" if is_failure(board) else f"{levels} is not allowed")
         set_levels(board, levels)
         run_cycle(board)
     return "" if is_failure(board) else "the property does not fail with these changes"
 
 
+def has_changes(question: Question, path: list[Levels]) -> bool:
+    """Returns true if there are moments for the changes of a counterexample."""
+    return earliest_changes(steps_of(question, path)[0], question.limits) is not None
+
+
 def replay_steps(question: Question, path: list[Levels]) -> tuple[list[str], str]:
     """Returns the session lines that replay a counterexample up to the cycle in which the property fails, and a description of the error, or "" if
-    there is none."""
+    there is none. If there are no moments for the changes because of `held`, and the way is not simple, replays it without `held`."""
     begins, cycle_count, error = steps_of(question, path)
-    lines = [*itertools.chain(*question.texts()), "reset"]
+    lines, limits = [*itertools.chain(*question.texts()), "reset"], question.limits
     if error:
         return lines, error
-    changes = earliest_changes(begins, question.limits.wait)
+    changes = earliest_changes(begins, limits)
+    if changes is None and not is_simple(begins, limits):
+        limits = replace(limits, held=0)
+        changes = earliest_changes(begins, limits)
     if changes is None:
-        return lines, f"the levels at {begins} need changes that are less than {question.limits.wait} cycles apart"
+        return lines, f"the levels at {begins} need changes that are not allowed"
     levels_before = LEVELS_AT_POWER_ON
-    for (moment, levels), (next_moment, _levels) in itertools.pairwise([*changes, (cycle_count, LEVELS_AT_POWER_ON)]):
+    shown_changes = [(moment, levels) for moment, levels in changes if moment < cycle_count]
+    for (moment, levels), (next_moment, _levels) in itertools.pairwise([*shown_changes, (cycle_count, LEVELS_AT_POWER_ON)]):
         lines += commands(levels, levels_before) + [f"run {part}" for part in run_lengths(next_moment - moment)]
         levels_before = levels
-    return lines, change_error(question, changes, cycle_count)
+    return lines, limit_error(limits, changes) or change_error(question, changes, cycle_count)
 
 
 def with_wait(question: Question, wait: int) -> Question:
     """Returns the question with another `wait`."""
     return replace(question, limits=replace(question.limits, wait=wait))
+
+
+def with_held(question: Question, held: int) -> Question:
+    """Returns the question with another `held`."""
+    return replace(question, limits=replace(question.limits, held=held))

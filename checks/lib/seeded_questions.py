@@ -5,15 +5,13 @@ questions can also be asked with limits on the inputs."""
 
 from __future__ import annotations
 
-import copy
 import dataclasses
 import random
 from collections.abc import Iterator
 
 from assembler import CODES_WITHOUT_OPERAND
-from board4004 import Board
 from second_search import (
-    MISTAKES, Comparison, InputLimits, Key, Mark, Question, Row, all_keys, cell_value, elapsed_of, run_to_next_state, is_mark_shown, power_on, search,
+    MISTAKES, Comparison, InputLimits, Key, Mark, Question, QuestionBoard, Row, all_keys, cell_value, run_to_next_state, is_mark_shown, power_on, search,
     values_read)
 from seeded_boards import INVALID_CODES, Program, SeededSession, Wiring
 
@@ -119,7 +117,7 @@ class KeyReadingProgram(ReadingProgram):
         return super().loop_phrases()
 
 
-def random_walk(question: Question, rng: random.Random) -> Iterator[Board]:
+def random_walk(question: Question, rng: random.Random) -> Iterator[QuestionBoard]:
     """Yields the machine at several states of a random walk, in which keys and TEST have random levels."""
     board = power_on(question)
     yield board
@@ -193,8 +191,8 @@ def longest_time(question: Question, rng: random.Random) -> int:
     """Returns the longest time that the stopwatch of a question shows on several random walks."""
     shown = [0]
 
-    def note(board: Board) -> bool:
-        shown.append(elapsed_of(board))
+    def note(board: QuestionBoard) -> bool:
+        shown.append(board.elapsed)
         return False
 
     for _walk in range(TIMED_WALKS):
@@ -251,7 +249,7 @@ def key_waiting_question(rng: random.Random, wiring: Wiring) -> Question:
     return Question(wiring.text(), [*program, f" LDM {number}", f" XCH R{register}", " JUN loop"], opens=opens, marks=marks)
 
 
-def marks_on_walk(question: Question, rng: random.Random) -> list[tuple[Board, list[Mark]]]:
+def marks_on_walk(question: Question, rng: random.Random) -> list[tuple[QuestionBoard, list[Mark]]]:
     """Returns the machine at some states of a random walk, each with the marks that the next cycle shows."""
     board, walk = power_on(question), []
     for _n in range(2 * MAX_WALK_STATES):
@@ -259,7 +257,7 @@ def marks_on_walk(question: Question, rng: random.Random) -> list[tuple[Board, l
         levels = values[rng.choice(sorted(values))]
         board.chips.pressed_keys = set(levels[0])
         marks = [(level, row, column) for row, column in all_keys(board) for level in ("up", "down") if is_mark_shown(board, (level, row, column))]
-        walk.append((copy.deepcopy(board), marks))
+        walk.append((board.copy(), marks))
         run_to_next_state(board, levels, lambda _board: False, min(question.pause, 50))
     return walk
 
@@ -363,9 +361,9 @@ def limited_question(seed: int, max_states: int) -> Question:
 
 def lines_in_random_order(question: Question, rng: random.Random) -> list[str]:
     """Returns the lines of a question, with the lines of its limits at random positions outside the texts. One of these lines is repeated. If there
-    is a `together` or `wait` line, another one with another number precedes it, because only the last one counts."""
+    is a `together`, `wait` or `held` line, another one with another number precedes it, because only the last one counts."""
     limits = question.limits.lines()
-    numbered = [line for line in limits if line.startswith(("together", "wait"))]
+    numbered = [line for line in limits if line.startswith(("together", "wait", "held"))]
     other_values = [line for line in limits if line not in numbered]
     parts = without_limits(question).parts()
     for line in [*other_values, *rng.sample(other_values, min(len(other_values), 1))]:

@@ -1,6 +1,7 @@
 """Random questions for mcs4-prove with `wait`, reproducible from a seed. Most of them are about programs that read an input several times, and that
 look for certain levels, one after another. The time between two changes decides whether these levels are possible. The other questions are those of
-seeded_questions.py. The boards have few keys, or the limits allow few keys, so that a search can try all levels."""
+seeded_questions.py. The boards have few keys, or the limits allow few keys, so that a search can try all levels. In half of the questions, `held`
+limits the time for which a key is down, too. Most of these look for a key that is down several times in succession."""
 
 from __future__ import annotations
 
@@ -10,10 +11,12 @@ import random
 from assembler import assemble
 from seeded_questions import KeyWiring, comparisons_at_address, chord_question, seeded_question
 from second_search import InputLimits, Key, Mark, Question, all_keys, power_on, search
-from second_waits import search_by_steps, with_wait
+from second_waits import search_by_steps, with_held, with_wait
 
 # The largest `wait`, and the maximum number of keys whose levels can change.
 MAX_WAIT, MAX_KEYS = 40, 3
+# The largest `held`.
+MAX_HELD = 70
 # The maximum numbers of states of a search by steps, and of different cycles of a literal search.
 MAX_STATES, MAX_CYCLES = 1500, 12000
 # The maximum number of questions that are tried for a seed, until `wait` matters, and the maximum number of states of the searches that decide this.
@@ -38,19 +41,21 @@ def delay_phrases(rng: random.Random) -> list[str]:
     return rng.randrange(9) * [" NOP"]
 
 
-def pattern_question(rng: random.Random, wiring: KeyWiring) -> Question:
-    """Returns a question about a program that reads an input several times. Usually each read must show the opposite of the read before it. Then the
-    program stores a number in a register, or it takes some time. The property excludes this number, or this time, or this number before marks."""
+def pattern_question(rng: random.Random, wiring: KeyWiring, levels: list[int] | None = None, of_test: bool = False) -> Question:
+    """Returns a question about a program that reads an input several times. Usually each read must show the opposite of the read before it. If there
+    are `levels`, the reads must show these levels of one key, or of TEST if `of_test`. Then the program stores a number in a register, or it takes
+    some time. The property excludes this number, or this time, or this number before marks."""
     row, register, number = rng.randrange(wiring.rows), rng.randrange(8), rng.randrange(1, 16)
     program = [" FIM P7, 0", " SRC P7"]
     for bit in range(wiring.first + row + 1):
         data = 2 if bit == 0 or rng.random() < 0.2 else 0
         program += [f" LDM {data}", " WRR", f" LDM {data + 1}", " WRR"]
     program += [" FIM P6, 0x10", " SRC P6", "loop: CLB", *([f" XCH R{register}"] if rng.random() < 0.8 else [])]
-    level, column, reads_test, marks = rng.randrange(2), rng.randrange(len(wiring.columns)), rng.random() < 0.4, []
+    level, column, reads_test, marks = rng.randrange(2), rng.randrange(len(wiring.columns)), of_test if levels else rng.random() < 0.4, []
     # At another level, the program begins again, or it ends.
     other = rng.choice(["loop", "loop", "end"])
-    for n in range(rng.choice([2, 3, 3, 3, 4])):
+    for n in range(len(levels) if levels else rng.choice([2, 3, 3, 3, 4])):
+        level = levels[n] if levels else level
         # Some reads are repeated until the level is right.
         target = other if rng.random() < 0.85 else f"read{n}"
         if reads_test:
@@ -61,9 +66,10 @@ def pattern_question(rng: random.Random, wiring: KeyWiring) -> Question:
             marks.append(("down" if level else "up", row, column))
         program += [line.replace("%d", str(n)) for line in delay_phrases(rng)]
         level = 1 - level if rng.random() < 0.9 else level
-        column, reads_test = (rng.randrange(len(wiring.columns)), rng.random() < 0.4) if rng.random() < 0.3 else (column, reads_test)
+        column, reads_test = (rng.randrange(len(wiring.columns)), rng.random() < 0.4) if rng.random() < 0.3 and not levels else (column, reads_test)
     question = Question(wiring.text(), program)
-    kind = rng.random()
+    # Time limits and marks are rarer if there are levels: then the property often fails without them.
+    kind = rng.random() * (3 if levels else 1)
     if kind < 0.2:
         question.program += ["late:", *rng.randrange(20, 60) * [" NOP"]]
     question.program += [f" LDM {number}", f" XCH R{register}", " JUN loop", "end: JUN end"]
@@ -140,6 +146,81 @@ def spaced_question(seed: int) -> Question:
     if seed % 8 == 3:
         question.max_states = rng.randrange(4, 30)
     return question
+
+
+def smallest_failing_held(question: Question) -> int:
+    """Returns the smallest `held`, from `wait` to MAX_HELD, with which a search finds a failure. Returns MAX_HELD + 1 if there is none."""
+    def can_fail(held: int) -> bool:
+        return search_by_steps(with_held(question, held)).verdict == "may fail"
+
+    low, high = question.limits.wait, MAX_HELD
+    if can_fail(low):
+        return low
+    if not can_fail(high):
+        return high + 1
+    while low + 1 < high:
+        middle = (low + high) // 2
+        low, high = (low, middle) if can_fail(middle) else (middle, high)
+    return high
+
+
+def levels_of_presses(rng: random.Random) -> list[int]:
+    """Returns the levels that reads of a key show: it is up, and then down several times, once or twice."""
+    levels = [level for _press in range(rng.choice([1, 1, 2])) for level in rng.randrange(3) * [0] + rng.randrange(2, 5) * [1]]
+    return levels + rng.randrange(2) * [0]
+
+
+def random_held_question(rng: random.Random, levels: list[int]) -> Question:
+    """Returns a random question with few levels, which usually looks for these levels of a key. In most questions, only one key is down at a time. In
+    most of these, TEST is constant."""
+    question = pattern_question(rng, FewKeyWiring(rng), levels) if rng.random() < 0.9 else random_spaced_question(rng)
+    keys = all_keys(power_on(question))
+    question.limits = InputLimits(1, True, keys[:MAX_KEYS], rng.random() < 0.2) if rng.random() < 0.75 else few_inputs(rng, keys)
+    return question
+
+
+def question_at_smallest_held(rng: random.Random) -> tuple[Question, bool]:
+    """Returns a random question with `wait`, and with about the smallest `held` with which a search by steps finds a failure. Also returns true if
+    this is more than `wait`."""
+    question = with_wait(random_held_question(rng, levels_of_presses(rng)), rng.randrange(2, MAX_WAIT // 3))
+    if rng.random() < 0.75:
+        # The levels cannot change twice during a step.
+        question.pause = min(question.pause, question.limits.wait - 1)
+    question.max_states = MAX_STATES
+    smallest = smallest_failing_held(question)
+    question = with_held(question, min(max(smallest + rng.choice([-1, -1, -1, 0, 0, rng.randrange(-3, 4)]), 1), MAX_HELD))
+    return question, question.limits.wait < smallest <= MAX_HELD
+
+
+def question_at_largest_wait(rng: random.Random) -> tuple[Question, bool]:
+    """Returns a random question with the largest `wait` with which a key can be released and pressed between two reads. With `held`, it cannot be down
+    all the time. Also returns true if there is such a `wait`."""
+    question = with_held(random_held_question(rng, rng.choice([[1, 1], [0, 1, 1], [1, 1, 0]])), 2)
+    longest = largest_failing_wait(question)
+    return with_held(with_wait(question, max(longest, 2)), max(longest, 2) + rng.randrange(2)), 2 <= longest < MAX_WAIT
+
+
+def question_without_presses(rng: random.Random) -> tuple[Question, bool]:
+    """Returns a random question about levels that `held` does not limit: a key that is up, or TEST at 1. Also returns true."""
+    of_test = rng.random() < 0.5
+    question = pattern_question(rng, FewKeyWiring(rng), rng.randrange(6, 10) * [int(of_test)], of_test)
+    keys = [] if of_test else all_keys(power_on(question))[:MAX_KEYS]
+    question.limits = InputLimits(1, True, keys, of_test, rng.randrange(MAX_WAIT // 2, MAX_WAIT))
+    question.pause = question.limits.wait - 1
+    return with_held(question, question.limits.wait + rng.randrange(5)), True
+
+
+def held_question(seed: int) -> Question:
+    """Returns a random question with `wait` and `held`. It is usually the first one, among some attempts, for which `held` matters. The search for one
+    in eight may visit only a few states. One in sixteen has the largest `wait`, with which some properties hold without `held`."""
+    rng, most = random.Random(f"held {seed}"), question_at_smallest_held
+    make_question = (most, most, question_at_largest_wait, most, most, most, question_at_largest_wait, question_without_presses)[seed % 8]
+    for _attempt in range(3 * MAX_ATTEMPTS):
+        question, is_chosen = make_question(rng)
+        if is_chosen:
+            break
+    question.max_states = rng.randrange(4, 30) if seed % 8 == 3 else MAX_STATES
+    return with_wait(question, MAX_WAIT) if seed % 16 == 12 else question
 
 
 def long_wait_question() -> tuple[Question, int]:

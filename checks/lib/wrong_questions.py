@@ -15,7 +15,7 @@ INVALID_LINES = [
     "press x 0", "press 0 x", "press 0 -1", "press 1.0", "press 1,0", "Press 0 0", "presses 0 0", "test 0", "test 1", "test x", "test test", "Test",
     "tests", "wait", "wait x", "wait -1", "wait 0", "wait 1", "wait 100001", "wait 2 3", f"wait {'9' * 5000}", "wait 0x", "wait 2.5", "Wait 2",
     "waits 2", "held", "held x", "held -1", "held 0", "held 100001", "held 1 2", f"held {'9' * 5000}", "held 0x", "held 1.5", "Held 1", "helds 1",
-    "held at most 1", "release 0 0", "together 1\0", "only\0", "press 0 0\0", "test\0", "wait 2\0", "held 1\0", "press 0 0 0 0 0", "test register 0 whole 0 0",
+    "held at most 1", "holds 1", "release 0 0", "together 1\0", "only\0", "press 0 0\0", "test\0", "wait 2\0", "held 1\0", "press 0 0 0 0 0", "test register 0 whole 0 0",
     "open x", "opens", "up", "up 0", "up 0 0 0", "up x 0", "up 0 256", "up 0 -1", "Up 0 0", "ups 0 0", "down", "down 256 0", "in 0 0",
     "\0", "most 1\0", "\x7f", "x" * 100000, "in register 0 whole 0 0", "out register 0 whole 0 0", "mistake code"]
 # Invalid comparisons.
@@ -92,6 +92,11 @@ ANSWERS: list[tuple[list[str], int, str]] = [
     *(([*BOARD, "asm", " NOP", line, ".", "prove"], 3, "no 30 2") for line in WAIT_LINES), ([*QUESTION_LINES, *WAIT_LINES], 2, "no question"),
     *(([line, "prove"], 2, "no question") for line in WAIT_LINES), ([*QUESTION_LINES, "wait 2", "wait 100000", "prove"], 0, "too many"),
     ([*QUESTION_LINES, "wait 100000", "only", "prove"], 0, "holds 2"), ([*QUESTION_LINES, "wait 3", "most 2", "prove"], 0, "too many"),
+    # With `wait`, the time for which keys are down is a part of the states. TEST is not a key.
+    *(([*QUESTION_LINES, *lines, "prove"], 0, "holds 3") for lines in (
+        ["held 1", "wait 2"], ["wait 2", "held 100000"], ["wait 3", "held 4"], ["held 4", "wait 3", "held 3"])),
+    ([*EIGHT_KEYS, "wait 2", "held 1", "prove"], 0, "gave up"),
+    ([*EIGHT_KEYS, "wait 2", "held 1", "together 0", "prove"], 0, "holds 2"),
     # There may be at most 255 levels.
     ([*EIGHT_KEYS, "wait 2", "prove"], 0, "gave up"), ([*EIGHT_KEYS, "wait 2", "together 7", "prove"], 0, "too many"),
     ([*EIGHT_KEYS, "wait 2", "together 7", "test", "prove"], 0, "gave up"), ([*EIGHT_KEYS, "wait 2", "together 0", "prove"], 0, "holds 2"),
