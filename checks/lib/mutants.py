@@ -390,4 +390,6 @@ HELD_MUTANTS: dict[str, Callable[[], AbstractContextManager]] = {
         CORRECT_DOWN_AFTER(limits, down, levels, 1))),
     "only the last step counts": replace_function(second_waits, "down_at_begin", lambda _spacing, _levels: 0),
     "the time is kept when the levels change": replace_function(second_waits, "down_at_begin", lambda spacing, _levels: spacing.down),
+    "a change of TEST ends the time": replace_function(second_waits, "down_at_begin", lambda spacing, levels: (
+        spacing.down if levels == spacing.last else 0)),
 }

@@ -15,7 +15,7 @@ A counterexample has the levels at the beginning of each step. `replay_steps` fi
 Without `held`, the two verdicts must agree. With `held`, the search by steps allows more inputs than the definition. If it answers `holds`, the
 property also holds by the definition. But it can answer `may fail` although the property holds, because it does not remember
 
-- that a key stays down when another key or TEST changes: it counts the cycles again from 0;
+- that a key stays down when another key changes: it counts the cycles again from 0;
 - what happened in a step that is longer than `wait`: the key can have been up during the step, but then the next change is later;
 - that a key that was pressed must be released. If `wait` is more than `held`, it must not be released in time.
 
@@ -156,7 +156,7 @@ def literal_verdict(question: Question, max_cycles: int) -> str:
 class Spacing(NamedTuple):
     """The levels at which the last step began, or None before the first step, and two numbers. The age is `wait` at the first moment at which the
     levels can change again. It is never above twice `wait`. `down` is the number of cycles, at most `held`, for which a key has certainly been down
-    if the next step begins at the same levels. It is 0 if no key is down at these levels."""
+    if the keys have the same levels when the next step begins. It is 0 if no key is down at these levels."""
 
     last: Levels | None
     age: int
@@ -182,7 +182,7 @@ def age_after(wait: int, age: int, cycles: int) -> int:
 
 def down_at_begin(spacing: Spacing, levels: Levels) -> int:
     """Returns the number of cycles for which a key has certainly been down at the beginning of a step at these levels."""
-    return spacing.down if levels == spacing.last else 0
+    return spacing.down if spacing.last is not None and levels[0] == spacing.last[0] else 0
 
 
 def down_after(limits: InputLimits, down: int, levels: Levels, cycles: int) -> int:
@@ -301,9 +301,9 @@ def steps_of(question: Question, path: list[Levels]) -> tuple[list[Change], int,
 
 def is_simple(begins: list[Change], limits: InputLimits) -> bool:
     """Returns true if the search by steps is exact on a way with these begins of steps. Without `held`, it always is. With `held`, keys may be down
-    at two successive begins only if the levels are the same and the begins are at most `wait` cycles apart."""
+    at two successive begins only if they are the same keys and the begins are at most `wait` cycles apart."""
     return not limits.held or limits.wait <= limits.held and all(
-        not (before[0] and levels[0]) or before == levels and moment - previous <= limits.wait
+        not (before[0] and levels[0]) or before[0] == levels[0] and moment - previous <= limits.wait
         for (previous, before), (moment, levels) in itertools.pairwise(begins))
 
 
