@@ -17,7 +17,7 @@ property also holds by the definition. But it can answer `may fail` although the
 
 - that a key stays down when another key changes: it counts the cycles again from 0;
 - what happened in a step that is longer than `wait`: the key can have been up during the step, but then the next change is later;
-- that a key that was pressed must be released. If `wait` is more than `held`, it must not be released in time.
+- that a key that was pressed must be released. If `wait` is more than `held`, no change can release it in time.
 
 It is exact on a way that `is_simple` describes. On such a way, there must be moments for the changes. On another way, there may be none.
 """
