@@ -147,10 +147,10 @@ test("the language server answers beside a device or a FIFO", async (context) =>
   for (const [name, kind] of [["mcs4.toml", "zero"], ["mcs4.toml", "fifo"], ["board.toml", "zero"], ["board.toml", "fifo"]]) {
     const folder = createFolderWithSpecialFile(name, kind);
     const client = startClient(context, ServerClient);
-    await client.begin();
+    await client.beginSession();
     const uri = `file://${join(folder, "p.asm")}`;
-    assert.deepEqual(await client.open(uri, readFileSync(join(folder, "p.asm"), "utf8")), []);
-    assert.equal(await client.end(), 0);
+    assert.deepEqual(await client.openDocument(uri, readFileSync(join(folder, "p.asm"), "utf8")), []);
+    assert.equal(await client.endSession(), 0);
   }
 });
 
@@ -159,8 +159,8 @@ test("the debug adapter rejects a device, a FIFO and a link out of the project",
     const folder = createFolderWithSpecialFile("board.toml", kind);
     const client = startClient(context, AdapterClient);
     await client.request("initialize", {});
-    assert.match((await client.answer("launch", { program: join(folder, "p.asm") })).message, /^cannot read .*board.toml/);
-    assert.equal(await client.end(), 0);
+    assert.match((await client.fetchResponse("launch", { program: join(folder, "p.asm") })).message, /^cannot read .*board.toml/);
+    assert.equal(await client.endSession(), 0);
   }
   const folder = createFolderWithSpecialFile("", "link");
   mkdirSync(join(folder, "in"));
@@ -172,9 +172,9 @@ test("the debug adapter rejects a device, a FIFO and a link out of the project",
   await client.request("initialize", {});
   const message = /board.toml is a link that leads out of the project's folder$/;
   for (const launchArguments of [{ project: join(folder, "in") }, { program: join(folder, "in", "p.asm") }]) {
-    assert.match((await client.answer("launch", launchArguments)).message, message);
+    assert.match((await client.fetchResponse("launch", launchArguments)).message, message);
   }
-  assert.equal(await client.end(), 0);
+  assert.equal(await client.endSession(), 0);
 });
 
 test("the prompt rejects a device and a FIFO", () => {
