@@ -21,7 +21,7 @@ SHOWN_TEXT = re.compile(r"""
     /\*.*?\*/ | //[^\n]*
   | (?P<text>(?:"(?:\\.|[^"\\\n])*"|'(?:\\.|[^'\\\n])*'|`(?:\\.|[^`\\])*`)(?:\s*\+\s*(?:"(?:\\.|[^"\\\n])*"|'(?:\\.|[^'\\\n])*'|`(?:\\.|[^`\\])*`))*)
 """, re.S | re.X)
-# Matches a tag of JSDoc. The words after the tag's type and name are prose.
+# Matches a JSDoc tag. The words after the tag's type and name are prose.
 JSDOC_TAG = re.compile(r"@(?:param|property|prop|returns?|throws|type|typedef|template|callback|implements|extends|this|satisfies|import)\b")
 
 

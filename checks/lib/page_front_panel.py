@@ -264,7 +264,7 @@ def take_pictures(browser, page, folder):
         time.sleep(0.5)
         browser.type_keys(list(keys), 50, 60)
         time.sleep(0.5)
-        # Hide the hints below the keys, which are not a part of the board.
+        # Hide the hints below the keys. They are not part of the board.
         browser.script("for (const id of ['typing-label', 'keys-hint']) document.getElementById(id).hidden = true")
         box = browser.script("""
             const front = document.getElementById("front").getBoundingClientRect();

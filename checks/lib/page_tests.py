@@ -69,7 +69,7 @@ def check_failing_test(browser):
 
 
 def check_errors(browser):
-    """Checks that errors in tests are reported and that nothing is run then. The sample tests of three boards must pass."""
+    """Checks that errors in tests are reported, and that no test runs in that case. Also checks that the sample tests of three boards pass."""
     browser.script(PUT_INTO_EDITOR, EDITOR, "test a\n  until lamps green within 10 ms\n  press x\n")
     show_text(browser, "tests")
     eventually(browser, "errors are reported while the user types", GET_ERRORS,

@@ -317,8 +317,9 @@ def presses_of(changes: list[Change]) -> list[tuple[int, int]]:
 
 
 def possible_changes(begins: list[Change], limits: InputLimits) -> tuple[list[Change], list[int]]:
-    """Returns the changes between steps that begin at these moments and levels, each at the earliest possible moment. Also returns the latest moment
-    of each. The first one is at moment 0. With `held`, a last change releases all keys after the begin of the last step."""
+    """Returns the changes between steps, each at its earliest possible moment. Also returns the latest possible moment of each. `begins` has the
+    moment and the levels at the beginning of each step. The first change is at moment 0. With `held`, a last change releases all keys after the
+    beginning of the last step."""
     changes, latest = begins[:1], [0] * len(begins[:1])
     for (before, levels_before), (moment, levels) in itertools.pairwise(begins):
         if levels != levels_before:

@@ -112,7 +112,7 @@ ANSWERS: list[tuple[list[str], int, str]] = [
 ]
 
 
-# ---- what limits on the inputs allow
+# ---- questions about limits on the inputs
 
 # A question about a board with two keys in a driven row, whose columns are lines 0 and 1 of a port. Line 3 of the port always reads 1. The program
 # stores the port in R2. It stores 1 in R3 if TEST is 1.

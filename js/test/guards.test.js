@@ -1,5 +1,5 @@
 // Guards of properties: `while C, ..`, `once C, ..`, `after press K [within TIME], ..`. This file implements their meaning a second time,
-// cycle by cycle, as the manual describes it. The tests also check that guards find the errors of a program.
+// cycle by cycle, as the manual describes it. The tests also check that properties with guards find the bugs in a program.
 import assert from "node:assert/strict";
 import { test } from "node:test";
 import { CampaignRun } from "../core/explore/campaign_run.js";

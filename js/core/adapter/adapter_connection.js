@@ -113,8 +113,8 @@ export class AdapterConnection extends MessageStream {
   }
 
   /**
-   * Runs the action that follows a response. If the action throws, prints the error to the debug console, because the response is already
-   * sent.
+   * Runs the action that follows a response. If the action throws, prints the error to the debug console, because the response has
+   * already been sent.
    * @param {ResponseWithFollowUp} response
    */
   runFollowUp({ followUp }) {

@@ -32,10 +32,10 @@ export function toDiagnostic({ number, line, from, to, words, isError = number >
 }
 
 /**
- * Returns the diagnostics of a text, one for each of the first MAX_ERRORS errors. If the text has, or can have, more errors, adds a
+ * Returns the diagnostics of a text, one for each of the first MAX_ERRORS errors. If the text has, or may have, more errors, adds a
  * diagnostic that says so.
  * @param {ShownError[]} errors
- * @param {boolean} isComplete false if the text can contain errors that are not in `errors`
+ * @param {boolean} isComplete false if the text may have errors that are not in `errors`
  * @returns {Diagnostic[]}
  */
 export function toDiagnostics(errors, isComplete) {

@@ -97,7 +97,7 @@ export class PropertyLanguage extends DependentLanguage {
   }
 
   /**
-   * Returns the lines with properties, goals and models as symbols.
+   * Returns a document symbol for each line that has a property, a goal or a model.
    * @param {OpenText} openText
    */
   symbols({ lines }) {

@@ -23,7 +23,7 @@ import * as say from "../../words/server.js";
 
 /** The protocol's symbol kind for a routine. */
 const FUNCTION_SYMBOL = 12;
-/** A range that contains any text. */
+/** A range that covers the whole text of any document. */
 const WHOLE_TEXT_RANGE = { start: { line: 0, character: 0 }, end: { line: Number.MAX_SAFE_INTEGER, character: 0 } };
 const MAX_TAB_SIZE = 16;
 
