@@ -36,8 +36,8 @@ export class SessionRequests {
   }
 
   /**
-   * Restores the history that the page has stored for this session. Returns the number of entries used from the last stored segment, or -1 if
-   * the stored history does not end with the state of this session.
+   * Restores the history that the page has stored for this session. Returns the number of entries used from the last stored segment.
+   * Returns -1 if the stored history does not end with the state of this session.
    * @param {import("./timeline.js").StoredSegment[]} segments
    */
   restorePast(segments) {
