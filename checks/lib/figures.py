@@ -5,7 +5,7 @@ import pathlib
 import re
 
 from parallel_checks import CHECKS
-from mutants import BOARD_MUTANTS, LIMIT_MUTANTS, SEARCH_MUTANTS, TOOL_MUTANTS, WAIT_MUTANTS
+from mutants import BOARD_MUTANTS, HELD_MUTANTS, LIMIT_MUTANTS, SEARCH_MUTANTS, TOOL_MUTANTS, WAIT_MUTANTS
 
 TOP = pathlib.Path(__file__).resolve().parent.parent.parent
 
@@ -39,7 +39,7 @@ def check_phrases():
     """Yields the phrases about the number of faulty implementations that the checks must detect, the phrase about seeded boards, and the name of each
     check."""
     yield f"{len(BOARD_MUTANTS) + len(TOOL_MUTANTS)} wrong readings"
-    yield f"{len(SEARCH_MUTANTS) + len(LIMIT_MUTANTS) + len(WAIT_MUTANTS)} wrong searches"
+    yield f"{len(SEARCH_MUTANTS) + len(LIMIT_MUTANTS) + len(WAIT_MUTANTS) + len(HELD_MUTANTS)} wrong searches"
     boards = re.search(r"^RANDOM_BOARD_COUNT = (\d+)$", (TOP / "checks/runs").read_text(), re.M)
     yield f"of {boards[1]} seeded boards in various TOML spellings"
     for path in sorted((TOP / "checks").iterdir()):

@@ -8,11 +8,11 @@ import { CampaignRun } from "../core/explore/campaign_run.js";
 import { InitialProof } from "../core/explore/initial_proof.js";
 import { createSubject } from "../core/explore/subject.js";
 import { Watcher } from "../core/explore/walk_watcher.js";
-import { beginProving } from "../core/prove/bounded_proof.js";
 import { findLatestMoments } from "../core/prove/change_moments.js";
 import { replayCounterexample } from "../core/prove/counterexample.js";
 import { listInputLimits, listPropertyLimits } from "../core/prove/input_limits.js";
 import { isStillValid } from "../core/prove/verdict_validity.js";
+import { AnsweringEngine, judgeFirst } from "./answering_engine.js";
 import { pageModule } from "./page_session.js";
 import { DRIVE_ROW_0 } from "./drive_row.js";
 
@@ -160,34 +160,8 @@ test("a proof uses `held` if no release comes closer than the shortest wait", ()
     [[7, 40, "press wait held"], [7, 29, "press wait"]]);
 });
 
-/** The bench's module with a stand-in for the prover, which records the limits in each question. */
-class AnsweringEngine extends Engine {
-  /** @param {(limits: string) => string} answer */
-  constructor(answer) {
-    super(MODULE);
-    this.answer = answer;
-    /** @type {string[]} */
-    this.asked = [];
-  }
-
-  prove(question) {
-    if (/^sets /m.test(question)) return "gave up\n";
-    if (/^mistake/m.test(question)) return "holds 9\n";
-    const [, lines] = /^pause \d+\n([^]*?)wire$/m.exec(question);
-    const limits = lines.trimEnd().replace(/\n/g, "; ") || "all";
-    assert.equal((question.match(/^never$/gm) || []).length, 1);
-    this.asked.push(limits);
-    return this.answer(limits);
-  }
-}
-
-async function judgeFirst(propertiesText, answer, boardText = BOARD) {
-  const engine = new AnsweringEngine(answer);
-  const texts = { boardText, programText: PROGRAM, testText: "", propertiesText };
-  const { judge } = beginProving(engine, texts, 10000, { reportStates: async () => {}, yieldToMessages: async () => {} });
-  const { verdict } = await judge.judgeNext();
-  return { verdict, asked: engine.asked };
-}
+const judge = (propertiesText, answer, boardText = BOARD) => (
+  judgeFirst(new AnsweringEngine(answer), { boardText, programText: PROGRAM, propertiesText }));
 
 /** The answer for all inputs: A is down at three reads. */
 const LONG_PRESS = "may fail 0 1 1 1\n";
@@ -195,14 +169,14 @@ const PROPERTY = "no press below 20 reaches @open";
 
 test("a property is asked for all inputs, then with the limits of the text, and last with short presses", async () => {
   const text = `press A\nwait 7 to 60\n${PROPERTY}\n`;
-  const proved = await judgeFirst(text, (limits) => (limits.includes("held") ? "holds 5\n" : LONG_PRESS));
+  const proved = await judge(text, (limits) => (limits.includes("held") ? "holds 5\n" : LONG_PRESS));
   assert.deepEqual(proved.verdict, { kind: "proved", states: 5, bySets: false, limits: ["press", "wait"], leftOut: "" });
   assert.deepEqual(proved.asked,
     ["all", "only; press 0 0; test", "wait 7; only; press 0 0; test", "wait 7; held 19; only; press 0 0; test"]);
-  const neverReached = await judgeFirst(text, () => "holds 7\n");
+  const neverReached = await judge(text, () => "holds 7\n");
   assert.deepEqual([neverReached.verdict.limits, neverReached.asked], [[], ["all"]]);
   // A separate question decides the other property.
-  const { asked } = await judgeFirst(`${text}never r8 = 1\n`, () => "too many\n");
+  const { asked } = await judge(`${text}never r8 = 1\n`, () => "too many\n");
   assert.equal(asked.length, 4);
   const engine = new AnsweringEngine((limits) => (limits.includes("held") ? "holds 5\n" : LONG_PRESS));
   const proofSubject = createSubject(engine, BOARD, PROGRAM);
@@ -213,7 +187,7 @@ test("a property is asked for all inputs, then with the limits of the text, and 
 
 test("an undecided property says what is missing", async () => {
   const reasonOf = async (inputs, answer = LONG_PRESS, property = PROPERTY, board = BOARD) => (
-    (await judgeFirst(`${inputs}\n${property}\n`, () => answer, board)).verdict.reason);
+    (await judge(`${inputs}\n${property}\n`, () => answer, board)).verdict.reason);
   assert.match(await reasonOf("press A"), /unseen between two reads; write a line `wait TIME to TIME`, from 2 cycles$/);
   assert.match(await reasonOf("press A\nwait 1 to 9"), /unseen between two reads/);
   assert.match(await reasonOf("press A B\nwait 7 to 9\nheld at most 9"), /^with its line `held`, a proof cannot use `wait`/);

@@ -6,11 +6,11 @@ import { Engine } from "../core/engine/engine.js";
 import { readCampaign } from "../core/explore/campaign.js";
 import { InitialProof } from "../core/explore/initial_proof.js";
 import { createSubject } from "../core/explore/subject.js";
-import { beginProving } from "../core/prove/bounded_proof.js";
 import { replayCounterexample } from "../core/prove/counterexample.js";
 import { formatInputLimits, listInputLimits } from "../core/prove/input_limits.js";
 import { readAnswer } from "../core/prove/question.js";
 import { isStillValid } from "../core/prove/verdict_validity.js";
+import { AnsweringEngine, judgeFirst } from "./answering_engine.js";
 import { pageModule } from "./page_session.js";
 import { DRIVE_ROW_0 } from "./drive_row.js";
 
@@ -120,52 +120,27 @@ test("a counterexample with values must keep the shortest wait, too", async () =
   assert.equal((await found(`wait 60 to 90\n${NEVER_ON}`)).isAllowed, false);
 });
 
-/** The bench's module with a stand-in for the prover, which records the limits in each question. */
-class AnsweringEngine extends Engine {
-  /** @param {(limits: string) => string} answer */
-  constructor(answer) {
-    super(MODULE);
-    this.answer = answer;
-    /** @type {string[]} */
-    this.asked = [];
-  }
-
-  prove(question) {
-    if (/^sets /m.test(question)) return "gave up\n";
-    const [, lines] = /^pause \d+\n([^]*?)wire$/m.exec(question);
-    const limits = lines.trimEnd().replace(/\n/g, "; ") || "all";
-    // A question about several properties is never answered for all of them.
-    if (question.split("\nnever\n").length > 2) return "may fail 0 1 0 1\n";
-    if (/^mistake/m.test(question)) return "holds 9\n";
-    this.asked.push(limits);
-    return this.answer(limits);
-  }
-}
-
-async function judgeFirst(propertiesText, answer) {
-  const engine = new AnsweringEngine(answer);
-  const texts = { boardText: BOARD, programText: PROGRAM, testText: "", propertiesText };
-  const { judge } = beginProving(engine, texts, 10000, { reportStates: async () => {}, yieldToMessages: async () => {} });
-  const { verdict } = await judge.judgeNext();
-  return { verdict, asked: engine.asked };
-}
+/** The answer to a question about several properties, which is never proved for all of them. */
+const JOINT_ANSWER = "may fail 0 1 0 1\n";
+const judge = (propertiesText, answer) => (
+  judgeFirst(new AnsweringEngine(answer, JOINT_ANSWER), { boardText: BOARD, programText: PROGRAM, propertiesText }));
 
 test("a property is asked with the shortest wait after all other limits", async () => {
   const text = `press A\nwait 60 to 90\n${NEVER_ON}`;
-  const provedLast = await judgeFirst(text, (limits) => (limits.startsWith("wait") ? "holds 5\n" : "may fail 0 1 0 1\n"));
+  const provedLast = await judge(text, (limits) => (limits.startsWith("wait") ? "holds 5\n" : "may fail 0 1 0 1\n"));
   assert.deepEqual(provedLast.verdict, { kind: "proved", states: 5, bySets: false, limits: ["press", "wait"], leftOut: "" });
   assert.deepEqual(provedLast.asked, ["all", "only; press 0 0; test", "wait 60; only; press 0 0; test"]);
-  const provedBefore = await judgeFirst(text, (limits) => (limits === "all" ? "too many\n" : "holds 6\n"));
+  const provedBefore = await judge(text, (limits) => (limits === "all" ? "too many\n" : "holds 6\n"));
   assert.deepEqual(provedBefore.verdict.limits, ["press"]);
-  const open = await judgeFirst(text, (limits) => (limits.startsWith("wait") ? "too many\n" : "may fail 0 1 0 1\n"));
+  const open = await judge(text, (limits) => (limits.startsWith("wait") ? "too many\n" : "may fail 0 1 0 1\n"));
   assert.match(open.verdict.reason, /^more than 10,000 states/);
-  const found = await judgeFirst(`wait 4 to 90\n${NEVER_ON}`, (limits) => (
+  const found = await judge(`wait 4 to 90\n${NEVER_ON}`, (limits) => (
     limits.startsWith("wait") ? "may fail with 5 5 4 5\n" : "too many\n"));
   assert.deepEqual([found.verdict.kind, found.verdict.counterexample.isAllowed], ["found", true]);
 });
 
 test("a search asks with all limits in turn, too", () => {
-  const engine = new AnsweringEngine((limits) => (limits.startsWith("wait") ? "holds 5\n" : "may fail 0 1 0 1\n"));
+  const engine = new AnsweringEngine((limits) => (limits.startsWith("wait") ? "holds 5\n" : "may fail 0 1 0 1\n"), JOINT_ANSWER);
   const proofSubject = createSubject(engine, BOARD, PROGRAM);
   const { campaign } = readCampaign(`press A\nwait 60 to 90\n${NEVER_ON}`, proofSubject);
   const proof = new InitialProof(proofSubject, campaign, 30000);
