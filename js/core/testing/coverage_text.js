@@ -1,6 +1,7 @@
 // Formats coverage in two ways: for a terminal, as source text with a count before each line; for other programs, in the LCOV format.
 
 import { formatCoverageSummary } from "./coverage.js";
+import { expandTabs } from "../text/tab_expansion.js";
 import * as say from "../../words/testing.js";
 
 /**
@@ -11,20 +12,9 @@ import * as say from "../../words/testing.js";
  * @typedef {{ text: string, linesBefore: number }} ProgramText
  */
 
-/** The tab width, and the widths of the report columns, in characters. */
-const TAB_WIDTH = 8;
+/** The widths of the report columns, in characters. */
 const COUNT_WIDTH = 10;
 const DIRECTIONS_WIDTH = 13;
-
-/**
- * Replaces each tab of a line with blanks up to the next tab stop.
- * @param {string} text
- */
-function expandTabs(text) {
-  let line = "";
-  for (const letter of text) line = letter === "\t" ? line.padEnd(line.length + TAB_WIDTH - (line.length % TAB_WIDTH)) : line + letter;
-  return line;
-}
 
 /** @type {(jump: LineCoverage) => boolean} returns whether a conditional jump ran and always took the same direction */
 const isOneDirection = ({ isJump, count, jumpCount }) => isJump && count > 0 && (jumpCount === 0 || jumpCount === count);

@@ -5,6 +5,7 @@ import { hex } from "../bench/numbers.js";
 import { ADDRESS_COUNT } from "../bench/rom_bytes.js";
 import { joinLines } from "../bench/inputs.js";
 import { instructionWords } from "../engine/rom_codes.js";
+import { expandTabs } from "../text/tab_expansion.js";
 
 /**
  * @typedef {import("../engine/engine_host.js").EngineHost} EngineHost
@@ -19,7 +20,6 @@ import { instructionWords } from "../engine/rom_codes.js";
 /** The width of the instruction text in characters, without and with source lines. */
 const TEXT_WIDTH = 25;
 const SOURCE_WIDTH = 42;
-const TAB_WIDTH = 8;
 /** Matches a listing line with JUN, JMS, JCN or ISZ; captures the text before the target, and the target. */
 const JUMP_LINE = /^(?=.{10}(?:JUN|JMS|JCN|ISZ) )(.{7}[^ ].*)0x([0-9A-F]{3})$/;
 const LAST_ADDRESS = ADDRESS_COUNT - 1;
@@ -39,9 +39,7 @@ function formatElapsed(cycles) {
  * @param {string} line
  */
 function extractCode(line) {
-  const parts = line.split("\t");
-  const expandedLine = parts.reduce((text, part) => text.padEnd((Math.floor(text.length / TAB_WIDTH) + 1) * TAB_WIDTH) + part);
-  return expandedLine.replace(/;.*/, "").replace(/ +$/, "");
+  return expandTabs(line).replace(/;.*/, "").replace(/ +$/, "");
 }
 
 /**

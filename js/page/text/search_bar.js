@@ -8,9 +8,6 @@ import * as say from "../../words/text.js";
  * @typedef {{ from: number, to: number }} Span a range of offsets in the text
  */
 
-/** The maximum number of matches that the status shows. */
-const MAX_COUNTED_MATCHES = 1000;
-
 export class SearchBar {
   /**
    * @param {LineEditor} editor
@@ -107,7 +104,7 @@ export class SearchBar {
     const spans = this.findSpans(query);
     const previousMatch = spans.filter((span) => span.to <= startOffset).pop();
     const match = (isBack ? previousMatch : spans.find((span) => span.from >= startOffset)) || spans[isBack ? spans.length - 1 : 0];
-    this.status.set(match ? say.matchPosition(spans.indexOf(match) + 1, Math.min(MAX_COUNTED_MATCHES, spans.length)) : say.NOT_FOUND);
+    this.status.set(match ? say.matchPosition(spans.indexOf(match) + 1, spans.length) : say.NOT_FOUND);
     if (!match) return;
     editor.setSelection(editor.position(match.from), editor.position(match.to));
     editor.scrollIntoView(editor.position(match.to), 60);
