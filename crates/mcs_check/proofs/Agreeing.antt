@@ -1,5 +1,5 @@
 -- Two valid buses are equal if they agree in every chip that the board has. This is the main step
--- of `keys_determine_machines`.
+-- of `state_vectors_determine_machines`.
 use Rattle.std.proofs.Common.{◌≡◌, ◌<◌, ◌/◌, ◌%◌, ℕ, inl, inr, List, Option, Some, None, MatchOption, length, get_or, slice_index, refl, sym, ap, ◌∙◌, arith}
 use Rattle.std.proofs.lemmas.Bool.{cases_lt}
 use Rattle.std.proofs.lemmas.List.{same_lists}

@@ -1,7 +1,7 @@
 -- A run that is extended one cycle at a time.
 use Rattle.std.proofs.Common.{◌≡◌, ◌<◌, ℕ, zero, suc, Bool, true, false, refl, sym, ap, ◌∙◌, arith, below_more}
 use Rattle.mcs_drive.specs.TrackedMachine.{Observer, TrackedMachine, cycled, after_cycles, next_reads_input}
-use Rattle.mcs_check.specs.Keys.{KeepsBoardAndInputs}
+use Rattle.mcs_check.specs.StateVectors.{KeepsBoardAndInputs}
 use Rattle.mcs_check.specs.ReadPoints.{Reaches}
 use Rattle.mcs_check.proofs.Keeping.{cycle-keeps, keeps-refl, keeps-trans}
 

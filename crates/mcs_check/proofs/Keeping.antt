@@ -13,7 +13,7 @@ use Rattle.mcs_model.specs.Levels.{clock_levels, after_chain_clocks, with_rom_po
 use Rattle.mcs_model.specs.Effect.{bus_after, cycle_of, effect, instruction_at}
 use Rattle.mcs_model.specs.Running.{Machine}
 use Rattle.mcs_drive.specs.TrackedMachine.{Observer, TrackedMachine, machine_in, cycled}
-use Rattle.mcs_check.specs.Keys.{KeepsBoardAndInputs}
+use Rattle.mcs_check.specs.StateVectors.{KeepsBoardAndInputs}
 
 pub keeps-refl : (s : BusState) → KeepsBoardAndInputs s s
 keeps-refl s = record { board = refl; rom = refl; keys = refl; test = refl }

@@ -7,63 +7,63 @@ use Rattle.std.proofs.lemmas.List.Elements.{Contains-append_left, Contains-appen
 use Rattle.mcs_model.specs.declared.board.BoardParts.{BoardParts}
 use Rattle.mcs_model.specs.declared.board.ChainPart.{ChainPart}
 use Rattle.mcs_model.specs.Boards.{HasDeclaredLengths, chain_bits, no_chain}
-use Rattle.mcs_check.specs.declared.cells.KeyByte.{KeyByte}
-use Rattle.mcs_check.specs.declared.cells.KeyByte.TheVariants.{One, Pair}
+use Rattle.mcs_check.specs.declared.cells.StateByte.{StateByte}
+use Rattle.mcs_check.specs.declared.cells.StateByte.TheVariants.{One, Pair}
 use Rattle.mcs_check.specs.declared.cells.CellList.{CellList}
 use Rattle.mcs_check.specs.declared.cells.CellList.TheVariants.{RamNibbles, StatusCharacters, RamPorts, RomPorts, BankSrcBytes, Registers, Counters, Chain}
-use Rattle.mcs_check.specs.Cells.{key_byte_of, max_cell_count, is_narrow, board_has_cell, ContainsBytesOf, ContainsCellsOf, IsComplete}
+use Rattle.mcs_check.specs.Cells.{state_byte_of, max_cell_count, is_narrow, board_has_cell, ContainsBytesOf, ContainsCellsOf, IsComplete}
 
 -- after one more byte is appended, the layout still contains all bytes of `others`
-contains_bytes-after_append : (others before after : List KeyByte) (byte : KeyByte) → after ≡ before ++ byte ∷ [] → ContainsBytesOf others before → ContainsBytesOf others after
-contains_bytes-after_append others before after byte e keeps = λ c k. subst (λ (cs : List KeyByte). Contains cs c) (sym e) (Contains-append_left before (byte ∷ []) c (keeps c k))
+contains_bytes-after_append : (others before after : List StateByte) (byte : StateByte) → after ≡ before ++ byte ∷ [] → ContainsBytesOf others before → ContainsBytesOf others after
+contains_bytes-after_append others before after byte e keeps = λ c k. subst (λ (cs : List StateByte). Contains cs c) (sym e) (Contains-append_left before (byte ∷ []) c (keeps c k))
 
-contains-appended_byte : (before after : List KeyByte) (byte : KeyByte) → after ≡ before ++ byte ∷ [] → Contains after byte
-contains-appended_byte before after byte e = subst (λ (cs : List KeyByte). Contains cs byte) (sym e) (Contains-append_right before (byte ∷ []) byte (0, omega arith, refl))
+contains-appended_byte : (before after : List StateByte) (byte : StateByte) → after ≡ before ++ byte ∷ [] → Contains after byte
+contains-appended_byte before after byte e = subst (λ (cs : List StateByte). Contains cs byte) (sym e) (Contains-append_right before (byte ∷ []) byte (0, omega arith, refl))
 
 -- Holds if a layout contains all bytes of `others`. The layout must also contain the byte of each
 -- of the first `n` cells of a list, if that cell exists on the board.
-pub record IsFilledTo (b : BoardParts) (list : CellList) (n : ℕ) (others layout : List KeyByte) : Type 0 where
+pub record IsFilledTo (b : BoardParts) (list : CellList) (n : ℕ) (others layout : List StateByte) : Type 0 where
   pub keeps : ContainsBytesOf others layout
-  pub has : (k : ℕ) → k < n → board_has_cell b list k ≡ true → Contains layout (key_byte_of list k)
+  pub has : (k : ℕ) → k < n → board_has_cell b list k ≡ true → Contains layout (state_byte_of list k)
 
 -- ---- one cell per byte
 
-key_byte_of-wide : (list : CellList) (i : ℕ) → is_narrow list ≡ false → key_byte_of list i ≡ One (record { list = list; index = i })
-key_byte_of-wide list i wide = ap (λ (n : Bool). cond n (Pair list (i / 2)) (One (record { list = list; index = i }))) wide
+state_byte_of-wide : (list : CellList) (i : ℕ) → is_narrow list ≡ false → state_byte_of list i ≡ One (record { list = list; index = i })
+state_byte_of-wide list i wide = ap (λ (n : Bool). cond n (Pair list (i / 2)) (One (record { list = list; index = i }))) wide
 
-pub is_filled-after_cell_added : (b : BoardParts) (list : CellList) (i : ℕ) (others before after : List KeyByte) → is_narrow list ≡ false → after ≡ before ++ One (record { list = list; index = i }) ∷ [] → IsFilledTo b list i others before → IsFilledTo b list (i + 1) others after
+pub is_filled-after_cell_added : (b : BoardParts) (list : CellList) (i : ℕ) (others before after : List StateByte) → is_narrow list ≡ false → after ≡ before ++ One (record { list = list; index = i }) ∷ [] → IsFilledTo b list i others before → IsFilledTo b list (i + 1) others after
 is_filled-after_cell_added b list i others before after wide e h =
-    let byte : KeyByte = One (record { list = list; index = i }) in
-    let last : Contains after (key_byte_of list i) = subst (Contains after) (sym (key_byte_of-wide list i wide)) (contains-appended_byte before after byte e) in
+    let byte : StateByte = One (record { list = list; index = i }) in
+    let last : Contains after (state_byte_of list i) = subst (Contains after) (sym (state_byte_of-wide list i wide)) (contains-appended_byte before after byte e) in
     record {
       keeps = contains_bytes-after_append others before after byte e h.keeps;
-      has = below_more (λ k. board_has_cell b list k ≡ true → Contains after (key_byte_of list k)) i (λ k l there. subst (λ (cs : List KeyByte). Contains cs (key_byte_of list k)) (sym e) (Contains-append_left before (byte ∷ []) (key_byte_of list k) (h.has k l there))) (λ there. last);
+      has = below_more (λ k. board_has_cell b list k ≡ true → Contains after (state_byte_of list k)) i (λ k l there. subst (λ (cs : List StateByte). Contains cs (state_byte_of list k)) (sym e) (Contains-append_left before (byte ∷ []) (state_byte_of list k) (h.has k l there))) (λ there. last);
     }
 
-pub is_filled-after_cell_skipped : (b : BoardParts) (list : CellList) (i : ℕ) (others layout : List KeyByte) → board_has_cell b list i ≡ false → IsFilledTo b list i others layout → IsFilledTo b list (i + 1) others layout
+pub is_filled-after_cell_skipped : (b : BoardParts) (list : CellList) (i : ℕ) (others layout : List StateByte) → board_has_cell b list i ≡ false → IsFilledTo b list i others layout → IsFilledTo b list (i + 1) others layout
 is_filled-after_cell_skipped b list i others layout gone h = record {
   keeps = h.keeps;
-  has = below_more (λ k. board_has_cell b list k ≡ true → Contains layout (key_byte_of list k)) i h.has (λ there. absurd (cc));
+  has = below_more (λ k. board_has_cell b list k ≡ true → Contains layout (state_byte_of list k)) i h.has (λ there. absurd (cc));
 }
 
 -- ---- two cells per byte
 
-key_byte_of-narrow : (list : CellList) (i h : ℕ) → is_narrow list ≡ true → i / 2 ≡ h → key_byte_of list i ≡ Pair list h
-key_byte_of-narrow list i h narrow half = ap (λ (n : Bool). cond n (Pair list (i / 2)) (One (record { list = list; index = i }))) narrow ∙ ap (Pair list) half
+state_byte_of-narrow : (list : CellList) (i h : ℕ) → is_narrow list ≡ true → i / 2 ≡ h → state_byte_of list i ≡ Pair list h
+state_byte_of-narrow list i h narrow half = ap (λ (n : Bool). cond n (Pair list (i / 2)) (One (record { list = list; index = i }))) narrow ∙ ap (Pair list) half
 
-pub is_filled-after_pair_added : (b : BoardParts) (list : CellList) (h : ℕ) (others before after : List KeyByte) → is_narrow list ≡ true → after ≡ before ++ Pair list h ∷ [] → IsFilledTo b list (2 * h) others before → IsFilledTo b list (2 * (h + 1)) others after
+pub is_filled-after_pair_added : (b : BoardParts) (list : CellList) (h : ℕ) (others before after : List StateByte) → is_narrow list ≡ true → after ≡ before ++ Pair list h ∷ [] → IsFilledTo b list (2 * h) others before → IsFilledTo b list (2 * (h + 1)) others after
 is_filled-after_pair_added b list h others before after narrow e laid =
-    let byte : KeyByte = Pair list h in
-    let here : (i : ℕ) → i / 2 ≡ h → Contains after (key_byte_of list i) = λ i half. subst (Contains after) (sym (key_byte_of-narrow list i h narrow half)) (contains-appended_byte before after byte e) in
+    let byte : StateByte = Pair list h in
+    let here : (i : ℕ) → i / 2 ≡ h → Contains after (state_byte_of list i) = λ i half. subst (Contains after) (sym (state_byte_of-narrow list i h narrow half)) (contains-appended_byte before after byte e) in
     record {
       keeps = contains_bytes-after_append others before after byte e laid.keeps;
       has = λ i few there. elim (cases_lt i (2 * h)) [
-        | inl less ↦ subst (λ (cs : List KeyByte). Contains cs (key_byte_of list i)) (sym e) (Contains-append_left before (byte ∷ []) (key_byte_of list i) (laid.has i less there))
+        | inl less ↦ subst (λ (cs : List StateByte). Contains cs (state_byte_of list i)) (sym e) (Contains-append_left before (byte ∷ []) (state_byte_of list i) (laid.has i less there))
         | inr past ↦ here i (omega arith)
       ];
     }
 
-pub is_filled-after_pair_skipped : (b : BoardParts) (list : CellList) (h : ℕ) (others layout : List KeyByte) → (board_has_cell b list (2 * h) || board_has_cell b list (2 * h + 1)) ≡ false → IsFilledTo b list (2 * h) others layout → IsFilledTo b list (2 * (h + 1)) others layout
+pub is_filled-after_pair_skipped : (b : BoardParts) (list : CellList) (h : ℕ) (others layout : List StateByte) → (board_has_cell b list (2 * h) || board_has_cell b list (2 * h + 1)) ≡ false → IsFilledTo b list (2 * h) others layout → IsFilledTo b list (2 * (h + 1)) others layout
 is_filled-after_pair_skipped b list h others layout gone laid =
     let parts = or_parts (board_has_cell b list (2 * h)) (board_has_cell b list (2 * h + 1)) gone in
     record {
@@ -90,7 +90,7 @@ max_cell_count-is_even (Chain n) = refl
 
 -- ---- several lists
 
-pub contains_cells-if_contains_bytes : (b : BoardParts) (list : CellList) (others layout : List KeyByte) → ContainsBytesOf others layout → ContainsCellsOf b others list → ContainsCellsOf b layout list
+pub contains_cells-if_contains_bytes : (b : BoardParts) (list : CellList) (others layout : List StateByte) → ContainsBytesOf others layout → ContainsCellsOf b others list → ContainsCellsOf b layout list
 contains_cells-if_contains_bytes b list others layout more h = λ i few there. more _ (h i few there)
 
 no_chain_bits-from_chain_4_on : (b : BoardParts) (m i : ℕ) → HasDeclaredLengths b → 4 ≤ m → nat_lt i (chain_bits b m) ≡ true → ⊥
@@ -99,14 +99,14 @@ no_chain_bits-from_chain_4_on b m i sized past there =
     let bits : chain_bits b m ≡ 0 = ap (λ (c : ChainPart). 10 * c.chips) none in
     (let few = ltb-true i (chain_bits b m) there in omega arith)
 
-pub contains_cells-of_all_chains : (b : BoardParts) (layout : List KeyByte) → HasDeclaredLengths b → ((m : ℕ) → m < 4 → ContainsCellsOf b layout (Chain m)) → (m : ℕ) → ContainsCellsOf b layout (Chain m)
+pub contains_cells-of_all_chains : (b : BoardParts) (layout : List StateByte) → HasDeclaredLengths b → ((m : ℕ) → m < 4 → ContainsCellsOf b layout (Chain m)) → (m : ℕ) → ContainsCellsOf b layout (Chain m)
 contains_cells-of_all_chains b layout sized h m =
     elim (cases_lt m 4) [
       | inl few ↦ h m few
       | inr past ↦ λ i few there. absurd (no_chain_bits-from_chain_4_on b m i sized past there)
     ]
 
-pub complete : (b : BoardParts) (layout : List KeyByte) → ((m : ℕ) → ContainsCellsOf b layout (Chain m)) → ContainsCellsOf b layout Counters → ContainsCellsOf b layout Registers → ContainsCellsOf b layout BankSrcBytes → ContainsCellsOf b layout RomPorts → ContainsCellsOf b layout RamPorts → ContainsCellsOf b layout StatusCharacters → ContainsCellsOf b layout RamNibbles → IsComplete b layout
+pub complete : (b : BoardParts) (layout : List StateByte) → ((m : ℕ) → ContainsCellsOf b layout (Chain m)) → ContainsCellsOf b layout Counters → ContainsCellsOf b layout Registers → ContainsCellsOf b layout BankSrcBytes → ContainsCellsOf b layout RomPorts → ContainsCellsOf b layout RamPorts → ContainsCellsOf b layout StatusCharacters → ContainsCellsOf b layout RamNibbles → IsComplete b layout
 complete b layout chains counters registers srcs rom ram status characters RamNibbles = characters
 complete b layout chains counters registers srcs rom ram status characters StatusCharacters = status
 complete b layout chains counters registers srcs rom ram status characters RamPorts = ram

@@ -1,4 +1,4 @@
--- All input levels that the limits allow, one key after another.
+-- All input levels that the limits allow, built by adding one key at a time.
 use Rattle.std.proofs.Common.{◌≡◌, ◌<◌, ◌≤◌, ◌+◌, ◌++◌, ◌∙◌, ℕ, zero, suc, Bool, true, false, cond, ◌&&◌, List, [], ◌∷◌, inl, inr, length, take, get_or, slice_index, nat_le, nat_lt, refl, sym, ap, subst, arith, length-append}
 use Rattle.std.proofs.Math.Seq.{take-suc, get_or-append_seam}
 use Rattle.std.proofs.lemmas.Bool.{and_from, and_parts, cases_lt, cases_eq, le-leb, leb-true, lt-ltb, ltb-true}
@@ -174,7 +174,8 @@ module _ (limits : InputLimits) where
       Contains-flat_map_at (with_each_next_key limits i) (levels_of_first_keys limits i) (front_of i l) l front.0 front.1 front.2
       (subst (Contains (with_each_next_key limits i (front_of i l))) (levels-split i l is) (contains-next_level i (front_of i l) x bit (is.keys i) few))
 
-  -- the levels of as many keys as the limits have are all allowed levels of a board with these keys
+  -- if a board has one key for each key level in the limits, `levels_of_first_keys` for all these
+  -- keys lists all levels that the limits allow
   pub are_all_allowed_levels : (b : BoardParts) → key_count b ≡ length limits.keys → AreAllAllowedLevels limits b (levels_of_first_keys limits (length limits.keys))
   are_all_allowed_levels b count = record {
     allowed = λ k d h.

@@ -23,7 +23,7 @@ append-three (x ∷ xs) a b c = ap (λ (ys : List (List Condition)). x ∷ ys) (
 -- ---- the bytes
 
 -- True if the number with the bytes `a`, `b` and `c` is not above the limit with the bytes `x`, `y`
--- and `z`. The bytes are compared in the same way as by the conditions.
+-- and `z`. The bytes are compared as the conditions of `add_limit` compare them.
 abbrev is_within_limit_by_bytes : ℕ → ℕ → ℕ → ℕ → ℕ → ℕ → Bool
 is_within_limit_by_bytes a b c x y z =
     not (not (nat_le 0 a && nat_le a x) && true)

@@ -1,4 +1,4 @@
--- The memory of a machine, and the bytes of a key that hold it.
+-- The memory of a machine, and the bytes of a state vector that hold it.
 use Rattle.std.proofs.Common.{◌≡◌, ◌<◌, ◌≤◌, ◌+◌, ◌*◌, ◌/◌, ◌%◌, ℕ, inl, inr, List, Bool, true, false, cond, length, get_or, Option, Some, None, unwrap_or, nat_lt, slice_index, refl, sym, ◌∙◌, ap, eqb, arith}
 use Rattle.std.proofs.lemmas.Bool.{cases_lt}
 use Rattle.std.proofs.lemmas.List.{ext_get_or, get_or-map, length-map}
@@ -17,11 +17,11 @@ use Rattle.mcs_drive.specs.TrackedMachine.{Observer, TrackedMachine, machine_in,
 use Rattle.mcs_check.specs.declared.cells.Cell.{Cell}
 use Rattle.mcs_check.specs.declared.cells.CellList.{CellList}
 use Rattle.mcs_check.specs.declared.cells.CellList.TheVariants.{RamNibbles, StatusCharacters, RamPorts, RomPorts, BankSrcBytes, Registers, Counters, Chain}
-use Rattle.mcs_check.specs.declared.cells.KeyByte.{KeyByte}
-use Rattle.mcs_check.specs.declared.cells.KeyByte.TheVariants.{One, Pair}
+use Rattle.mcs_check.specs.declared.cells.StateByte.{StateByte}
+use Rattle.mcs_check.specs.declared.cells.StateByte.TheVariants.{One, Pair}
 use Rattle.mcs_check.specs.declared.reading.InputSource.{InputSource}
 use Rattle.mcs_check.specs.declared.reading.InputSource.TheVariants.{NoInput, Port, Test}
-use Rattle.mcs_check.specs.Cells.{first_cell_of, key_byte_value, key_of, max_cell_count, second_cell_of, value_at, values_in_list}
+use Rattle.mcs_check.specs.Cells.{first_cell_of, state_byte_value, vector_of, max_cell_count, second_cell_of, value_at, values_in_list}
 use Rattle.mcs_check.specs.ReadPoints.{Begins, OpReads, Reads, ReadsTestPin}
 use Rattle.mcs_check.specs.Memory.{HasBytesFrom, HasFirstBytes, IsMemoryFrom, KeepsMemory, cycle_writes_memory, is_input, is_memory_byte, is_memory_list, op_writes_memory}
 
@@ -117,7 +117,7 @@ reading-writes_no_memory s NoInput reads is = absurd (cc)
 reading-writes_no_memory s Port reads is = ap cycle_writes_memory (next_op-if_begins (λ op. op ≡ Rdr) s reads) ∙ op_writes_no_memory-if_it_reads reads.op Port reads.is refl
 reading-writes_no_memory s Test reads is = ap cycle_writes_memory (next_op-if_begins ReadsTestPin s reads) ∙ op_writes_no_memory-if_it_reads reads.op Test reads.is refl
 
--- ---- the bytes of a key
+-- ---- the bytes of a state vector
 
 -- the values of a list of the memory are equal in machines with the same memory
 values-equal : (s t : TrackedMachine) (list : CellList) → is_memory_list list ≡ true → KeepsMemory s.1 t.1 → values_in_list t list ≡ values_in_list s list
@@ -133,35 +133,36 @@ values-equal s t (Chain n) is h = absurd (cc)
 value-equal : (s t : TrackedMachine) (c : Cell) → is_memory_list c.list ≡ true → KeepsMemory s.1 t.1 → value_at t c ≡ value_at s c
 value-equal s t c is h = ap (λ (xs : List ℕ). slice_index xs (c.index % max_cell_count c.list)) (values-equal s t c.list is h)
 
-byte-equal : (s t : TrackedMachine) (b : KeyByte) → is_memory_byte b ≡ true → KeepsMemory s.1 t.1 → key_byte_value t b ≡ key_byte_value s b
+byte-equal : (s t : TrackedMachine) (b : StateByte) → is_memory_byte b ≡ true → KeepsMemory s.1 t.1 → state_byte_value t b ≡ state_byte_value s b
 byte-equal s t (One c) is h = value-equal s t c is h
 byte-equal s t (Pair list p) is h =
     ap (λ (n : ℕ). n % 16 * 16 + value_at t (second_cell_of list p) % 16) (value-equal s t (first_cell_of list p) is h)
     ∙ ap (λ (n : ℕ). value_at s (first_cell_of list p) % 16 * 16 + n % 16) (value-equal s t (second_cell_of list p) is h)
 
--- each byte of a machine's key has the value of the layout's byte at the same index
-key-has_bytes : (t : TrackedMachine) (layout : List KeyByte) (key : List ℕ) → key ≡ key_of layout t → (k : ℕ) (d : KeyByte) → k < length layout → slice_index key k ≡ key_byte_value t (get_or layout k d)
-key-has_bytes t layout key e k d l = ap (λ (xs : List ℕ). slice_index xs k) e ∙ get_or-map (key_byte_value t) layout k d 0 l
+-- each byte of a machine's state vector has the value of the layout's byte at the same index
+vector-has_bytes : (t : TrackedMachine) (layout : List StateByte) (vector : List ℕ) → vector ≡ vector_of layout t → (k : ℕ) (d : StateByte) → k < length layout → slice_index vector k ≡ state_byte_value t (get_or layout k d)
+vector-has_bytes t layout vector e k d l = ap (λ (xs : List ℕ). slice_index xs k) e ∙ get_or-map (state_byte_value t) layout k d 0 l
 
--- Suppose that the memory's bytes of `key` and of the key of s are equal, and that s and t have the
--- same memory. Then the memory's bytes of `key` are those of the key of t.
-pub has_bytes_from-if_memory_kept : (s t : TrackedMachine) (layout : List KeyByte) (last key : List ℕ) (front : ℕ) → IsMemoryFrom layout front → last ≡ key_of layout s → KeepsMemory s.1 t.1 →
-    ((k : ℕ) (d : KeyByte) → k < length layout → is_memory_byte (get_or layout k d) ≡ true → slice_index last k ≡ slice_index key k) → HasBytesFrom t layout key front
-has_bytes_from-if_memory_kept s t layout last key front split e h same = λ k d from l.
+-- Suppose that `vector` and the state vector of s have equal bytes for the memory, and that s and t
+-- have the same memory. Then `vector` and the state vector of t have equal bytes for the memory.
+pub has_bytes_from-if_memory_kept : (s t : TrackedMachine) (layout : List StateByte) (last vector : List ℕ) (front : ℕ) → IsMemoryFrom layout front → last ≡ vector_of layout s → KeepsMemory s.1 t.1 →
+    ((k : ℕ) (d : StateByte) → k < length layout → is_memory_byte (get_or layout k d) ≡ true → slice_index last k ≡ slice_index vector k) → HasBytesFrom t layout vector front
+has_bytes_from-if_memory_kept s t layout last vector front split e h same = λ k d from l.
     let is = split.memory k d from l in
-    sym (same k d l is) ∙ key-has_bytes s layout last e k d l ∙ sym (byte-equal s t (get_or layout k d) is h)
+    sym (same k d l is) ∙ vector-has_bytes s layout last e k d l ∙ sym (byte-equal s t (get_or layout k d) is h)
 
--- a key whose first and last bytes are those of the machine's key is the machine's key
-pub key_of_machine-if_all_bytes : (t : TrackedMachine) (layout : List KeyByte) (key : List ℕ) (front : ℕ) → length key ≡ length layout → HasFirstBytes t layout key front → HasBytesFrom t layout key front → key ≡ key_of layout t
-key_of_machine-if_all_bytes t layout key front len first rest =
-    let d : KeyByte = One (record { list = Counters; index = 0 }) in
-    ext_get_or 0 key (key_of layout t) (len ∙ sym (length-map layout (key_byte_value t)))
+-- a list of bytes is the machine's state vector if its first and its last bytes are those of the
+-- machine's state vector
+pub vector_of_machine-if_all_bytes : (t : TrackedMachine) (layout : List StateByte) (vector : List ℕ) (front : ℕ) → length vector ≡ length layout → HasFirstBytes t layout vector front → HasBytesFrom t layout vector front → vector ≡ vector_of layout t
+vector_of_machine-if_all_bytes t layout vector front len first rest =
+    let d : StateByte = One (record { list = Counters; index = 0 }) in
+    ext_get_or 0 vector (vector_of layout t) (len ∙ sym (length-map layout (state_byte_value t)))
     (λ k l. elim (cases_lt k front) [
       | inl below ↦ first k d below
       | inr from ↦ rest k d from (omega arith)
-    ] ∙ sym (get_or-map (key_byte_value t) layout k d 0 (omega arith)))
+    ] ∙ sym (get_or-map (state_byte_value t) layout k d 0 (omega arith)))
 
--- if the first `count` bytes of `key` are those of the machine's key, and `count` is the length of
--- the layout or more, `key` is the machine's key
-pub key_of_machine-if_first_bytes : (t : TrackedMachine) (layout : List KeyByte) (key : List ℕ) (count : ℕ) → length key ≡ length layout → length layout ≤ count → HasFirstBytes t layout key count → key ≡ key_of layout t
-key_of_machine-if_first_bytes t layout key count len all first = key_of_machine-if_all_bytes t layout key count len first (λ k d from l. absurd (omega arith))
+-- if the first `count` bytes of `vector` are those of the machine's state vector, and `count` is
+-- the length of the layout or more, `vector` is the machine's state vector
+pub vector_of_machine-if_first_bytes : (t : TrackedMachine) (layout : List StateByte) (vector : List ℕ) (count : ℕ) → length vector ≡ length layout → length layout ≤ count → HasFirstBytes t layout vector count → vector ≡ vector_of layout t
+vector_of_machine-if_first_bytes t layout vector count len all first = vector_of_machine-if_all_bytes t layout vector count len first (λ k d from l. absurd (omega arith))

@@ -1,4 +1,4 @@
--- Two machines with the same board, ROM bytes and key are equal.
+-- Two machines with the same board, ROM bytes and state vector are equal.
 use Rattle.std.proofs.Common.{◌≡◌, ◌<◌, ◌+◌, ◌*◌, ◌/◌, ◌%◌, ℕ, zero, suc, inl, inr, true, not, List, [], Option, Some, None, is_some, length, get_or, slice_index, slice_index_or, nat_lt, nat_le, refl, sym, ap, ◌∙◌, subst, arith}
 use Rattle.std.specs.List.{Contains}
 use Rattle.std.proofs.Math.Nat.{mod-eq_of_lt}
@@ -15,17 +15,17 @@ use Rattle.mcs_model.proofs.ValidBoardLemmas.{sound}
 use Rattle.mcs_model.specs.Bus.{BusState, chips_of, ram_index, ram_port_index, status_index}
 use Rattle.mcs_model.specs.Validity.{AreBelow, IsValidBus, IsValidRegs}
 use Rattle.mcs_drive.specs.TrackedMachine.{Counts, TrackedMachine}
-use Rattle.mcs_check.specs.declared.cells.KeyByte.{KeyByte}
+use Rattle.mcs_check.specs.declared.cells.StateByte.{StateByte}
 use Rattle.mcs_check.specs.declared.cells.CellList.{CellList}
 use Rattle.mcs_check.specs.declared.cells.CellList.TheVariants.{RamNibbles, StatusCharacters, RamPorts, RomPorts, BankSrcBytes, Registers, Counters, Chain}
-use Rattle.mcs_check.specs.Cells.{key_byte_value, key_byte_of, counters_of, values_in_list, max_cell_count, is_narrow, board_has_cell, key_of, IsComplete}
-use Rattle.mcs_check.specs.Keys.{IsOnBoard}
+use Rattle.mcs_check.specs.Cells.{state_byte_value, state_byte_of, counters_of, values_in_list, max_cell_count, is_narrow, board_has_cell, vector_of, IsComplete}
+use Rattle.mcs_check.specs.StateVectors.{IsOnBoard}
 use Rattle.mcs_check.specs.BusAgreement.{AgreesInChips}
 use Rattle.mcs_check.proofs.Agreeing.{equal_buses-if_they_agree}
 
-equal_key_bytes-if_equal_keys : (s t : TrackedMachine) (layout : List KeyByte) (c : KeyByte) → Contains layout c → key_of layout s ≡ key_of layout t → key_byte_value s c ≡ key_byte_value t c
-equal_key_bytes-if_equal_keys s t layout c h e =
-    ap (key_byte_value s) (sym h.2) ∙ sym (get_or-map (key_byte_value s) layout h.0 c 0 h.1) ∙ ap (λ (xs : List ℕ). get_or xs h.0 0) e ∙ get_or-map (key_byte_value t) layout h.0 c 0 h.1 ∙ ap (key_byte_value t) h.2
+equal_state_bytes-if_equal_vectors : (s t : TrackedMachine) (layout : List StateByte) (c : StateByte) → Contains layout c → vector_of layout s ≡ vector_of layout t → state_byte_value s c ≡ state_byte_value t c
+equal_state_bytes-if_equal_vectors s t layout c h e =
+    ap (state_byte_value s) (sym h.2) ∙ sym (get_or-map (state_byte_value s) layout h.0 c 0 h.1) ∙ ap (λ (xs : List ℕ). get_or xs h.0 0) e ∙ get_or-map (state_byte_value t) layout h.0 c 0 h.1 ∙ ap (state_byte_value t) h.2
 
 -- ---- two cells in a byte
 
@@ -60,8 +60,8 @@ narrow_cell-below_16 t regs bus (Chain n) narrow i = chain_bit-below_16 t n i bu
 equal_nibbles-if_equal_bytes : (a b c d : ℕ) → a < 16 → b < 16 → c < 16 → d < 16 → a % 16 * 16 + b % 16 ≡ c % 16 * 16 + d % 16 → (a ≡ c) × (b ≡ d)
 equal_nibbles-if_equal_bytes a b c d la lb lc ld e = (omega arith, omega arith)
 
--- Suppose that cells `f` and `g` are the pair that contains cell `i`. If their key byte has the
--- same value in two machines, cell `i` also has the same value in both machines.
+-- Suppose that cells `f` and `g` are the pair that contains cell `i`. If their byte in the state
+-- vector has the same value in two machines, cell `i` also has the same value in both machines.
 equal_cells-if_equal_pair_bytes : (s t : TrackedMachine) (list : CellList) (i f g : ℕ) → ((j : ℕ) → slice_index (values_in_list s list) j < 16) → ((j : ℕ) → slice_index (values_in_list t list) j < 16) → f ≡ 2 * (i / 2) → g ≡ 2 * (i / 2) + 1 →
     slice_index (values_in_list s list) f % 16 * 16 + slice_index (values_in_list s list) g % 16 ≡ slice_index (values_in_list t list) f % 16 * 16 + slice_index (values_in_list t list) g % 16 →
     slice_index (values_in_list s list) i ≡ slice_index (values_in_list t list) i
@@ -74,28 +74,28 @@ equal_cells-if_equal_pair_bytes s t list i f g small-s small-t first second e =
 
 -- ---- cells of the chips that the board has
 
-equal_cells-if_equal_key_bytes : (s t : TrackedMachine) → IsValidRegs s.0 → IsValidBus s.1 → IsValidRegs t.0 → IsValidBus t.1 → (list : CellList) (i : ℕ) → i < max_cell_count list → key_byte_value s (key_byte_of list i) ≡ key_byte_value t (key_byte_of list i) → slice_index (values_in_list s list) i ≡ slice_index (values_in_list t list) i
-equal_cells-if_equal_key_bytes s t rs bs rt bt RamNibbles i few e = equal_cells-if_equal_pair_bytes s t RamNibbles i (2 * (i / 2 % 1024) % 2048) ((2 * (i / 2 % 1024) + 1) % 2048) (narrow_cell-below_16 s rs bs RamNibbles refl) (narrow_cell-below_16 t rt bt RamNibbles refl) (omega arith) (omega arith) e
-equal_cells-if_equal_key_bytes s t rs bs rt bt StatusCharacters i few e = equal_cells-if_equal_pair_bytes s t StatusCharacters i (2 * (i / 2 % 1024) % 512) ((2 * (i / 2 % 1024) + 1) % 512) (narrow_cell-below_16 s rs bs StatusCharacters refl) (narrow_cell-below_16 t rt bt StatusCharacters refl) (omega arith) (omega arith) e
-equal_cells-if_equal_key_bytes s t rs bs rt bt RamPorts i few e = equal_cells-if_equal_pair_bytes s t RamPorts i (2 * (i / 2 % 1024) % 32) ((2 * (i / 2 % 1024) + 1) % 32) (narrow_cell-below_16 s rs bs RamPorts refl) (narrow_cell-below_16 t rt bt RamPorts refl) (omega arith) (omega arith) e
-equal_cells-if_equal_key_bytes s t rs bs rt bt RomPorts i few e = equal_cells-if_equal_pair_bytes s t RomPorts i (2 * (i / 2 % 1024) % 16) ((2 * (i / 2 % 1024) + 1) % 16) (narrow_cell-below_16 s rs bs RomPorts refl) (narrow_cell-below_16 t rt bt RomPorts refl) (omega arith) (omega arith) e
-equal_cells-if_equal_key_bytes s t rs bs rt bt Registers i few e = equal_cells-if_equal_pair_bytes s t Registers i (2 * (i / 2 % 1024) % 16) ((2 * (i / 2 % 1024) + 1) % 16) (narrow_cell-below_16 s rs bs Registers refl) (narrow_cell-below_16 t rt bt Registers refl) (omega arith) (omega arith) e
-equal_cells-if_equal_key_bytes s t rs bs rt bt (Chain n) i few e = equal_cells-if_equal_pair_bytes s t (Chain n) i (2 * (i / 2 % 1024) % 256) ((2 * (i / 2 % 1024) + 1) % 256) (narrow_cell-below_16 s rs bs (Chain n) refl) (narrow_cell-below_16 t rt bt (Chain n) refl) (omega arith) (omega arith) e
-equal_cells-if_equal_key_bytes s t rs bs rt bt BankSrcBytes i few e =
+equal_cells-if_equal_state_bytes : (s t : TrackedMachine) → IsValidRegs s.0 → IsValidBus s.1 → IsValidRegs t.0 → IsValidBus t.1 → (list : CellList) (i : ℕ) → i < max_cell_count list → state_byte_value s (state_byte_of list i) ≡ state_byte_value t (state_byte_of list i) → slice_index (values_in_list s list) i ≡ slice_index (values_in_list t list) i
+equal_cells-if_equal_state_bytes s t rs bs rt bt RamNibbles i few e = equal_cells-if_equal_pair_bytes s t RamNibbles i (2 * (i / 2 % 1024) % 2048) ((2 * (i / 2 % 1024) + 1) % 2048) (narrow_cell-below_16 s rs bs RamNibbles refl) (narrow_cell-below_16 t rt bt RamNibbles refl) (omega arith) (omega arith) e
+equal_cells-if_equal_state_bytes s t rs bs rt bt StatusCharacters i few e = equal_cells-if_equal_pair_bytes s t StatusCharacters i (2 * (i / 2 % 1024) % 512) ((2 * (i / 2 % 1024) + 1) % 512) (narrow_cell-below_16 s rs bs StatusCharacters refl) (narrow_cell-below_16 t rt bt StatusCharacters refl) (omega arith) (omega arith) e
+equal_cells-if_equal_state_bytes s t rs bs rt bt RamPorts i few e = equal_cells-if_equal_pair_bytes s t RamPorts i (2 * (i / 2 % 1024) % 32) ((2 * (i / 2 % 1024) + 1) % 32) (narrow_cell-below_16 s rs bs RamPorts refl) (narrow_cell-below_16 t rt bt RamPorts refl) (omega arith) (omega arith) e
+equal_cells-if_equal_state_bytes s t rs bs rt bt RomPorts i few e = equal_cells-if_equal_pair_bytes s t RomPorts i (2 * (i / 2 % 1024) % 16) ((2 * (i / 2 % 1024) + 1) % 16) (narrow_cell-below_16 s rs bs RomPorts refl) (narrow_cell-below_16 t rt bt RomPorts refl) (omega arith) (omega arith) e
+equal_cells-if_equal_state_bytes s t rs bs rt bt Registers i few e = equal_cells-if_equal_pair_bytes s t Registers i (2 * (i / 2 % 1024) % 16) ((2 * (i / 2 % 1024) + 1) % 16) (narrow_cell-below_16 s rs bs Registers refl) (narrow_cell-below_16 t rt bt Registers refl) (omega arith) (omega arith) e
+equal_cells-if_equal_state_bytes s t rs bs rt bt (Chain n) i few e = equal_cells-if_equal_pair_bytes s t (Chain n) i (2 * (i / 2 % 1024) % 256) ((2 * (i / 2 % 1024) + 1) % 256) (narrow_cell-below_16 s rs bs (Chain n) refl) (narrow_cell-below_16 t rt bt (Chain n) refl) (omega arith) (omega arith) e
+equal_cells-if_equal_state_bytes s t rs bs rt bt BankSrcBytes i few e =
     let at : i % 8 ≡ i = mod-eq_of_lt few in
     ap (slice_index (values_in_list s BankSrcBytes)) (sym at) ∙ e ∙ ap (slice_index (values_in_list t BankSrcBytes)) at
-equal_cells-if_equal_key_bytes s t rs bs rt bt Counters i few e =
+equal_cells-if_equal_state_bytes s t rs bs rt bt Counters i few e =
     let at : i % 18 ≡ i = mod-eq_of_lt few in
     ap (slice_index (values_in_list s Counters)) (sym at) ∙ e ∙ ap (slice_index (values_in_list t Counters)) at
 
-equal_cells-if_equal_keys : (b : BoardParts) (rom levels : List ℕ) (s t : TrackedMachine) (layout : List KeyByte) → IsOnBoard b rom levels s → IsOnBoard b rom levels t → IsComplete s.1.board layout → key_of layout s ≡ key_of layout t → (list : CellList) (i : ℕ) → i < max_cell_count list → board_has_cell s.1.board list i ≡ true → slice_index (values_in_list s list) i ≡ slice_index (values_in_list t list) i
-equal_cells-if_equal_keys b rom levels s t layout on-s on-t whole e list i few there =
-    equal_cells-if_equal_key_bytes s t on-s.registers on-s.bus on-t.registers on-t.bus list i few (equal_key_bytes-if_equal_keys s t layout (key_byte_of list i) (whole list i few there) e)
+equal_cells-if_equal_vectors : (b : BoardParts) (rom levels : List ℕ) (s t : TrackedMachine) (layout : List StateByte) → IsOnBoard b rom levels s → IsOnBoard b rom levels t → IsComplete s.1.board layout → vector_of layout s ≡ vector_of layout t → (list : CellList) (i : ℕ) → i < max_cell_count list → board_has_cell s.1.board list i ≡ true → slice_index (values_in_list s list) i ≡ slice_index (values_in_list t list) i
+equal_cells-if_equal_vectors b rom levels s t layout on-s on-t whole e list i few there =
+    equal_cells-if_equal_state_bytes s t on-s.registers on-s.bus on-t.registers on-t.bus list i few (equal_state_bytes-if_equal_vectors s t layout (state_byte_of list i) (whole list i few there) e)
 
 equal_lists-if_equal_numbers : (xs ys : List ℕ) (n : ℕ) → length xs ≡ n → length ys ≡ n → ((i : ℕ) → i < n → slice_index xs i ≡ slice_index ys i) → xs ≡ ys
 equal_lists-if_equal_numbers xs ys n lx ly h = ext_get_or 0 xs ys (lx ∙ sym ly) (λ i l. h i (omega arith))
 
--- if item `i` of a list is above some number `n`, `i` is below the length of the list
+-- if item `i` of a list is above some number, `i` is below the length of the list
 index-in-list : (xs : List ℕ) (i n : ℕ) → n < slice_index xs i → i < length xs
 index-in-list xs i n h =
     elim (cases_lt i (length xs)) [
@@ -180,10 +180,10 @@ board_has_cell-of_ram_port b bank chip small there =
 
 -- ---- the machine
 
-pub equal_machines-if_equal_keys : (b : BoardParts) (rom levels : List ℕ) (layout : List KeyByte) (s t : TrackedMachine) → IsComplete b layout → IsOnBoard b rom levels s → IsOnBoard b rom levels t → key_of layout s ≡ key_of layout t → s ≡ t
-equal_machines-if_equal_keys b rom levels layout s t complete on-s on-t e =
+pub equal_machines-if_equal_vectors : (b : BoardParts) (rom levels : List ℕ) (layout : List StateByte) (s t : TrackedMachine) → IsComplete b layout → IsOnBoard b rom levels s → IsOnBoard b rom levels t → vector_of layout s ≡ vector_of layout t → s ≡ t
+equal_machines-if_equal_vectors b rom levels layout s t complete on-s on-t e =
     let whole : IsComplete s.1.board layout = subst (λ (d : BoardParts). IsComplete d layout) (sym on-s.board) complete in
-    let n : (list : CellList) (i : ℕ) → i < max_cell_count list → board_has_cell s.1.board list i ≡ true → slice_index (values_in_list s list) i ≡ slice_index (values_in_list t list) i = equal_cells-if_equal_keys b rom levels s t layout on-s on-t whole e in
+    let n : (list : CellList) (i : ℕ) → i < max_cell_count list → board_has_cell s.1.board list i ≡ true → slice_index (values_in_list s list) i ≡ slice_index (values_in_list t list) i = equal_cells-if_equal_vectors b rom levels s t layout on-s on-t whole e in
     let k : (i : ℕ) → i < 18 → slice_index (counters_of s.0 s.1.rom_src s.2) i ≡ slice_index (counters_of t.0 t.1.rom_src t.2) i = λ i h. n Counters i h refl in
     let board : s.1.board ≡ t.1.board = on-s.board ∙ sym on-t.board in
     let banks : length s.1.board.banks ≡ 8 = on-s.bus.board.sized.banks in

@@ -1,4 +1,4 @@
--- A test that is applied to the numbers of a range, one at a time.
+-- Tests of the numbers of a range, one number at a time.
 use Rattle.std.proofs.Common.{◌≡◌, ◌<◌, ◌+◌, ℕ, true, false, [], ◌∷◌, Bool, get_or, refl, ap, ◌∙◌, arith, add-one}
 use Rattle.std.specs.List.{list_any, range_with_len}
 use Rattle.std.proofs.lemmas.Bool.{or_from}

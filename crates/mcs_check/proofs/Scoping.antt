@@ -254,7 +254,7 @@ meets_none_without_mistakes-after_cycle w c never_lists s t has unseen stopped r
 
 -- ---- the condition of an observer before and after a cycle
 
--- no cycle makes a mistake in a scope that includes no mistakes
+-- if a scope includes no mistakes, `makes_mistake_in_scope` is false
 no_mistake_in_scope-if_not_included : (c : Scope) (t : TrackedMachine) → not c.mistakes ≡ true → makes_mistake_in_scope c t ≡ false
 no_mistake_in_scope-if_not_included c t none = and_left c.mistakes (cycle_makes_mistake all_mistakes t) (not-true c.mistakes none)
 
@@ -281,12 +281,13 @@ condition_holds-unchanged_by_cycle a c s t covers unseen stopped rest e =
 
 -- ---- the beginning of an observer's stopwatch
 
--- holds if the stopwatch begins either at both or at none of two machines that agree in the scope
+-- holds if, for any two machines that agree in the scope, the stopwatch begins at both or at
+-- neither
 abbrev pub IsBeginningCovered : Observer → Scope → Type 0
 IsBeginningCovered w c = (s t : TrackedMachine) → AgreesInScope c s t → begins_at w s ≡ begins_at w t
 
--- this is so if nothing begins the stopwatch, or if the scope covers the conditions that begin it
--- and includes no mistakes
+-- `IsBeginningCovered` holds if nothing begins the stopwatch, or if the scope covers the conditions
+-- that begin it and includes no mistakes
 pub beginning-covered : (a : PropertyConditions) (c : Scope) → (a.begins ≡ []) ⊎ ((not c.mistakes && has_all_lists c a.begins) ≡ true) → IsBeginningCovered (observer_of_property a) c
 beginning-covered a c (inl none) s t same = ap (λ (lists : List (List Condition)). not (meets_none lists (without_levels s))) none ∙ ap (λ (lists : List (List Condition)). not (meets_none lists (without_levels t))) (sym none)
 beginning-covered a c (inr covers) s t same =

@@ -1,4 +1,4 @@
--- Suppose that the keys that a search with spaced inputs found are a closure. The property then
+-- Suppose that the state vectors that the search by levels found are a closure. The property then
 -- holds for all inputs whose changes are far enough apart, and whose keys stay down for a limited
 -- time.
 use Rattle.std.proofs.Common.{◌≡◌, ◌≢◌, ◌⊎◌, ◌<◌, ◌≤◌, ◌+◌, ◌-◌, ◌*◌, ℕ, zero, suc, min, List, [], ◌∷◌, Bool, true, false, Option, Some, None, unwrap_or, inl, inr, length, nat_le, nat_lt, slice_index, refl, sym, ap, ◌∙◌, subst, arith, eqb, ◌==◌, ◌&&◌, ◌||◌}
@@ -14,12 +14,12 @@ use Rattle.mcs_drive.specs.DrivenRuns.{AreAllowed, AreInputsAllowed, AreReleased
 use Rattle.mcs_drive.specs.TrackedMachine.{Observer, TrackedMachine, Holds}
 use Rattle.mcs_drive.specs.RunsBetweenReads.{IgnoresLevels}
 use Rattle.mcs_drive.proofs.ReadPoints.{IsClosedAlong, LeadsAlong, holds-along, leads-board}
-use Rattle.mcs_search.specs.Rules.{IsFollowed, LeadsInto, Closure}
+use Rattle.mcs_search.specs.Rules.{IsExpanded, LeadsInto, Closure}
 use Rattle.mcs_check.specs.declared.spacing.Spacing.{Spacing}
 use Rattle.mcs_check.specs.declared.spacing.TheConstants.{NO_LEVELS}
 use Rattle.mcs_check.specs.Conditions.{observer_of_property}
-use Rattle.mcs_check.specs.Keys.{IsKeyOf, property_of}
-use Rattle.mcs_check.specs.SpacedInputs.{RunsToSpacedKey, SpacedSetting, age_at_begin, can_begin_at, down_after, down_at_begin, has_key_down, have_same_keys, held_allows, machine_key, spaced_rules, spacing_after, spacing_of_key, wait_allows}
+use Rattle.mcs_check.specs.StateVectors.{IsVectorOf, property_of}
+use Rattle.mcs_check.specs.SpacedInputs.{RunsToTimedVector, SpacedSetting, age_at_begin, can_begin_at, down_after, down_at_begin, has_key_down, have_same_key_levels, held_allows, machine_vector, spaced_rules, spacing_after, spacing_of_vector, wait_allows}
 
 -- ---- changes
 
@@ -35,7 +35,7 @@ levels-tell l m =
       | inr differ ↦ inr (λ e. not_from_Decides (bytes_eq l.keys m.keys) (bytes_eq-Decides l.keys m.keys) differ (ap (λ (x : Levels). x.keys) e))
     ]
 
--- a change to other levels, between a moment and a later one
+-- a change of the levels at moment `k`, after moment `a` and not after moment `b`
 record IsChangeBetween (f : ℕ → Levels) (a b k : ℕ) : Type 0 where
   after : a < k
   by : k ≤ b
@@ -57,15 +57,15 @@ change-between f a (suc b) less differ =
       ]
     ]
 
--- Holds if the keys are at the same levels at moment `n` as at the `cycles` moments before it. These
--- moments are not before moment 0.
+-- Holds if the keys are at the same levels at moment `n` as at the `cycles` moments before it.
+-- These moments are not before moment 0.
 abbrev IsSteady : (ℕ → Levels) → ℕ → ℕ → Type 0
 IsSteady f n cycles = (cycles ≤ n) × ((m : ℕ) → m ≤ n → n ≤ m + cycles → (f m).keys ≡ (f n).keys)
 
 steady-now : (f : ℕ → Levels) (n : ℕ) → IsSteady f n 0
 steady-now f n = (omega arith, λ m by near. (let at : m ≡ n = omega arith in ap (λ (k : ℕ). (f k).keys) at))
 
--- the keys either are at the same levels in both, or are not
+-- the key levels in `l` and `m` are either equal or different
 keys-tell : (l m : Levels) → (l.keys ≡ m.keys) ⊎ (l.keys ≢ m.keys)
 keys-tell l m =
     elim (cases_Bool (bytes_eq l.keys m.keys)) [
@@ -94,7 +94,7 @@ record IsSinceStep (wait : ℕ) (levels : List Levels) (f : ℕ → Levels) (n :
   steady : (f n).keys ≡ (f moment).keys → IsSteady f n s.down
   pressed : 1 ≤ s.down → 1 ≤ sum (f moment).keys
 
--- the same, or no step was made yet
+-- holds if no step was made yet, or if `IsSinceStep` holds
 abbrev IsRemembered : ℕ → List Levels → (ℕ → Levels) → ℕ → Spacing → Type 0
 IsRemembered wait levels f n s = (s.last ≡ NO_LEVELS) ⊎ IsSinceStep wait levels f n s
 
@@ -106,7 +106,7 @@ record IsFollowedBy (wait held : ℕ) (levels : List Levels) (f : ℕ → Levels
   late : (m : ℕ) → n < m → f m ≢ f n → n + wait ≤ m + age_at_begin wait s d
   steady : IsSteady f n (down_at_begin levels s d)
 
--- the levels with two indices have the same keys iff the keys are equal
+-- the levels at two indices have the same key levels if and only if their lists `keys` are equal
 keys-compared-when : (o p : Option Levels) (l m : Levels) → o ≡ Some l → p ≡ Some m →
     elim o as (λ _. Bool) [ Some x ↦ elim p as (λ _. Bool) [ Some y ↦ bytes_eq x.keys y.keys | None ↦ false ] | None ↦ false ] ≡ bytes_eq l.keys m.keys
 keys-compared-when o p l m first second = rw (first, second) refl
@@ -118,8 +118,8 @@ module _ (wait held : ℕ) (levels : List Levels) (f : ℕ → Levels) (spaced :
   later-age n m age cycles near =
       elim (cases_lt (age + cycles) (2 * wait)) [ inl below ↦ inl (omega arith) | inr past ↦ inr (omega arith) ]
 
-  -- if the keys are at the same levels at two moments at most `wait` cycles apart, they do not change
-  -- between these moments
+  -- if the keys are at the same levels at two moments at most `wait` cycles apart, they do not
+  -- change between these moments
   same-between : (n k m : ℕ) → k ≤ n + wait → (f k).keys ≡ (f n).keys → n < m → m ≤ k → (f m).keys ≡ (f n).keys
   same-between n k m short back after by =
       elim (keys-tell (f m) (f n)) [
@@ -216,23 +216,24 @@ module _ (wait held : ℕ) (levels : List Levels) (f : ℕ → Levels) (spaced :
   first-down : (s : Spacing) (d : ℕ) → eqb s.last NO_LEVELS ≡ true → down_at_begin levels s d ≡ 0
   first-down s d first = rw first refl
 
-  same-down : (s : Spacing) (d : ℕ) → eqb s.last NO_LEVELS ≡ false → have_same_keys levels s.last d ≡ true → down_at_begin levels s d ≡ s.down
+  same-down : (s : Spacing) (d : ℕ) → eqb s.last NO_LEVELS ≡ false → have_same_key_levels levels s.last d ≡ true → down_at_begin levels s d ≡ s.down
   same-down s d stepped same = rw (stepped, same) refl
 
-  other-down : (s : Spacing) (d : ℕ) → eqb s.last NO_LEVELS ≡ false → have_same_keys levels s.last d ≡ false → down_at_begin levels s d ≡ 0
+  other-down : (s : Spacing) (d : ℕ) → eqb s.last NO_LEVELS ≡ false → have_same_key_levels levels s.last d ≡ false → down_at_begin levels s d ≡ 0
   other-down s d stepped other = rw (stepped, other) refl
 
-  keys-compared : (i j : ℕ) (l m : Levels) → slice_get levels i ≡ Some l → slice_get levels j ≡ Some m → have_same_keys levels i j ≡ bytes_eq l.keys m.keys
+  keys-compared : (i j : ℕ) (l m : Levels) → slice_get levels i ≡ Some l → slice_get levels j ≡ Some m → have_same_key_levels levels i j ≡ bytes_eq l.keys m.keys
   keys-compared i j l m at_i at_j = keys-compared-when (slice_get levels i) (slice_get levels j) l m at_i at_j
 
-  -- two indices with the same keys have levels with the same keys
-  keys-equal : (i j : ℕ) (l m : Levels) → slice_get levels i ≡ Some l → slice_get levels j ≡ Some m → have_same_keys levels i j ≡ true → l.keys ≡ m.keys
+  -- if the levels at two indices have the same key levels, their lists `keys` are equal
+  keys-equal : (i j : ℕ) (l m : Levels) → slice_get levels i ≡ Some l → slice_get levels j ≡ Some m → have_same_key_levels levels i j ≡ true → l.keys ≡ m.keys
   keys-equal i j l m at_i at_j same = (bytes_eq-Decides l.keys m.keys).0 (sym (keys-compared i j l m at_i at_j) ∙ same)
 
-  -- the keys have been steady for as long as the search counts, and if it counts, a key is down
+  -- the keys have stayed at their levels for `down_at_begin` cycles, and if this number is above 0,
+  -- a key is down
   steady-at_begin : (n : ℕ) (s : Spacing) (d : ℕ) → eqb s.last NO_LEVELS ≡ false → slice_get levels d ≡ Some (f n) → IsSinceStep wait levels f n s → IsSteady f n (down_at_begin levels s d) × (1 ≤ down_at_begin levels s d → 1 ≤ sum (f n).keys)
   steady-at_begin n s d stepped is since =
-      elim (cases_Bool (have_same_keys levels s.last d)) [
+      elim (cases_Bool (have_same_key_levels levels s.last d)) [
         | inl same ↦
             let count = same-down s d stepped same in
             let keys : (f since.moment).keys ≡ (f n).keys = keys-equal s.last d (f since.moment) (f n) since.same is same in (
@@ -251,7 +252,7 @@ module _ (wait held : ℕ) (levels : List Levels) (f : ℕ → Levels) (spaced :
   can-begin : (n : ℕ) (s : Spacing) (d : ℕ) → wait_allows wait s d ≡ true → IsSteady f n (down_at_begin levels s d) → (1 ≤ down_at_begin levels s d → 1 ≤ sum (f n).keys) → can_begin_at wait held levels s d ≡ true
   can-begin n s d changed steady pressed = and_from (wait_allows wait s d) (held_allows held levels s d) changed (held-allows n s d steady pressed)
 
-  -- the same if no key is known to have been down
+  -- neither limit prevents a step at these levels, if no key is known to have been down
   can-begin-up : (n : ℕ) (s : Spacing) (d : ℕ) → wait_allows wait s d ≡ true → down_at_begin levels s d ≡ 0 → can_begin_at wait held levels s d ≡ true
   can-begin-up n s d changed none = can-begin n s d changed (subst (IsSteady f n) (sym none) (steady-now f n)) (λ some. absurd (omega arith))
 
@@ -328,7 +329,7 @@ module _ (wait held : ℕ) (levels : List Levels) (f : ℕ → Levels) (spaced :
         ]
       ]
 
--- ---- a run along the keys of a closure
+-- ---- a run along the state vectors of a closure
 
 module _ (h : SpacedSetting) where
   abbrev observer : Observer
@@ -337,62 +338,63 @@ module _ (h : SpacedSetting) where
   abbrev property : TrackedMachine → Bool
   property = property_of h.machines
 
-  -- holds if one of these keys identifies the machine, and remembers the inputs `f` at moment `n`
-  record IsReached (keys : List (List ℕ)) (b : BoardParts) (f : ℕ → Levels) (n : ℕ) (a : TrackedMachine) : Type 0 where
-    key : List ℕ
-    found : Contains keys key
-    is : IsKeyOf h.machines (machine_key h key) a
-    remembers : IsRemembered h.wait h.levels f n (spacing_of_key h key)
+  -- holds if a state vector in the list identifies the machine and remembers the inputs `f` at
+  -- moment `n`
+  record IsReached (vectors : List (List ℕ)) (b : BoardParts) (f : ℕ → Levels) (n : ℕ) (a : TrackedMachine) : Type 0 where
+    vector : List ℕ
+    found : Contains vectors vector
+    is : IsVectorOf h.machines (machine_vector h vector) a
+    remembers : IsRemembered h.wait h.levels f n (spacing_of_vector h vector)
     board : a.1.board ≡ b
 
-  module _ (keys : List (List ℕ)) (b : BoardParts) (f : ℕ → Levels) (allowed : AreInputsAllowed h.machines.limits b f) (apart : h.wait ≤ h.machines.limits.wait) where
+  module _ (vectors : List (List ℕ)) (b : BoardParts) (f : ℕ → Levels) (allowed : AreInputsAllowed h.machines.limits b f) (apart : h.wait ≤ h.machines.limits.wait) where
     abbrev held : ℕ
     held = h.machines.limits.held
 
     spaced-by_wait : (i j : ℕ) → i < j → Changes f i → Changes f j → i + h.wait ≤ j
     spaced-by_wait i j less first second = (let far = allowed.spaced i j less first second in omega arith)
 
-    arrive : (n : ℕ) (a : TrackedMachine) (at : IsReached keys b f n a) (d : ℕ) (next : List ℕ) → IsFollowedBy h.wait held h.levels f n (spacing_of_key h at.key) d → RunsToSpacedKey h at.key d next a → Contains keys next →
-        LeadsAlong observer property (IsReached keys b f) n a (f n)
+    arrive : (n : ℕ) (a : TrackedMachine) (at : IsReached vectors b f n a) (d : ℕ) (next : List ℕ) → IsFollowedBy h.wait held h.levels f n (spacing_of_vector h at.vector) d → RunsToTimedVector h at.vector d next a → Contains vectors next →
+        LeadsAlong observer property (IsReached vectors b f) n a (f n)
     arrive n a at d next choice step found =
         let fits = subst (λ (x : BoardParts). FitsBoard x (f n)) (sym at.board) (allowed.levels n).fits in
         let run = step.run (f n) fits choice.is in
         let counted = run.1 in
-        let remembered : IsRemembered h.wait h.levels f (n + step.cycles) (spacing_of_key h next) =
+        let remembered : IsRemembered h.wait h.levels f (n + step.cycles) (spacing_of_vector h next) =
         subst (IsRemembered h.wait h.levels f (n + step.cycles)) (sym (step.spacing (f n) choice.is))
-        (remembered-after_step h.wait held h.levels f spaced-by_wait allowed.released n step.cycles (spacing_of_key h at.key) d (omega arith) choice) in (
+        (remembered-after_step h.wait held h.levels f spaced-by_wait allowed.released n step.cycles (spacing_of_vector h at.vector) d (omega arith) choice) in (
           step.to,
           run.0,
           record {
-            key = next;
+            vector = next;
             found = found;
             is = step.is;
-            remembers = subst (λ (cycles : ℕ). IsRemembered h.wait h.levels f (n + cycles) (spacing_of_key h next)) counted remembered;
+            remembers = subst (λ (cycles : ℕ). IsRemembered h.wait h.levels f (n + cycles) (spacing_of_vector h next)) counted remembered;
             board = leads-board observer property a step.to (f n) run.0 ∙ at.board;
           },
         )
 
-    module _ (followed : All (IsFollowed (spaced_rules h) keys) keys) (all : (l : Levels) → AreAllowed h.machines.limits b l → Contains h.levels l) where
-      leads-on : (n : ℕ) (a : TrackedMachine) → IsReached keys b f n a → LeadsAlong observer property (IsReached keys b f) n a (f n)
+    module _ (expanded : All (IsExpanded (spaced_rules h) vectors) vectors) (all : (l : Levels) → AreAllowed h.machines.limits b l → Contains h.levels l) where
+      leads-on : (n : ℕ) (a : TrackedMachine) → IsReached vectors b f n a → LeadsAlong observer property (IsReached vectors b f) n a (f n)
       leads-on n a at =
           let rules = spaced_rules h in
-          let here = All-contains (IsFollowed rules keys) keys at.key followed at.found in
-          let choice = choice-for h.wait held h.levels f spaced-by_wait allowed.released n (spacing_of_key h at.key) (all (f n) (allowed.levels n)) at.remembers in
-          let to = All-contains (LeadsInto rules keys at.key) here.0 choice.0 here.2 (here.1 choice.0 choice.1.within choice.1.can) in
+          let here = All-contains (IsExpanded rules vectors) vectors at.vector expanded at.found in
+          let choice = choice-for h.wait held h.levels f spaced-by_wait allowed.released n (spacing_of_vector h at.vector) (all (f n) (allowed.levels n)) at.remembers in
+          let to = All-contains (LeadsInto rules vectors at.vector) here.0 choice.0 here.2 (here.1 choice.0 choice.1.within choice.1.can) in
           arrive n a at choice.0 to.0 choice.1 (to.1 a at.is) to.2
 
-  -- If the keys that a search found are a closure, the property holds for the machine that the
-  -- start key identifies, before its first step. `levels` must contain all levels within the
-  -- limits, and `wait` must not be above its limit.
+  -- If the state vectors that a search found are a closure, the property holds for the machine that
+  -- the start state vector identifies, before its first step. `levels` must contain all levels
+  -- within the limits, and `wait` must not be above its limit.
   pub property_holds-if_spaced_search_is_closed : (start : List ℕ) (n : ℕ) (a : TrackedMachine) → IgnoresLevels property → h.wait ≤ h.machines.limits.wait →
       ((l : Levels) → AreAllowed h.machines.limits a.1.board l → Contains h.levels l) → Closure (spaced_rules h) start n →
-      IsKeyOf h.machines (machine_key h start) a → (spacing_of_key h start).last ≡ NO_LEVELS → Holds h.machines.limits observer property a
+      IsVectorOf h.machines (machine_vector h start) a → (spacing_of_vector h start).last ≡ NO_LEVELS → Holds h.machines.limits observer property a
   property_holds-if_spaced_search_is_closed start n a ignores apart all closure is none = λ f allowed k.
-      let R = IsReached closure.keys a.1.board f in
+      let R = IsReached closure.states a.1.board f in
       let closed : IsClosedAlong observer f property R = record {
         ignores = ignores;
         sound = λ m b at. at.is.on.bus.board.valid;
         property_holds = λ m b at. at.is.property_holds;
-        leads = leads-on closure.keys a.1.board f allowed apart closure.followed all;
+        leads = leads-on closure.states a.1.board f allowed apart closure.expanded all;
       } in
-      holds-along observer f property R closed a (record { key = start; found = closure.contains_start; is = is; remembers = inl none; board = refl }) k
+      holds-along observer f property R closed a (record { vector = start; found = closure.contains_start; is = is; remembers = inl none; board = refl }) k

@@ -120,7 +120,8 @@ module _ (w : Observer) where
   middle-same : (c : Scope) (s : TrackedMachine) (r v : ℕ) → has_register c r ≡ false → AgreesInScope c s (within_pass r v s)
   middle-same c s r v unseen = record { seen = refl; elapsed = refl; registers = λ i seen. register_unchanged-by_set_outside_scope c s.0.r r i v unseen seen; chips = λ seen. refl }
 
-  -- the observer is idle at a machine that has the same counts and agrees in a scope
+  -- if an observer is idle at one of two machines that have the same counts and agree in a scope,
+  -- the observer is idle at both
   idle-if_agrees : (c : Scope) (s t : TrackedMachine) → IsBeginningCovered w c → AgreesInScope c s t → IsObserverIdle w s → IsObserverIdle w t
   idle-if_agrees c s t beginning same still = record {
     stopwatch_at_zero = same.elapsed ∙ still.stopwatch_at_zero;

@@ -4,42 +4,43 @@ use Rattle.mcs_model.specs.Boards.{board_fault_of}
 use Rattle.mcs_model.specs.Validity.{IsValidBus, IsValidRegs}
 use Rattle.mcs_model.specs.Bus.{BusState}
 use Rattle.mcs_drive.specs.DrivenRuns.{FitsBoard, Levels}
-use Rattle.mcs_drive.specs.TrackedMachine.{Observer, TrackedMachine, answer}
+use Rattle.mcs_drive.specs.TrackedMachine.{Observer, TrackedMachine, value_read}
 use Rattle.mcs_drive.specs.RunsBetweenReads.{IgnoresLevels}
-use Rattle.mcs_check.specs.Cells.{IsComplete, key_of}
+use Rattle.mcs_check.specs.Cells.{IsComplete, vector_of}
 use Rattle.mcs_check.specs.Conditions.{observer_of_property}
-use Rattle.mcs_check.specs.Keys.{Setting, IsOnBoard, IsKeyOf, KeepsBoardAndInputs, property_of}
+use Rattle.mcs_check.specs.StateVectors.{Setting, IsOnBoard, IsVectorOf, KeepsBoardAndInputs, property_of}
 use Rattle.mcs_check.specs.ReadPoints.{CannotRead, HasRead, Reaches}
 use Rattle.mcs_check.specs.MachineRules.{LeadsToIn}
 use Rattle.mcs_check.specs.SearchStep.{LeadsIn, ReadsAt}
 use Rattle.mcs_check.specs.SearchRules.{Covers}
 use Rattle.std.specs.List.{Contains}
-use Rattle.mcs_check.proofs.Packed.{equal_machines-if_equal_keys}
-use Rattle.mcs_check.proofs.ValuesRead.{answer-lt, leads_to-if_read_and_reached}
+use Rattle.mcs_check.proofs.Packed.{equal_machines-if_equal_vectors}
+use Rattle.mcs_check.proofs.ValuesRead.{value_read-lt, leads_to-if_read_and_reached}
 
--- a machine on this board with the key `key` equals the machine that `key` identifies
-key-machine-unique : (g : Setting) (key : List ℕ) (m a : TrackedMachine) → IsComplete g.board g.layout → IsOnBoard g.board g.rom g.limits.keys m → key ≡ key_of g.layout m → IsKeyOf g key a → m ≡ a
-key-machine-unique g key m a complete on is h = equal_machines-if_equal_keys g.board g.rom g.limits.keys g.layout m a complete on h.on (sym is ∙ h.cells)
+-- a machine on this board whose state vector is `vector` equals each machine that `vector`
+-- identifies
+vector-machine-unique : (g : Setting) (vector : List ℕ) (m a : TrackedMachine) → IsComplete g.board g.layout → IsOnBoard g.board g.rom g.limits.keys m → vector ≡ vector_of g.layout m → IsVectorOf g vector a → m ≡ a
+vector-machine-unique g vector m a complete on is h = equal_machines-if_equal_vectors g.board g.rom g.limits.keys g.layout m a complete on h.on (sym is ∙ h.cells)
 
-leads_to-by_read_and_run : (g : Setting) (next : List ℕ) (value cycles : ℕ) (m x n : TrackedMachine) → IgnoresLevels (property_of g) → board_fault_of m.1.board ≡ None → HasRead (observer_of_property g.property) value m x → Reaches (observer_of_property g.property) (property_of g) cycles x n → IsKeyOf g next n →
-    (b : TrackedMachine) × IsKeyOf g next b × ((l : Levels) → FitsBoard m.1.board l → answer l m ≡ value → LeadsToIn (observer_of_property g.property) (property_of g) (suc cycles) m b l)
+leads_to-by_read_and_run : (g : Setting) (next : List ℕ) (value cycles : ℕ) (m x n : TrackedMachine) → IgnoresLevels (property_of g) → board_fault_of m.1.board ≡ None → HasRead (observer_of_property g.property) value m x → Reaches (observer_of_property g.property) (property_of g) cycles x n → IsVectorOf g next n →
+    (b : TrackedMachine) × IsVectorOf g next b × ((l : Levels) → FitsBoard m.1.board l → value_read l m ≡ value → LeadsToIn (observer_of_property g.property) (property_of g) (suc cycles) m b l)
 leads_to-by_read_and_run g next value cycles m x n ignores sound read reaches is = (n, is, λ l fit e. leads_to-if_read_and_reached (observer_of_property g.property) (property_of g) cycles m x n l ignores sound (read l fit e) reaches)
 
-pub leads-by_read_and_run : (g : Setting) (key next : List ℕ) (value cycles : ℕ) (m x n : TrackedMachine) → IgnoresLevels (property_of g) → IsComplete g.board g.layout → IsOnBoard g.board g.rom g.limits.keys m → key ≡ key_of g.layout m → HasRead (observer_of_property g.property) value m x → Reaches (observer_of_property g.property) (property_of g) cycles x n → IsKeyOf g next n → LeadsIn g (suc cycles) key value next
-leads-by_read_and_run g key next value cycles m x n ignores complete on is read reaches to = λ a h.
-    subst (λ (a : TrackedMachine). (b : TrackedMachine) × IsKeyOf g next b × ((l : Levels) → FitsBoard a.1.board l → answer l a ≡ value → LeadsToIn (observer_of_property g.property) (property_of g) (suc cycles) a b l))
-    (key-machine-unique g key m a complete on is h)
+pub leads-by_read_and_run : (g : Setting) (vector next : List ℕ) (value cycles : ℕ) (m x n : TrackedMachine) → IgnoresLevels (property_of g) → IsComplete g.board g.layout → IsOnBoard g.board g.rom g.limits.keys m → vector ≡ vector_of g.layout m → HasRead (observer_of_property g.property) value m x → Reaches (observer_of_property g.property) (property_of g) cycles x n → IsVectorOf g next n → LeadsIn g (suc cycles) vector value next
+leads-by_read_and_run g vector next value cycles m x n ignores complete on is read reaches to = λ a h.
+    subst (λ (a : TrackedMachine). (b : TrackedMachine) × IsVectorOf g next b × ((l : Levels) → FitsBoard a.1.board l → value_read l a ≡ value → LeadsToIn (observer_of_property g.property) (property_of g) (suc cycles) a b l))
+    (vector-machine-unique g vector m a complete on is h)
     (leads_to-by_read_and_run g next value cycles m x n ignores on.bus.board.valid read reaches to)
 
--- `values` covers a key if `values` contains all 16 values
-pub covers-if_all_16_values : (g : Setting) (key values : List ℕ) → ((value : ℕ) → value < 16 → Contains values value) → Covers g key values
-covers-if_all_16_values g key values each = λ a h l allowed. each (answer l a) (answer-lt l a allowed.fits)
+-- `values` covers a state vector if `values` contains all 16 values
+pub covers-if_all_16_values : (g : Setting) (vector values : List ℕ) → ((value : ℕ) → value < 16 → Contains values value) → Covers g vector values
+covers-if_all_16_values g vector values each = λ a h l allowed. each (value_read l a) (value_read-lt l a allowed.fits)
 
--- `values` covers a key if `values` contains every value that the key's machine can read at input
--- levels within the limits
-pub covers-if_all_readable_values : (g : Setting) (key values : List ℕ) (m : TrackedMachine) → IsComplete g.board g.layout → IsOnBoard g.board g.rom g.limits.keys m → key ≡ key_of g.layout m → ((value : ℕ) → value < 16 → CannotRead g.limits value m ⊎ Contains values value) → Covers g key values
-covers-if_all_readable_values g key values m complete on is each = λ a h l allowed.
-    elim (subst (λ (b : TrackedMachine). CannotRead g.limits (answer l a) b ⊎ Contains values (answer l a)) (key-machine-unique g key m a complete on is h) (each (answer l a) (answer-lt l a allowed.fits))) [
+-- `values` covers a state vector if `values` contains every value that its machine can read at
+-- input levels within the limits
+pub covers-if_all_readable_values : (g : Setting) (vector values : List ℕ) (m : TrackedMachine) → IsComplete g.board g.layout → IsOnBoard g.board g.rom g.limits.keys m → vector ≡ vector_of g.layout m → ((value : ℕ) → value < 16 → CannotRead g.limits value m ⊎ Contains values value) → Covers g vector values
+covers-if_all_readable_values g vector values m complete on is each = λ a h l allowed.
+    elim (subst (λ (b : TrackedMachine). CannotRead g.limits (value_read l a) b ⊎ Contains values (value_read l a)) (vector-machine-unique g vector m a complete on is h) (each (value_read l a) (value_read-lt l a allowed.fits))) [
       | inl cannot ↦ absurd (cannot l allowed refl)
       | inr there ↦ there
     ]
@@ -57,10 +58,12 @@ on-board-kept levels m n registers bus keys test k = record { registers = regist
 pub property_holds-at_reached_machine : (w : Observer) (p : TrackedMachine → Bool) (n : ℕ) (s t : TrackedMachine) → Reaches w p n s t → p t ≡ true
 property_holds-at_reached_machine w p n s t r = ap p r.at ∙ r.property_holds n (omega arith)
 
--- the keys are still at given levels after a change that keeps them
+-- if the keys are at given levels before a change that keeps board and inputs, they are at these
+-- levels after it
 pub levels-kept : (s t : BusState) (levels : List ℕ) → KeepsBoardAndInputs s t → s.keys ≡ levels → t.keys ≡ levels
 levels-kept s t levels k at = k.keys ∙ at
 
--- what a machine on this board with the key `key` reads is what each machine of the key reads
-pub reads-at_key : (g : Setting) (key : List ℕ) (m : TrackedMachine) (l : Levels) (value : ℕ) → IsComplete g.board g.layout → IsOnBoard g.board g.rom g.limits.keys m → key ≡ key_of g.layout m → value ≡ answer l m → ReadsAt g key l value
-reads-at_key g key m l value complete on is reads = λ a h. ap (answer l) (sym (key-machine-unique g key m a complete on is h)) ∙ sym reads
+-- if a machine on this board has the state vector `vector`, each machine that `vector` identifies
+-- reads the same value as this machine
+pub reads-at_vector : (g : Setting) (vector : List ℕ) (m : TrackedMachine) (l : Levels) (value : ℕ) → IsComplete g.board g.layout → IsOnBoard g.board g.rom g.limits.keys m → vector ≡ vector_of g.layout m → value ≡ value_read l m → ReadsAt g vector l value
+reads-at_vector g vector m l value complete on is reads = λ a h. ap (value_read l) (sym (vector-machine-unique g vector m a complete on is h)) ∙ sym reads

@@ -15,7 +15,7 @@ use Rattle.mcs_drive.specs.declared.marks.Mark.{Mark}
 use Rattle.mcs_drive.specs.DrivenRuns.{FitsBoard, InputLimits, Levels, with_levels as under_machine, cycled as cycled_machine}
 use Rattle.mcs_drive.specs.InputReads.{reads_input, value_read_by, without_levels as plain_machine}
 use Rattle.mcs_drive.specs.Marks.{port_shows, shows}
-use Rattle.mcs_drive.specs.TrackedMachine.{Observer, TrackedMachine, counts_after, machine_in, with_levels, without_levels, cycled, after_cycles, next_reads_input, answer, seen_count_after, next_op, condition_holds_at, seen_mark_count, seen_after_reading, shows_next_mark}
+use Rattle.mcs_drive.specs.TrackedMachine.{Observer, TrackedMachine, counts_after, machine_in, with_levels, without_levels, cycled, after_cycles, next_reads_input, value_read, seen_count_after, next_op, condition_holds_at, seen_mark_count, seen_after_reading, shows_next_mark}
 use Rattle.mcs_drive.specs.RunsBetweenReads.{IgnoresLevels}
 use Rattle.mcs_drive.proofs.LevelLemmas.{at_levels}
 use Rattle.mcs_drive.proofs.SeenMarkLemmas.{mark_satisfies-false-if-all-false, seen_after_reading-with_levels, mark_satisfies}
@@ -70,8 +70,8 @@ port-read w value s begins = λ l fit same.
 
 -- ---- marks
 
--- if no value shows the next mark in a cycle, the count of marks after the cycle is the count that
--- `seen_count_after` gives when no mark is shown
+-- if no value that a cycle can read shows the next mark, the count of marks after the cycle is
+-- `seen_count_after` without a shown mark
 pub seen_count_correct-if_no_mark_shown : (w : Observer) (s : TrackedMachine) → ((value : ℕ) → shows_next_mark w s value ≡ false) → with_seen (seen_count_after (length w.marks) s.2.seen (condition_holds_at w s) false) (cycled w s) ≡ cycled w s
 seen_count_correct-if_no_mark_shown w s unseen = ap (λ b. with_seen (seen_count_after (length w.marks) s.2.seen (condition_holds_at w s) b) (cycled w s)) (sym (unseen (port_of s.1)))
 
@@ -145,13 +145,13 @@ level_or_0-lt true n h = omega arith
 level_or_0-lt false n h = omega arith
 
 -- every value that a cycle reads is below 16
-answer-lt_by_cases : (o : Option Op) (l : Levels) (m : BusState) → l.test < 2 → value_read_by o l m < 16
-answer-lt_by_cases (Some Rdr) l m h = port-lt (at_levels l m)
-answer-lt_by_cases (Some (Jcn c w)) l m h = level_or_0-lt (eqb (c % 2) 1) l.test h
-answer-lt_by_cases _ l m h = omega arith
+value_read-lt_by_cases : (o : Option Op) (l : Levels) (m : BusState) → l.test < 2 → value_read_by o l m < 16
+value_read-lt_by_cases (Some Rdr) l m h = port-lt (at_levels l m)
+value_read-lt_by_cases (Some (Jcn c w)) l m h = level_or_0-lt (eqb (c % 2) 1) l.test h
+value_read-lt_by_cases _ l m h = omega arith
 
-pub answer-lt : (l : Levels) (s : TrackedMachine) → FitsBoard s.1.board l → answer l s < 16
-answer-lt l s fit = answer-lt_by_cases (instruction_at s.0 s.1) l s.1 fit.test
+pub value_read-lt : (l : Levels) (s : TrackedMachine) → FitsBoard s.1.board l → value_read l s < 16
+value_read-lt l s fit = value_read-lt_by_cases (instruction_at s.0 s.1) l s.1 fit.test
 
 -- ---- a run
 

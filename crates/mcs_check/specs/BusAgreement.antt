@@ -24,7 +24,7 @@ pub record AgreesInChips (s t : BusState) : Type 0 where
   pub keys : s.keys ≡ t.keys
   pub test : s.test ≡ t.test
 
--- two valid buses are equal if they agree in every chip that their board has. A key therefore needs
--- no cells of absent chips.
+-- two valid buses are equal if they agree in every chip that their board has. A state vector
+-- therefore needs no cells of absent chips.
 abbrev pub AgreeingBusesAreEqual : Type 0
 AgreeingBusesAreEqual = (s t : BusState) → IsValidBus s → IsValidBus t → AgreesInChips s t → s ≡ t

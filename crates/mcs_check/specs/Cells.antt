@@ -1,6 +1,6 @@
 -- The cells of a machine: the values that can differ between two machines with the same board and
--- the same program. A layout lists the bytes of a key. Each byte holds the value of one cell, or
--- the values of two neighbouring cells.
+-- the same program. A layout lists the bytes of a state vector. Each byte holds the value of one
+-- cell, or the values of two neighbouring cells.
 use Rattle.std.specs.Prelude.{◌≡◌, ◌<◌, ◌+◌, ◌*◌, ◌/◌, ◌%◌, ℕ, List, [], ◌∷◌, Bool, true, false, is_some, map, nat_lt, slice_index, slice_index_or, if◌then◌else◌}
 use Rattle.std.specs.List.{Contains}
 use Rattle.mcs_model.specs.declared.board.BoardParts.{BoardParts}
@@ -9,8 +9,8 @@ use Rattle.mcs_model.specs.Boards.{chain_bits, rom_masks}
 use Rattle.mcs_drive.specs.TrackedMachine.{Counts, TrackedMachine}
 use Rattle.mcs_check.specs.declared.cells.Cell.{Cell}
 use Rattle.mcs_check.specs.declared.cells.CellList.{CellList}
-use Rattle.mcs_check.specs.declared.cells.KeyByte.{KeyByte}
-use Rattle.mcs_check.specs.declared.cells.KeyByte.TheVariants.{One, Pair}
+use Rattle.mcs_check.specs.declared.cells.StateByte.{StateByte}
+use Rattle.mcs_check.specs.declared.cells.StateByte.TheVariants.{One, Pair}
 use Rattle.mcs_check.specs.declared.cells.CellList.TheVariants.{RamNibbles, StatusCharacters, RamPorts, RomPorts, BankSrcBytes, Registers, Counters, Chain}
 
 -- The counters of a machine, in this order: the registers other than the index registers, the SRC
@@ -62,8 +62,8 @@ board_has_cell b (Chain n) i = nat_lt i (chain_bits b n)
 abbrev pub value_at : TrackedMachine → Cell → ℕ
 value_at t c = slice_index (values_in_list t c.list) (c.index % max_cell_count c.list)
 
--- true if every cell of a list has a value below 16. One byte of a key then holds two of these
--- cells.
+-- true if every cell of a list has a value below 16. One byte of the state vector then holds two of
+-- these cells.
 abbrev pub is_narrow : CellList → Bool
 is_narrow BankSrcBytes = false
 is_narrow Counters = false
@@ -77,28 +77,28 @@ first_cell_of list h = record { list = list; index = 2 * (h % 1024) }
 abbrev pub second_cell_of : CellList → ℕ → Cell
 second_cell_of list h = record { list = list; index = 2 * (h % 1024) + 1 }
 
--- the value of a key's byte. The first cell of a pair is the upper nibble.
-abbrev pub key_byte_value : TrackedMachine → KeyByte → ℕ
-key_byte_value t (One c) = value_at t c
-key_byte_value t (Pair list h) = value_at t (first_cell_of list h) % 16 * 16 + value_at t (second_cell_of list h) % 16
+-- the value of a byte of the state vector; the first cell of a pair is the upper nibble
+abbrev pub state_byte_value : TrackedMachine → StateByte → ℕ
+state_byte_value t (One c) = value_at t c
+state_byte_value t (Pair list h) = value_at t (first_cell_of list h) % 16 * 16 + value_at t (second_cell_of list h) % 16
 
--- a machine's key: the values of the bytes in a layout
-abbrev pub key_of : List KeyByte → TrackedMachine → List ℕ
-key_of layout t = map (key_byte_value t) layout
+-- a machine's state vector: the values of the bytes in a layout
+abbrev pub vector_of : List StateByte → TrackedMachine → List ℕ
+vector_of layout t = map (state_byte_value t) layout
 
--- the byte of a key that holds cell i of a list
-abbrev pub key_byte_of : CellList → ℕ → KeyByte
-key_byte_of list i = if is_narrow list then Pair list (i / 2) else One (record { list = list; index = i })
+-- the byte of the state vector that holds cell i of a list
+abbrev pub state_byte_of : CellList → ℕ → StateByte
+state_byte_of list i = if is_narrow list then Pair list (i / 2) else One (record { list = list; index = i })
 
 -- holds if `layout` contains every byte of the layout `others`
-abbrev pub ContainsBytesOf : List KeyByte → List KeyByte → Type 0
-ContainsBytesOf others layout = (c : KeyByte) → Contains others c → Contains layout c
+abbrev pub ContainsBytesOf : List StateByte → List StateByte → Type 0
+ContainsBytesOf others layout = (c : StateByte) → Contains others c → Contains layout c
 
 -- holds if a layout contains those cells of a list that exist on the board
-abbrev pub ContainsCellsOf : BoardParts → List KeyByte → CellList → Type 0
+abbrev pub ContainsCellsOf : BoardParts → List StateByte → CellList → Type 0
 ContainsCellsOf b layout list =
-    (i : ℕ) → i < max_cell_count list → board_has_cell b list i ≡ true → Contains layout (key_byte_of list i)
+    (i : ℕ) → i < max_cell_count list → board_has_cell b list i ≡ true → Contains layout (state_byte_of list i)
 
 -- holds if a layout contains every cell that exists on the board
-abbrev pub IsComplete : BoardParts → List KeyByte → Type 0
+abbrev pub IsComplete : BoardParts → List StateByte → Type 0
 IsComplete b layout = (list : CellList) → ContainsCellsOf b layout list

@@ -46,7 +46,7 @@ abbrev pub meets_none : List (List Condition) → TrackedMachine → Bool
 meets_none [] t = true
 meets_none (cs ∷ never_lists) t = not (are_met t cs) && meets_none never_lists t
 
--- an observer with these marks. Its stopwatch begins when a list of conditions in `begins` is met,
+-- An observer with these marks. Its stopwatch begins when a list of conditions in `begins` is met,
 -- and ends when a list in `ends` is met. Its condition holds when a list in `opens` is met.
 abbrev pub observer_of : List (List Condition) → List (List Condition) → List (List Condition) → List Mark → Observer
 observer_of begins ends opens marks = record {

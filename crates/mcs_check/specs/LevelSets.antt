@@ -11,15 +11,15 @@ pub record AreAllAllowedLevels (limits : InputLimits) (b : BoardParts) (all : Li
 
 -- ---- the levels of the first keys
 
--- the levels of no key, with TEST at the given level
+-- levels without keys, with TEST at the given level
 abbrev pub without_keys : ℕ → Levels
 without_keys level = record { keys = []; test = level }
 
--- the levels `l` and those of the next key
+-- the levels `l`, extended by the level of the next key
 abbrev pub with_next_key : Levels → ℕ → Levels
 with_next_key l level = record { keys = l.keys ++ level ∷ []; test = l.test }
 
--- the levels `l` of the first `i` keys, with each level of key `i` that the limits allow
+-- the levels `l` of the first `i` keys, extended by each level of key `i` that the limits allow
 abbrev pub with_each_next_key : InputLimits → ℕ → Levels → List Levels
 with_each_next_key limits i l =
     with_next_key l 0

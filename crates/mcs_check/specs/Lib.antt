@@ -3,7 +3,7 @@ pub mod BusAgreement
 pub mod Cells
 pub mod Mistaken
 pub mod Conditions
-pub mod Keys
+pub mod StateVectors
 pub mod Memory
 pub mod ReadPoints
 pub mod SearchStep

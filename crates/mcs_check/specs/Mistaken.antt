@@ -1,7 +1,7 @@
--- Common programming mistakes. A program makes a mistake in the cycle that begins an instruction.
--- (The list of mistakes is defined by Fethsaim, not by Intel. From the MCS-4 Users Manual: the
--- instruction table, the three return addresses, the ports of the 4001 and the 4002. Effect and Bus
--- of mcs_model define the effect of each mistake.)
+-- Common programming mistakes. The program makes a mistake in the cycle that begins the faulty
+-- instruction. (The list of mistakes is defined by Fethsaim, not by Intel. From the MCS-4 Users
+-- Manual: the instruction table, the three return addresses, the ports of the 4001 and the 4002.
+-- Effect and Bus of mcs_model define the effect of each mistake.)
 use Rattle.std.specs.Prelude.{◌+◌, ◌/◌, ◌%◌, ℕ, Bool, true, false, not, ◌&&◌, ◌||◌, ◌==◌, Some, None, is_none, nat_lt}
 use Rattle.mcs_model.specs.declared.board.BoardParts.{BoardParts}
 use Rattle.mcs_model.specs.declared.op.Op.{Op}

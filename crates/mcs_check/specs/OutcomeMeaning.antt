@@ -4,7 +4,7 @@ use Rattle.std.specs.List.{All}
 use Rattle.mcs_drive.specs.DrivenRuns.{AreAllowed, InputLimits}
 use Rattle.mcs_drive.specs.TrackedMachine.{Observer, TrackedMachine, Holds}
 use Rattle.mcs_check.specs.Conditions.{observer_of_property}
-use Rattle.mcs_check.specs.Keys.{Setting, IsKeyOf, property_of}
+use Rattle.mcs_check.specs.StateVectors.{Setting, IsVectorOf, property_of}
 use Rattle.mcs_check.specs.declared.checking.Outcome.{Outcome}
 use Rattle.mcs_check.specs.declared.checking.Outcome.TheVariants as outcome
 
@@ -20,7 +20,7 @@ IsProved limits w p s outcome.TooMany = Unit {0}
 IsProved limits w p s (outcome.NoMemory n) = Unit {0}
 IsProved limits w p s outcome.GaveUp = Unit {0}
 
--- the promise of an outcome for each machine that a key identifies
+-- the promise of an outcome for each machine that a state vector identifies
 abbrev pub IsProvedAt : Setting → List ℕ → Outcome → Type 0
-IsProvedAt g key o =
-    (a : TrackedMachine) → IsKeyOf g key a → IsProved g.limits (observer_of_property g.property) (property_of g) a o
+IsProvedAt g vector o =
+    (a : TrackedMachine) → IsVectorOf g vector a → IsProved g.limits (observer_of_property g.property) (property_of g) a o

@@ -10,7 +10,7 @@ use Rattle.mcs_model.specs.Effect.{address_on_page_of, instruction_at}
 use Rattle.mcs_model.specs.Registers.{register_of, with_register}
 use Rattle.mcs_drive.specs.DrivenRuns.{AreAllowed, FitsBoard, InputLimits, Levels}
 use Rattle.mcs_drive.specs.InputReads.{reads_input}
-use Rattle.mcs_drive.specs.TrackedMachine.{Observer, TrackedMachine, with_levels, without_levels, begins_at, cycled, after_cycles, next_reads_input, answer}
+use Rattle.mcs_drive.specs.TrackedMachine.{Observer, TrackedMachine, with_levels, without_levels, begins_at, cycled, after_cycles, next_reads_input, value_read}
 use Rattle.mcs_check.specs.declared.reading.InputSource.{InputSource}
 use Rattle.mcs_check.specs.declared.reading.InputSource.TheVariants.{NoInput, Port, Test}
 
@@ -42,7 +42,7 @@ Reads s Test = Begins ReadsTestPin s
 
 -- holds if no input levels within the limits make the next instruction read this value
 abbrev pub CannotRead : InputLimits → ℕ → TrackedMachine → Type 0
-CannotRead limits value s = (l : Levels) → AreAllowed limits s.1.board l → answer l s ≡ value → ⊥
+CannotRead limits value s = (l : Levels) → AreAllowed limits s.1.board l → value_read l s ≡ value → ⊥
 
 -- the number of bits of nibble `n` that are 1
 abbrev pub set_bits : ℕ → ℕ
@@ -63,7 +63,7 @@ unpressed_port_value m =
 -- of t are ignored.
 abbrev pub HasRead : Observer → ℕ → TrackedMachine → TrackedMachine → Type 0
 HasRead w value s t =
-    (l : Levels) → FitsBoard s.1.board l → answer l s ≡ value → without_levels (cycled w (with_levels l s)) ≡ without_levels t
+    (l : Levels) → FitsBoard s.1.board l → value_read l s ≡ value → without_levels (cycled w (with_levels l s)) ≡ without_levels t
 
 -- holds if a run of `cycles` cycles leads from s to t, no cycle of the run reads an input, and
 -- property p holds before and after each cycle
@@ -72,9 +72,9 @@ pub record Reaches (w : Observer) (p : TrackedMachine → Bool) (cycles : ℕ) (
   pub property_holds : (i : ℕ) → i ≤ cycles → p (after_cycles w i s) ≡ true
   pub at : t ≡ after_cycles w cycles s
 
--- holds if the next cycle changes neither the stopwatch of an observer nor its count of marks. The
--- stopwatch is at 0 and does not begin. The observer's condition never holds, and the observer has
--- no marks and has seen none.
+-- Holds if the stopwatch of an observer is at 0 and does not begin, the observer's condition never
+-- holds, and the observer has no marks and has seen none. The next cycle then changes neither the
+-- stopwatch nor the count of marks.
 pub record IsObserverIdle (w : Observer) (s : TrackedMachine) : Type 0 where
   pub stopwatch_at_zero : s.2.elapsed ≡ 0
   pub not_begun : begins_at w s ≡ false

@@ -1,8 +1,8 @@
--- A search through inputs whose levels change at moments that are at least `wait` cycles apart. No
--- key stays down for more than `held` cycles, if `held` is not 0. A step of the search runs from
--- one read of an input to the next, so only the levels at its beginning matter. If two steps begin
--- at different levels, the search makes the change between them as early as possible. (Defined by
--- Fethsaim, not by Intel.)
+-- The search by levels: a search through inputs whose levels change at moments that are at least
+-- `wait` cycles apart. No key stays down for more than `held` cycles, if `held` is not 0. A step of
+-- the search runs from one read of an input to the next, so only the levels at its beginning
+-- matter. If two steps begin at different levels, the search makes the change between them as early
+-- as possible. (Defined by Fethsaim, not by Intel.)
 use Rattle.std.specs.Prelude.{◌≡◌, ◌<◌, ◌+◌, ◌-◌, ◌*◌, ◌==◌, ◌||◌, ◌&&◌, ℕ, suc, min, List, Bool, true, false, Some, None, drop, length, nat_le, nat_lt, slice_get, slice_index, take, if◌then◌else◌}
 use Rattle.std.specs.List.{Contains, sum}
 use Rattle.std.specs.Str.{bytes_eq}
@@ -13,7 +13,7 @@ use Rattle.mcs_search.specs.Rules.{Rules}
 use Rattle.mcs_check.specs.declared.spacing.Spacing.{Spacing}
 use Rattle.mcs_check.specs.declared.spacing.TheConstants.{NO_LEVELS}
 use Rattle.mcs_check.specs.Conditions.{observer_of_property}
-use Rattle.mcs_check.specs.Keys.{Setting, IsKeyOf, property_of}
+use Rattle.mcs_check.specs.StateVectors.{Setting, IsVectorOf, property_of}
 use Rattle.mcs_check.specs.SearchStep.{IsState}
 
 -- ---- the levels at the beginnings of steps
@@ -28,9 +28,9 @@ has_key_down l = nat_le 1 (sum l.keys)
 abbrev pub wait_allows : ℕ → Spacing → ℕ → Bool
 wait_allows wait s d = s.last == NO_LEVELS || d == s.last || nat_le wait s.age
 
--- true if the keys are at the same levels in the levels with index `i` as in those with index `j`
-abbrev pub have_same_keys : List Levels → ℕ → ℕ → Bool
-have_same_keys levels i j =
+-- true if each key is at the same level in `levels[i]` and `levels[j]`; TEST is ignored
+abbrev pub have_same_key_levels : List Levels → ℕ → ℕ → Bool
+have_same_key_levels levels i j =
     elim (slice_get levels i) [
       | Some l ↦ elim (slice_get levels j) [ Some m ↦ bytes_eq l.keys m.keys | None ↦ false ]
       | None ↦ false
@@ -41,7 +41,7 @@ have_same_keys levels i j =
 abbrev pub down_at_begin : List Levels → Spacing → ℕ → ℕ
 down_at_begin levels s d =
     if s.last == NO_LEVELS then 0
-    else if have_same_keys levels s.last d then s.down
+    else if have_same_key_levels levels s.last d then s.down
     else 0
 
 -- True if the limit `held` allows the next step to begin at the levels with index `d`. This is so
@@ -85,9 +85,9 @@ abbrev pub number_at : List ℕ → ℕ → ℕ
 number_at bytes i =
     slice_index bytes i + 256 * slice_index bytes (i + 1) + 65536 * slice_index bytes (i + 2) + 16777216 * slice_index bytes (i + 3)
 
--- What nine bytes say. The first byte is the index of the levels at which the last step began. The
--- next four bytes are the age, and the last four are the cycles for which a key is known to have
--- been down.
+-- What a search remembers, decoded from nine bytes. The first byte is the index of the levels at
+-- which the last step began. The next four bytes are the age, and the last four are the cycles for
+-- which a key is known to have been down.
 abbrev pub spacing_of_bytes : List ℕ → Spacing
 spacing_of_bytes bytes = record {
   last = slice_index bytes 0;
@@ -95,7 +95,7 @@ spacing_of_bytes bytes = record {
   down = number_at bytes 5;
 }
 
--- ---- spaced keys
+-- ---- timed state vectors
 
 -- the data shared by all states of a search: the setting of its machines, the minimum number of
 -- cycles between changes, and the levels at which steps begin
@@ -104,41 +104,43 @@ pub record SpacedSetting : Type 0 where
   pub wait : ℕ
   pub levels : List Levels
 
--- a spaced key is the key of a machine, followed by nine bytes (`spacing_of_bytes`)
-abbrev pub machine_key : SpacedSetting → List ℕ → List ℕ
-machine_key h key = take (length h.machines.layout) key
+-- The first part of a timed state vector. A timed state vector is the state vector of a machine
+-- and, after it, nine bytes that hold what the search remembers of the inputs (`spacing_of_bytes`).
+abbrev pub machine_vector : SpacedSetting → List ℕ → List ℕ
+machine_vector h vector = take (length h.machines.layout) vector
 
-abbrev pub spacing_of_key : SpacedSetting → List ℕ → Spacing
-spacing_of_key h key = spacing_of_bytes (drop (length h.machines.layout) key)
+abbrev pub spacing_of_vector : SpacedSetting → List ℕ → Spacing
+spacing_of_vector h vector = spacing_of_bytes (drop (length h.machines.layout) vector)
 
 -- ---- the rules of the search
 
--- holds if the choices for a key contain the index of all levels at which the next step can begin
+-- holds if the choices in a state contain the index of all levels at which the next step can begin
 abbrev pub SpacedCovers : SpacedSetting → List ℕ → List ℕ → Type 0
-SpacedCovers h key choices =
-    (d : ℕ) → d < length h.levels → can_begin_at h.wait h.machines.limits.held h.levels (spacing_of_key h key) d ≡ true → Contains choices d
+SpacedCovers h vector choices =
+    (d : ℕ) → d < length h.levels → can_begin_at h.wait h.machines.limits.held h.levels (spacing_of_vector h vector) d ≡ true → Contains choices d
 
--- Holds if machine `a`, at the levels with index `d`, runs to a machine that the key `next`
--- identifies. The run takes `cycles` cycles, and the property holds at every step.
-pub record RunsToSpacedKey (h : SpacedSetting) (key : List ℕ) (d : ℕ) (next : List ℕ) (a : TrackedMachine) : Type 0 where
+-- Holds if machine `a`, at the levels with index `d`, runs to a machine that the state vector
+-- `next` identifies. The run takes `cycles` cycles, and the property holds at every step.
+pub record RunsToTimedVector (h : SpacedSetting) (vector : List ℕ) (d : ℕ) (next : List ℕ) (a : TrackedMachine) : Type 0 where
   pub to : TrackedMachine
-  pub is : IsKeyOf h.machines (machine_key h next) to
+  pub is : IsVectorOf h.machines (machine_vector h next) to
   pub cycles : ℕ
-  pub spacing : (l : Levels) → slice_get h.levels d ≡ Some l → spacing_of_key h next ≡ spacing_after h.wait h.machines.limits.held h.levels (spacing_of_key h key) d l cycles
+  pub spacing : (l : Levels) → slice_get h.levels d ≡ Some l → spacing_of_vector h next ≡ spacing_after h.wait h.machines.limits.held h.levels (spacing_of_vector h vector) d l cycles
   pub run : (l : Levels) → FitsBoard a.1.board l → slice_get h.levels d ≡ Some l →
       (leads : LeadsTo (observer_of_property h.machines.property) (property_of h.machines) a to l) × (cycles ≡ suc leads.more)
 
--- holds if each machine that a key identifies runs to one that the key `next` identifies
+-- holds if each machine that a state vector identifies runs to one that the state vector `next`
+-- identifies
 abbrev pub SpacedLeads : SpacedSetting → List ℕ → ℕ → List ℕ → Type 0
-SpacedLeads h key d next =
-    (a : TrackedMachine) → IsKeyOf h.machines (machine_key h key) a → RunsToSpacedKey h key d next a
+SpacedLeads h vector d next =
+    (a : TrackedMachine) → IsVectorOf h.machines (machine_vector h vector) a → RunsToTimedVector h vector d next a
 
--- The rules of a search with spaced inputs. A choice is an index of levels. The rules promise
--- nothing about a failure.
+-- The rules of the search by levels. A choice is an index of levels. The rules promise nothing
+-- about a failure.
 abbrev pub spaced_rules : SpacedSetting → Rules
 spaced_rules h = record {
-  is_state = λ key. IsState h.machines (machine_key h key);
+  is_state = λ vector. IsState h.machines (machine_vector h vector);
   covers = SpacedCovers h;
   leads = SpacedLeads h;
-  fails = λ key d. Unit {0};
+  fails = λ vector d. Unit {0};
 }

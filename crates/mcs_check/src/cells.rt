@@ -1,5 +1,5 @@
-//! The cells of a machine, and a board's layout. The layout lists the bytes of a key. Together these bytes hold every
-//! cell of a machine with this board.
+//! The cells of a machine, and a board's layout. The layout lists the bytes of the state vector. Together these bytes
+//! hold every cell of a machine with this board.
 ghost use Rattle.std.specs.Prelude.{◌≡◌, ◌<◌, ◌+◌, ◌*◌, ◌%◌, ◌||◌, true, false, IfOk, OnOk};
 ghost use Rattle.mcs_check.specs.Cells.{max_cell_count, first_cell_of, is_narrow, board_has_cell, second_cell_of, ContainsBytesOf, ContainsCellsOf, IsComplete};
 
@@ -75,9 +75,9 @@ impl CellList {
     }
 }
 
-/// A byte of a key.
+/// A byte of the state vector: the cell or the two cells whose values it holds.
 #[derive(Clone, Copy, Debug)]
-pub enum KeyByte {
+pub enum StateByte {
     /// The value of a cell.
     One(Cell),
     /// The values of two neighbouring cells, each below 16. The fields are the list of the two cells and the number of
@@ -85,9 +85,9 @@ pub enum KeyByte {
     Pair(CellList, u16),
 }
 
-impl Default for KeyByte {
-    fn default() -> KeyByte {
-        KeyByte::One(Cell::default())
+impl Default for StateByte {
+    fn default() -> StateByte {
+        StateByte::One(Cell::default())
     }
 }
 
@@ -145,35 +145,35 @@ fn board_has_pair(board: &Board, list: CellList, pair: u16) -> bool
 }
 
 /// Appends to the layout those cells of a list that exist on the board, one cell per byte. Fails if memory runs out.
-fn add_cells(layout: &mut Vec<KeyByte>, board: &Board, list: CellList) -> Result<(), AllocError>
+fn add_cells(layout: &mut Vec<StateByte>, board: &Board, list: CellList) -> Result<(), AllocError>
     requires { is_narrow list ≡ false }
     ensures keeps { OnOk result (ContainsBytesOf layout.old.items layout.new.items) }
     ensures has { OnOk result (ContainsCellsOf board.now layout.new.items list) }
 {
     for index in 0..list.count() {
         if board_has_cell(board, list, index) {
-            layout.push(KeyByte::One(Cell { list, index }))?;
+            layout.push(StateByte::One(Cell { list, index }))?;
         }
     }
     Ok(())
 }
 
 /// Appends to the layout those cells of a list that exist on the board, two cells per byte. Fails if memory runs out.
-fn add_pairs(layout: &mut Vec<KeyByte>, board: &Board, list: CellList) -> Result<(), AllocError>
+fn add_pairs(layout: &mut Vec<StateByte>, board: &Board, list: CellList) -> Result<(), AllocError>
     requires { is_narrow list ≡ true }
     ensures keeps { OnOk result (ContainsBytesOf layout.old.items layout.new.items) }
     ensures has { OnOk result (ContainsCellsOf board.now layout.new.items list) }
 {
     for pair in 0..list.count() / 2 {
         if board_has_pair(board, list, pair) {
-            layout.push(KeyByte::Pair(list, pair))?;
+            layout.push(StateByte::Pair(list, pair))?;
         }
     }
     Ok(())
 }
 
 /// Appends to the layout those cells of a list that exist on the board. Fails if memory runs out.
-fn add_list(layout: &mut Vec<KeyByte>, board: &Board, list: CellList) -> Result<(), AllocError>
+fn add_list(layout: &mut Vec<StateByte>, board: &Board, list: CellList) -> Result<(), AllocError>
     ensures keeps { OnOk result (ContainsBytesOf layout.old.items layout.new.items) }
     ensures has { OnOk result (ContainsCellsOf board.now layout.new.items list) }
 {
@@ -186,7 +186,7 @@ fn add_list(layout: &mut Vec<KeyByte>, board: &Board, list: CellList) -> Result<
 }
 
 /// Returns a board's layout, which contains every cell that exists on the board. Fails if memory runs out.
-pub fn layout_of(alloc: Global, board: &Board) -> Result<Vec<KeyByte>, AllocError>
+pub fn layout_of(alloc: Global, board: &Board) -> Result<Vec<StateByte>, AllocError>
     ensures { IfOk result (λ layout. IsComplete board.now layout.items) }
 {
     // The proof learns from this call that a board has at most four chains.

@@ -6,7 +6,7 @@ ghost use Rattle.mcs_check.specs.OutcomeMeaning.{IsProved, IsProvedAt};
 ghost use Rattle.mcs_check.specs.SearchStep.{IsState};
 
 use crate::cells::layout_of;
-use crate::last_key::LastKey;
+use crate::last_vector::LastVector;
 use crate::level_sets::Levels;
 use crate::limits::InputLimits;
 use crate::machine_search::MachineSearch;
@@ -36,30 +36,31 @@ pub enum Outcome {
     GaveUp,
 }
 
-/// The maximum number of bytes that a state needs besides its key, for its parent and its share of the hash table.
+/// The maximum number of bytes that a state needs in addition to its state vector: for its parent and for the slots of
+/// the hash table.
 const STATE_BYTES: usize = 24;
 
-/// Returns the number of states with keys of `key_len` bytes that fit into `memory` bytes.
-pub(crate) fn states_that_fit(memory: usize, key_len: usize) -> usize {
-    memory / key_len.saturating_add(STATE_BYTES)
+/// Returns the number of states that fit into `memory` bytes, if a state vector has `vector_len` bytes.
+pub(crate) fn states_that_fit(memory: usize, vector_len: usize) -> usize {
+    memory / vector_len.saturating_add(STATE_BYTES)
 }
 
-/// Searches all runs of the machine that `key` identifies. The search ignores the limits `wait` and `held`: it lets the
-/// levels change before each cycle, and lets each key stay down for any time. See `check_all` for `most` and `memory`.
-/// Fails if memory for the first state runs out.
+/// Searches all runs of the machine that `vector` identifies. The search ignores the limits `wait` and `held`: it lets
+/// the levels change before each cycle, and lets each key stay down for any time. See `check_all` for `most` and
+/// `memory`. Fails if memory for the first state runs out.
 fn search_by_values(
     alloc: Global,
     mut machines: MachineSearch,
-    key: &[u8],
+    vector: &[u8],
     most: usize,
     memory: usize,
 ) -> Result<Outcome, AllocError>
     requires most { most ≤ MAX_STATES }
-    requires state { IsState machines key.now }
-    ensures { IfOk result (IsProvedAt machines key.now) }
+    requires state { IsState machines vector.now }
+    ensures { IfOk result (IsProvedAt machines vector.now) }
 {
-    let limit = most.min(states_that_fit(memory, key.len()));
-    match search_all(alloc, &mut machines, key, limit)? {
+    let limit = most.min(states_that_fit(memory, vector.len()));
+    match search_all(alloc, &mut machines, vector, limit)? {
         Verdict::Holds(states) => Ok(Outcome::Holds(states)),
         Verdict::Broken(values) => Ok(Outcome::MayFail(values)),
         Verdict::TooMany if limit < most => Ok(Outcome::NoMemory(limit)),
@@ -91,9 +92,9 @@ pub fn check_all(
     }
     replica.set_highest_keys(&limits);
     let layout = layout_of(alloc, replica.board())?;
-    let mut key = vec![in alloc; 0u8; layout.len()]?;
-    replica.save(&layout, &mut key);
-    let last = LastKey::none(alloc, &layout)?;
+    let mut vector = vec![in alloc; 0u8; layout.len()]?;
+    replica.save(&layout, &mut vector);
+    let last = LastVector::none(alloc, &layout)?;
     replica.show_state_is_valid();
     if !property.keeps(&replica) {
         return Ok(Outcome::MayFail(Vec::new(alloc)));
@@ -107,8 +108,8 @@ pub fn check_all(
         most: pause,
     };
     if machines.wait() > 1 {
-        search_by_levels(alloc, machines, &key, most, memory)
+        search_by_levels(alloc, machines, &vector, most, memory)
     } else {
-        search_by_values(alloc, machines, &key, most, memory)
+        search_by_values(alloc, machines, &vector, most, memory)
     }
 }

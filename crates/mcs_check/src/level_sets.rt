@@ -5,9 +5,9 @@ ghost use Rattle.mcs_model.specs.declared.board.BoardParts.{BoardParts};
 ghost use Rattle.mcs_model.specs.Boards.{key_count};
 ghost use Rattle.mcs_model.specs.Levels.{port_of};
 ghost use Rattle.mcs_drive.specs.InputReads.{value_read_by};
-ghost use Rattle.mcs_drive.specs.TrackedMachine.{answer, with_levels};
+ghost use Rattle.mcs_drive.specs.TrackedMachine.{value_read, with_levels};
 ghost use Rattle.mcs_check.specs.LevelSets.{AreAllAllowedLevels, levels_of_first_keys, with_each_next_key, with_next_key};
-ghost use Rattle.mcs_check.specs.SpacedInputs.{has_key_down, have_same_keys};
+ghost use Rattle.mcs_check.specs.SpacedInputs.{has_key_down, have_same_key_levels};
 ghost use Rattle.std.specs.Str.{bytes_eq};
 
 use crate::highest_levels::set_keys;
@@ -37,7 +37,7 @@ impl Model for Levels {
 /// The maximum number of levels in a list of all allowed levels.
 const MAX_LEVELS: usize = 255;
 
-/// Returns the number of keys that are down at these levels of keys.
+/// Returns the number of keys that are down, given the level of each key.
 fn keys_down(keys: &[Bit]) -> usize
     ensures { result ≡ sum keys.now }
 {
@@ -63,8 +63,8 @@ impl Levels {
         self.test
     }
 
-    /// Returns whether the keys are at the same levels in these levels as in others.
-    fn has_keys_of(&self, other: &Levels) -> bool
+    /// Returns whether each key is at the same level in these levels and in `other`. Ignores TEST.
+    fn has_same_key_levels(&self, other: &Levels) -> bool
         ensures { result ≡ bytes_eq self.now.keys other.now.keys }
     {
         self.keys() == other.keys()
@@ -103,22 +103,22 @@ impl Levels {
     }
 }
 
-/// Returns whether the keys are at the same levels in the levels with index `i` as in those with index `j`. Returns
-/// false if there are no levels with one of these indices.
-pub(crate) fn have_same_keys(all: &[Levels], i: u8, j: u8) -> bool
-    ensures { result ≡ have_same_keys all.now i j }
+/// Returns whether each key is at the same level in `all[i]` and `all[j]`. Ignores TEST. Returns false if `i` or `j` is
+/// out of range.
+pub(crate) fn have_same_key_levels(all: &[Levels], i: u8, j: u8) -> bool
+    ensures { result ≡ have_same_key_levels all.now i j }
 {
     match all.get(usize::from(i)) {
         Some(levels) => match all.get(usize::from(j)) {
-            Some(other) => levels.has_keys_of(other),
+            Some(other) => levels.has_same_key_levels(other),
             None => false,
         },
         None => false,
     }
 }
 
-/// Appends to `into` the levels of one more key, key `i`: `levels` with each of its levels that the limits allow. Fails
-/// if memory runs out.
+/// Appends to `into` a copy of `levels` for each level of the next key, key `i`, that the limits allow. The key levels
+/// of each copy end with that level. Fails if memory runs out.
 fn push_with_next_key(
     alloc: Global,
     limits: &InputLimits,
@@ -136,8 +136,8 @@ fn push_with_next_key(
     Ok(())
 }
 
-/// Returns each of the levels `all` of the first `i` keys, with each level of key `i` that the limits allow. Fails if
-/// memory runs out.
+/// Extends each of the levels `all`, which are levels of the first `i` keys, by each level of key `i` that the limits
+/// allow. Returns the extended levels. Fails if memory runs out.
 fn with_next_keys(
     alloc: Global,
     limits: &InputLimits,
@@ -154,7 +154,7 @@ fn with_next_keys(
     Ok(more)
 }
 
-/// Returns all levels of TEST that the limits allow, without levels of keys. Fails if memory runs out.
+/// Returns levels without keys, one for each level of TEST that the limits allow. Fails if memory runs out.
 fn levels_without_keys(alloc: Global, limits: &InputLimits) -> Result<Vec<Levels>, AllocError>
     ensures { IfOk result (λ all. all.items ≡ levels_of_first_keys limits.now 0) }
 {
@@ -194,7 +194,7 @@ pub(crate) fn all_allowed_levels(
 
 impl SearchMachine {
     /// Returns the value that the selected ROM's port reads at these levels of the keys. Each key must be at its
-    /// highest level, and is again afterwards.
+    /// highest level when the function is called, and is at that level again when it returns.
     fn port_at(&mut self, levels: &Levels, limits: &InputLimits) -> u8
         requires levels { length levels.now.keys ≡ key_count self.old.1.board }
         requires keys { self.old.1.keys ≡ limits.now.keys }
@@ -211,8 +211,8 @@ impl SearchMachine {
         value
     }
 
-    /// Returns the value that an instruction reads at these input levels. Each key must be at its highest level, and is
-    /// again afterwards.
+    /// Returns the value that an instruction reads at these input levels. Each key must be at its highest level when
+    /// the function is called, and is at that level again when it returns.
     fn value_read_by(&mut self, op: Op, levels: &Levels, limits: &InputLimits) -> u8
         requires levels { length levels.now.keys ≡ key_count self.old.1.board }
         requires keys { self.old.1.keys ≡ limits.now.keys }
@@ -227,11 +227,11 @@ impl SearchMachine {
     }
 
     /// Returns the value that the instruction at the program counter reads at these input levels. Each key must be at
-    /// its highest level, and is again afterwards.
-    pub(crate) fn answer_at(&mut self, levels: &Levels, limits: &InputLimits) -> u8
+    /// its highest level when the function is called, and is at that level again when it returns.
+    pub(crate) fn value_read_at(&mut self, levels: &Levels, limits: &InputLimits) -> u8
         requires levels { length levels.now.keys ≡ key_count self.old.1.board }
         requires keys { self.old.1.keys ≡ limits.now.keys }
-        ensures value { result ≡ answer levels.now self.old }
+        ensures value { result ≡ value_read levels.now self.old }
         ensures same { self.new ≡ self.old }
     {
         let at = self.cpu.regs().pc;

@@ -1,18 +1,18 @@
-//! The search by values. Its keys identify machines with one board and one program. Its choices are the values that the
-//! machine of a key can read in its next cycle.
+//! The search by values. Its state vectors identify machines with one board and one program. In each state, its choices
+//! are the values that the machine can read in its next cycle.
 ghost use Rattle.std.specs.Prelude.{◌≡◌, ◌≤◌, length, IfOk, IfSome};
 ghost use Rattle.mcs_model.specs.declared.board.BoardParts.{BoardParts};
 ghost use Rattle.mcs_model.specs.Boards.{key_count};
 ghost use Rattle.mcs_check.specs.LevelSets.{AreAllAllowedLevels};
 ghost use Rattle.mcs_check.specs.SearchStep.{IfReached, IsState, LeadsIn, ReadsAt};
 
-use crate::cells::KeyByte;
-use crate::last_key::LastKey;
+use crate::cells::StateByte;
+use crate::last_vector::LastVector;
 use crate::level_sets::{Levels, all_allowed_levels};
 use crate::limits::InputLimits;
 use crate::property::Property;
 use crate::replica::SearchMachine;
-use crate::search_step::{StepEnd, list_readable_values, run_to_next_key, value_at_key};
+use crate::search_step::{StepEnd, list_readable_values, run_to_next_state, value_at_vector};
 use mcs_search::System;
 use std::alloc::{AllocError, Global};
 use std::marker::Model;
@@ -24,9 +24,9 @@ use std::marker::Model;
 pub struct MachineSearch {
     pub(crate) replica: SearchMachine,
     pub(crate) limits: InputLimits,
-    pub(crate) layout: Vec<KeyByte>,
-    /// The key that `replica` last loaded or saved.
-    pub(crate) last: LastKey,
+    pub(crate) layout: Vec<StateByte>,
+    /// The state vector that `replica` last loaded or saved.
+    pub(crate) last: LastVector,
     pub(crate) property: Property,
     pub(crate) most: u32,
 }
@@ -34,8 +34,8 @@ pub struct MachineSearch {
 impl Model for MachineSearch {
     ghost use Rattle.std.specs.Prelude.{◌≡◌};
     ghost use Rattle.mcs_check.specs.Cells.{IsComplete};
-    ghost use Rattle.mcs_check.specs.Keys.{Setting};
-    ghost use Rattle.mcs_check.specs.Memory.{IsLastKeyOf};
+    ghost use Rattle.mcs_check.specs.StateVectors.{Setting};
+    ghost use Rattle.mcs_check.specs.Memory.{IsLastVectorOf};
 
     ghost Value = { Setting };
 
@@ -43,12 +43,12 @@ impl Model for MachineSearch {
 
     ghost invariant = { λ w. (w.replica.1.keys ≡ w.limits.keys)
         × (w.replica.1.test ≡ 0) × IsComplete w.replica.1.board w.layout.items
-        × IsLastKeyOf w.layout.items w.last w.replica };
+        × IsLastVectorOf w.layout.items w.last w.replica };
 }
 
 impl MachineSearch {
-    /// Returns the number of bytes of a key.
-    pub(crate) fn key_len(&self) -> usize
+    /// Returns the number of bytes in a state vector.
+    pub(crate) fn vector_len(&self) -> usize
         ensures { result ≡ length self.now.layout }
     {
         self.layout.len()
@@ -77,36 +77,37 @@ impl MachineSearch {
         all_allowed_levels(alloc, &self.limits)
     }
 
-    /// Returns the value that the machine of a key reads in its next cycle at these input levels. Returns `None` if the
-    /// key cannot be loaded.
-    pub(crate) fn value_at_key(&mut self, key: &[u8], levels: &Levels) -> Option<u8>
+    /// Returns the value that the machine with this state vector reads in its next cycle at these input levels. Returns
+    /// `None` if the state vector cannot be loaded.
+    pub(crate) fn value_at_vector(&mut self, vector: &[u8], levels: &Levels) -> Option<u8>
         ensures setting { self.new ≡ self.old }
-        ensures value { IfSome result (λ value. ReadsAt self.old key.now levels.now value) }
+        ensures value { IfSome result (λ value. ReadsAt self.old vector.now levels.now value) }
     {
-        value_at_key(
+        value_at_vector(
             &mut self.replica,
             &self.limits,
             &self.layout,
             &mut self.last,
-            key,
+            vector,
             levels,
         )
     }
 
-    /// Runs the machine of a key to its next read (see `run_to_next_key`). The first cycle reads `value`.
-    pub(crate) fn run(&mut self, key: &[u8], value: u8, into: &mut [u8]) -> Option<StepEnd>
-        requires into { length into.old ≡ length key.now }
+    /// Runs the machine with this state vector to its next read (see `run_to_next_state`). The first cycle reads
+    /// `value`.
+    pub(crate) fn run(&mut self, vector: &[u8], value: u8, into: &mut [u8]) -> Option<StepEnd>
+        requires into { length into.old ≡ length vector.now }
         ensures setting { self.new ≡ self.old }
-        ensures leads { IfSome result (λ end. IfReached end (λ cycles. LeadsIn self.old cycles key.now value into.new)) }
+        ensures leads { IfSome result (λ end. IfReached end (λ cycles. LeadsIn self.old cycles vector.now value into.new)) }
         ensures state { IfSome result (λ end. IfReached end (λ _. IsState self.old into.new)) }
     {
-        run_to_next_key(
+        run_to_next_state(
             &mut self.replica,
             &self.layout,
             &mut self.last,
             &self.property,
             self.most,
-            key,
+            vector,
             value,
             into,
         )
@@ -114,7 +115,7 @@ impl MachineSearch {
 }
 
 impl System for MachineSearch {
-    ghost use Rattle.mcs_check.specs.Keys.{Setting};
+    ghost use Rattle.mcs_check.specs.StateVectors.{Setting};
     ghost use Rattle.mcs_check.specs.SearchRules.{rules_of};
 
     ghost Setting = { Setting };
@@ -123,20 +124,20 @@ impl System for MachineSearch {
 
     ghost rules = { rules_of };
 
-    fn choices(&mut self, key: &[u8], into: &mut Vec<u8>) -> Result<(), AllocError> {
+    fn choices(&mut self, state: &[u8], into: &mut Vec<u8>) -> Result<(), AllocError> {
         list_readable_values(
             &mut self.replica,
             &self.limits,
             &self.layout,
             &mut self.last,
-            key,
+            state,
             into,
         )?;
         Ok(())
     }
 
-    fn apply_choice(&mut self, key: &[u8], choice: u8, into: &mut [u8]) -> Option<bool> {
-        let end = self.run(key, choice, into)?;
+    fn apply_choice(&mut self, state: &[u8], choice: u8, into: &mut [u8]) -> Option<bool> {
+        let end = self.run(state, choice, into)?;
         Some(end.is_reached())
     }
 }

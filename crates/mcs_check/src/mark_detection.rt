@@ -1,4 +1,4 @@
-//! The marks that a read of a port shows.
+//! Detects the marks that a read of a port shows.
 ghost use Rattle.std.specs.Prelude.{◌≡◌, ◌<◌, ◌≤◌, ◌+◌, ◌==◌, ◌&&◌, Some, length, not, true};
 ghost use Rattle.std.specs.List.{list_any, range_with_len};
 ghost use Rattle.mcs_nibble.specs.Bits.{bit_of};
@@ -169,9 +169,9 @@ impl SearchMachine {
         }
     }
 
-    /// Returns the value of `seen` after the next cycle. `is_open` is true if a conjunction in `opens` is met before the
-    /// cycle. The value is then the number of marks plus 1, which `seen_mark_count` reads as 0. `shown` is true if the
-    /// next cycle shows the next mark.
+    /// Returns the value of `seen` after the next cycle. `is_open` is true if a conjunction in `opens` is met before
+    /// the cycle. The value is then the number of marks plus 1, which `seen_mark_count` reads as 0. `shown` is true if
+    /// the next cycle shows the next mark.
     pub(crate) fn seen_after(&self, property: &Property, is_open: bool, shown: bool) -> u8
         ensures { result ≡ seen_count_after (length property.now.marks) self.now.2.seen is_open shown }
     {

@@ -1,4 +1,5 @@
-//! Lists of marks, and the requirement that all marks are seen before a run meets certain conjunctions.
+//! Lists of marks, and the requirement that all marks are seen before a run meets certain conjunctions. A mark is a key
+//! together with a level, down or up.
 ghost use Rattle.std.specs.Prelude.{◌≡◌, ◌<◌, ◌≤◌, ◌&&◌, ◌↔◌, [], ◌∷◌, ◌++◌, length, nat_lt, not, slice_get, true, IsSome, IfSome, IfOk, OnOk};
 ghost use Rattle.mcs_drive.specs.TrackedMachine.{TrackedMachine};
 ghost use Rattle.mcs_check.specs.Conditions.{meets_none, fewer_marks_seen};

@@ -1,8 +1,8 @@
-//! A law about keys. The law is the contract of a function with an empty body.
-ghost use Rattle.mcs_check.specs.Keys.{KeysDetermineMachines};
+//! A law about state vectors. The law is the contract of a function with an empty body.
+ghost use Rattle.mcs_check.specs.StateVectors.{StateVectorsDetermineMachines};
 
-/// Proves that a key identifies at most one machine with a given board, given ROM bytes and given key levels, if the
-/// layout is complete.
-pub fn keys_determine_machines()
-    ensures { KeysDetermineMachines }
+/// Proves that a state vector identifies at most one machine with a given board, given ROM bytes and given key levels,
+/// if the layout is complete.
+pub fn state_vectors_determine_machines()
+    ensures { StateVectorsDetermineMachines }
 {}

@@ -1,4 +1,4 @@
-//! The conditions that a run checks, and the stopwatch and marks that it observes.
+//! The conditions, the stopwatch and the marks that a run checks after each cycle.
 ghost use Rattle.std.specs.Prelude.{◌≡◌, ◌≤◌, ◌⊎◌, ◌&&◌, [], length, not, slice_get, true};
 ghost use Rattle.mcs_drive.specs.TrackedMachine.{condition_holds_at};
 ghost use Rattle.mcs_check.specs.Conditions.{meets_none, observer_of_property};
@@ -101,8 +101,8 @@ impl Property {
         scope.has_all_lists(&self.never_lists)
     }
 
-    /// Returns true only if nothing begins the stopwatch, or if a scope covers all conditions that begin it and includes
-    /// no mistakes.
+    /// Returns true only if nothing begins the stopwatch, or if a scope covers all conditions that begin it and
+    /// includes no mistakes.
     pub(crate) fn is_beginning_covered_by(&self, scope: &Scope) -> bool
         ensures { result ≡ true → (self.now.begins ≡ []) ⊎ ((not scope.now.mistakes && has_all_lists scope.now self.now.begins) ≡ true) }
     {

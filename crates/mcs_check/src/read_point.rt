@@ -9,14 +9,14 @@ ghost use Rattle.mcs_model.specs.declared.op.Op.TheVariants.{Rdr};
 ghost use Rattle.mcs_drive.specs.InputReads.{reads_input};
 ghost use Rattle.mcs_drive.specs.TrackedMachine.{calls_after, cycled, next_reads_input, next_op, open_calls_after, shows_next_mark, condition_holds_at};
 ghost use Rattle.mcs_check.specs.Conditions.{meets_none, observer_of_property};
-ghost use Rattle.mcs_check.specs.Keys.{KeepsBoardAndInputs};
+ghost use Rattle.mcs_check.specs.StateVectors.{KeepsBoardAndInputs};
 ghost use Rattle.mcs_check.specs.Memory.{KeepsMemory, cycle_writes_memory, is_input, op_writes_memory};
 ghost use Rattle.mcs_check.specs.Scopes.{cycle_may_change_scope, makes_mistake_in_scope};
 ghost use Rattle.mcs_check.specs.ReadPoints.{Begins, ReadsTestPin, Reads, CannotRead, HasRead, HasSpun, Reaches, Spins, is_bit_subset, set_bits, unpressed_port_value, with_seen};
 
-use crate::cells::KeyByte;
+use crate::cells::StateByte;
 use crate::common_mistakes::Mistakes;
-use crate::last_key::both;
+use crate::last_vector::both;
 use crate::limits::InputLimits;
 use crate::property::Property;
 use crate::reading::{InputSource, input_source_of};
@@ -145,8 +145,8 @@ fn begins_spin_pass(regs: &Regs, r: RegNo, word: u8) -> bool
 
 /// Returns whether the passes of an ISZ that jumps to itself may run in one step. At least
 /// `MAX_CYCLES_BEFORE_LAST_PASS` cycles must be left, and the ISZ must not be at the address at which the run compares
-/// keys (`is_sought`). The scope must cover all conditions that must never be met and all that begin the stopwatch
-/// (`is_covered`). The next cycle must change nothing in the scope and make no mistake.
+/// state vectors (`is_sought`). The scope must cover all conditions that must never be met and all that begin the
+/// stopwatch (`is_covered`). The next cycle must change nothing in the scope and make no mistake.
 fn may_spin(left: u32, is_sought: bool, is_covered: bool, next_cycle_facts: &NextCycleFacts) -> bool
     ensures left { result ≡ true → 30 ≤ left }
     ensures scope { result ≡ true → (is_covered ≡ true) × ((next_cycle_facts.now.makes_mistake_in_scope ≡ false) × (next_cycle_facts.now.changes ≡ false)) }
@@ -317,9 +317,9 @@ impl SearchMachine {
         1
     }
 
-    /// Returns whether the next cycle, which reads no input, may have `value` as its answer. The answer is 0 unless
-    /// the cycle is the second one of an instruction.
-    fn may_answer_without_read(&self, value: u8) -> bool
+    /// Returns whether a search may try `value` as the choice of the next cycle, which reads no input. Only the choice
+    /// 0 is tried, unless the cycle is the second cycle of an instruction.
+    fn may_try_without_read(&self, value: u8) -> bool
         ensures { result ≡ (value == 0 || self.now.0.owed == 1) }
     {
         value == 0 || self.cpu.regs().owed == 1
@@ -365,7 +365,7 @@ impl SearchMachine {
         ensures { result ≡ false → CannotRead limits.now value self.now }
     {
         match source {
-            InputSource::NoInput => self.may_answer_without_read(value),
+            InputSource::NoInput => self.may_try_without_read(value),
             InputSource::Test => limits.allow_test_level(value),
             InputSource::Port => is_readable(least, value, most, limits.together()),
         }
@@ -445,11 +445,11 @@ impl SearchMachine {
         }
     }
 
-    /// Returns whether the program counter is `at` and `key` is the machine's key for this layout.
-    fn is_back_at_key(&self, layout: &[KeyByte], key: &[u8], at: Addr) -> bool
-        requires { length key.now ≡ length layout.now }
+    /// Returns whether the program counter is `at` and `vector` is the machine's state vector for this layout.
+    fn is_back_at_vector(&self, layout: &[StateByte], vector: &[u8], at: Addr) -> bool
+        requires { length vector.now ≡ length layout.now }
     {
-        self.cpu.regs().pc.get() == at.get() && self.matches_key(layout, key)
+        self.cpu.regs().pc.get() == at.get() && self.matches_vector(layout, vector)
     }
 
     /// Returns whether the property holds. Skips the check if the scope covers all conditions (`is_known`), the last
@@ -467,8 +467,8 @@ impl SearchMachine {
         is_known && !changed && !makes_mistake_in_scope || property.keeps(self)
     }
 
-    /// Returns whether a conjunction in `opens` is met. This is `was_open`, the answer before the last step, if the
-    /// scope covers all conditions in `opens` (`is_known`) and the last step changed nothing in the scope.
+    /// Returns whether a conjunction in `opens` is met. If the scope covers all conditions in `opens` (`is_known`) and
+    /// the last step changed nothing in the scope, returns `was_open`, the result before that step.
     fn is_open(&self, property: &Property, is_known: bool, changed: bool, was_open: bool) -> bool
         requires { is_known ≡ true → changed ≡ false → was_open ≡ condition_holds_at (observer_of_property property.now) self.now }
         ensures { result ≡ condition_holds_at (observer_of_property property.now) self.now }
@@ -489,7 +489,7 @@ impl SearchMachine {
         changes || self.seen != seen || self.elapsed.cycles() != elapsed.cycles()
     }
 
-    /// Returns `run` if the property holds, and `None` otherwise.
+    /// Returns `run` if the property holds in the machine's current state, and `None` otherwise.
     fn outcome(&self, property: &Property, run: Run) -> Option<Run>
         ensures { IfSome result (λ same. (same ≡ run) × (meets_none property.now.never_lists self.now ≡ true)) }
     {
@@ -500,17 +500,17 @@ impl SearchMachine {
         }
     }
 
-    /// Runs until the next cycle may read an input, the machine has the key `key` again, or `most` cycles have run.
-    /// `at` is the program counter of the key's machine. Returns `None` if the property fails at some step.
+    /// Runs until the next cycle may read an input, the machine has the state vector `vector` again, or `most` cycles
+    /// have run. `at` is the program counter in that state vector. Returns `None` if the property fails at some step.
     pub fn run_to_read_point(
         &mut self,
         property: &Property,
         most: u32,
-        layout: &[KeyByte],
-        key: &[u8],
+        layout: &[StateByte],
+        vector: &[u8],
         at: Addr,
     ) -> Option<Run>
-        requires { length key.now ≡ length layout.now }
+        requires { length vector.now ≡ length layout.now }
         ensures reaches { IfSome result (λ run. Reaches (observer_of_property property.now) (meets_none property.now.never_lists) run.cycles self.old self.new) }
         ensures keeps { KeepsBoardAndInputs self.old.1 self.new.1 }
         ensures memory { IfSome result (λ run. run.keeps_memory ≡ true → KeepsMemory self.old.1 self.new.1) }
@@ -540,9 +540,9 @@ impl SearchMachine {
             ) {
                 return None;
             }
-            // If the machine has the key again, the run is in a loop that reads no input. Further passes reach no new
-            // state.
-            if next_cycle_facts.may_read || self.is_back_at_key(layout, key, at) {
+            // If the machine has the same state vector again, the run is in a loop that reads no input. Further passes
+            // reach no new state.
+            if next_cycle_facts.may_read || self.is_back_at_vector(layout, vector, at) {
                 return Some(run);
             }
             let is_sought = self.program_counter().get() == at.get();

@@ -1,15 +1,15 @@
-//! A processor on a rig, whose cells are loaded from a key and saved into a key.
+//! A processor on a rig. Its cells can be loaded from a state vector and saved into a state vector.
 ghost use Rattle.std.specs.Prelude.{◌≡◌, ◌<◌, ◌≤◌, ℕ, All, length, slice_index, true, false, IsTrue};
 ghost use Rattle.mcs_model.specs.Validity.{IsValidBus, IsValidRegs};
 ghost use Rattle.mcs_drive.specs.TrackedMachine.{with_zero_counts};
 ghost use Rattle.mcs_check.specs.declared.cells.CellList.TheVariants.{RamNibbles, Counters};
-ghost use Rattle.mcs_check.specs.declared.cells.KeyByte.TheVariants.{Pair};
-ghost use Rattle.mcs_check.specs.Cells.{key_byte_value, values_in_list, value_at, key_of};
-ghost use Rattle.mcs_check.specs.Keys.{KeepsBoardAndInputs};
-ghost use Rattle.mcs_check.specs.Memory.{HasBytesFrom, HasFirstBytes, IsLastKeyOf, KeepsMemory, is_memory_byte, is_memory_list};
+ghost use Rattle.mcs_check.specs.declared.cells.StateByte.TheVariants.{Pair};
+ghost use Rattle.mcs_check.specs.Cells.{state_byte_value, values_in_list, value_at, vector_of};
+ghost use Rattle.mcs_check.specs.StateVectors.{KeepsBoardAndInputs};
+ghost use Rattle.mcs_check.specs.Memory.{HasBytesFrom, HasFirstBytes, IsLastVectorOf, KeepsMemory, is_memory_byte, is_memory_list};
 
-use crate::cells::{Cell, CellList, KeyByte, first_cell_of, second_cell_of};
-use crate::last_key::{LastKey, both, bytes_that_may_differ};
+use crate::cells::{Cell, CellList, StateByte, first_cell_of, second_cell_of};
+use crate::last_vector::{LastVector, both, bytes_that_may_differ};
 use crate::stopwatch::StopwatchCycles;
 use mcs_board::BenchRig;
 use mcs_cpu4004::Cpu;
@@ -171,20 +171,20 @@ impl SearchMachine {
         }
     }
 
-    /// Returns the byte of a key that holds both cells of a pair.
+    /// Returns the byte of the state vector that holds both cells of a pair.
     #[inline(always)]
     fn join_cells(&self, list: CellList, pair: u16) -> u8
-        ensures { result ≡ key_byte_value self.now (Pair list pair) }
+        ensures { result ≡ state_byte_value self.now (Pair list pair) }
     {
         let first = self.value(first_cell_of(list, pair)) % 16;
         let second = self.value(second_cell_of(list, pair)) % 16;
         first * 16 + second
     }
 
-    /// Returns the byte of a key that holds both RAM nibbles of a pair. This is faster than `join_cells`, because it
-    /// computes the bank only once.
-    fn join_characters(&self, pair: u16) -> u8
-        ensures { result ≡ key_byte_value self.now (Pair RamNibbles pair) }
+    /// Returns the byte of the state vector that holds both RAM nibbles of a pair. This is faster than `join_cells`,
+    /// because it computes the bank only once.
+    fn join_ram_nibbles(&self, pair: u16) -> u8
+        ensures { result ≡ state_byte_value self.now (Pair RamNibbles pair) }
     {
         let pair = pair % 1024;
         let bank = (pair / 128) as u8;
@@ -194,26 +194,29 @@ impl SearchMachine {
         first * 16 + second
     }
 
-    /// Returns the value of a key's byte. Each list with many cells has its own match arm. In that arm the list is
-    /// constant, so the compiled program does not test it for each of the two cells.
+    /// Returns the value of a byte of the state vector. Each list with many cells has its own match arm. In that arm
+    /// the list is constant, so the compiled program does not test it for each of the two cells.
     #[inline(always)]
-    fn byte(&self, byte: KeyByte) -> u8
-        ensures { result ≡ key_byte_value self.now byte }
+    fn byte(&self, byte: StateByte) -> u8
+        ensures { result ≡ state_byte_value self.now byte }
     {
         match byte {
-            KeyByte::One(cell) => self.value(cell),
-            KeyByte::Pair(CellList::RamNibbles, pair) => self.join_characters(pair),
-            KeyByte::Pair(CellList::StatusCharacters, pair) => {
+            StateByte::One(cell) => self.value(cell),
+            StateByte::Pair(CellList::RamNibbles, pair) => self.join_ram_nibbles(pair),
+            StateByte::Pair(CellList::StatusCharacters, pair) => {
                 self.join_cells(CellList::StatusCharacters, pair)
             }
-            KeyByte::Pair(CellList::Registers, pair) => self.join_cells(CellList::Registers, pair),
-            KeyByte::Pair(CellList::Chain(n), pair) => self.join_cells(CellList::Chain(n), pair),
-            KeyByte::Pair(list, pair) => self.join_cells(list, pair),
+            StateByte::Pair(CellList::Registers, pair) => self.join_cells(
+                CellList::Registers,
+                pair,
+            ),
+            StateByte::Pair(CellList::Chain(n), pair) => self.join_cells(CellList::Chain(n), pair),
+            StateByte::Pair(list, pair) => self.join_cells(list, pair),
         }
     }
 
     /// Sets the value of a cell. Writes a register to `regs` and any other cell to this machine. The contract does
-    /// not promise the value, so `load` checks it with `matches_key`.
+    /// not promise the value, so `load` checks it with `matches_vector`.
     #[inline(always)]
     fn set(&mut self, regs: &mut Regs, cell: Cell, n: u8)
         ensures keeps { KeepsBoardAndInputs self.old.1 self.new.1 }
@@ -262,7 +265,7 @@ impl SearchMachine {
         }
     }
 
-    /// Sets both cells of a pair from a key's byte `n`. Calls `set` for each cell.
+    /// Sets both cells of a pair from their byte `n` of the state vector. Calls `set` for each cell.
     #[inline(always)]
     fn split_into_cells(&mut self, regs: &mut Regs, list: CellList, pair: u16, n: u8)
         ensures keeps { KeepsBoardAndInputs self.old.1 self.new.1 }
@@ -272,35 +275,35 @@ impl SearchMachine {
         self.set(regs, second_cell_of(list, pair), n % 16);
     }
 
-    /// Sets the cells of a key's byte to the value `n`. Calls `set` for each cell. The match arms are the same as in
-    /// `byte`, for the same reason.
+    /// Sets the cells of a byte of the state vector from its value `n`. Calls `set` for each cell. The match arms are
+    /// the same as in `byte`, for the same reason.
     #[inline(always)]
-    fn set_byte(&mut self, regs: &mut Regs, byte: KeyByte, n: u8)
+    fn set_byte(&mut self, regs: &mut Regs, byte: StateByte, n: u8)
         ensures keeps { KeepsBoardAndInputs self.old.1 self.new.1 }
         ensures memory { is_memory_byte byte ≡ false → KeepsMemory self.old.1 self.new.1 }
     {
         match byte {
-            KeyByte::One(cell) => self.set(regs, cell, n),
-            KeyByte::Pair(CellList::RamNibbles, pair) => {
+            StateByte::One(cell) => self.set(regs, cell, n),
+            StateByte::Pair(CellList::RamNibbles, pair) => {
                 self.split_into_cells(regs, CellList::RamNibbles, pair, n);
             }
-            KeyByte::Pair(CellList::StatusCharacters, pair) => {
+            StateByte::Pair(CellList::StatusCharacters, pair) => {
                 self.split_into_cells(regs, CellList::StatusCharacters, pair, n);
             }
-            KeyByte::Pair(CellList::Registers, pair) => {
+            StateByte::Pair(CellList::Registers, pair) => {
                 self.split_into_cells(regs, CellList::Registers, pair, n);
             }
-            KeyByte::Pair(CellList::Chain(chain), pair) => {
+            StateByte::Pair(CellList::Chain(chain), pair) => {
                 self.split_into_cells(regs, CellList::Chain(chain), pair, n);
             }
-            KeyByte::Pair(list, pair) => self.split_into_cells(regs, list, pair, n),
+            StateByte::Pair(list, pair) => self.split_into_cells(regs, list, pair, n),
         }
     }
 
-    /// Sets the cells of a key's byte to the value `n`, unless `last` is the same value. Returns false if cells of the
-    /// memory may have changed.
+    /// Sets the cells of a byte of the state vector from its new value `n`, unless `n` equals the byte's last value
+    /// `last`. Returns false if cells of the memory may have changed.
     #[inline(always)]
-    fn change_byte(&mut self, regs: &mut Regs, byte: KeyByte, last: u8, n: u8) -> bool
+    fn change_byte(&mut self, regs: &mut Regs, byte: StateByte, last: u8, n: u8) -> bool
         ensures keeps { KeepsBoardAndInputs self.old.1 self.new.1 }
         ensures memory { result ≡ true → KeepsMemory self.old.1 self.new.1 }
         ensures equal { result ≡ true → is_memory_byte byte ≡ true → last ≡ n }
@@ -325,128 +328,135 @@ impl SearchMachine {
         self.cpu.set_owed(regs.owed % 2);
     }
 
-    /// Writes the first `count` bytes of the machine's key for a layout into `key`.
-    fn save_first(&self, layout: &[KeyByte], count: usize, key: &mut [u8])
-        requires length { length key.old ≡ length layout.now }
+    /// Writes the first `count` bytes of the machine's state vector for a layout into `vector`.
+    fn save_first(&self, layout: &[StateByte], count: usize, vector: &mut [u8])
+        requires length { length vector.old ≡ length layout.now }
         requires count { count ≤ length layout.now }
-        ensures length { length key.new ≡ length key.old }
-        ensures first { HasFirstBytes self.now layout.now key.new count }
-        ensures others { (k : ℕ) → count ≤ k → slice_index key.new k ≡ slice_index key.old k }
+        ensures length { length vector.new ≡ length vector.old }
+        ensures first { HasFirstBytes self.now layout.now vector.new count }
+        ensures others { (k : ℕ) → count ≤ k → slice_index vector.new k ≡ slice_index vector.old k }
     {
         for i in 0..count {
-            key[i] = self.byte(layout[i]);
+            vector[i] = self.byte(layout[i]);
         }
     }
 
-    /// Writes the machine's key for a layout into `key`, which must have the same length as the layout.
-    pub fn save(&self, layout: &[KeyByte], key: &mut [u8])
-        requires { length key.old ≡ length layout.now }
-        ensures { key.new ≡ key_of layout.now self.now }
+    /// Writes the machine's state vector for a layout into `vector`, which must have the same length as the layout.
+    pub fn save(&self, layout: &[StateByte], vector: &mut [u8])
+        requires { length vector.old ≡ length layout.now }
+        ensures { vector.new ≡ vector_of layout.now self.now }
     {
-        self.save_first(layout, layout.len(), key);
+        self.save_first(layout, layout.len(), vector);
     }
 
-    /// Writes the machine's key into `into`, as `save` does. If `keeps_memory` is true, the bytes of `key` from byte
-    /// `front` on must be those of the machine's key. They are then copied, which is faster.
+    /// Writes the machine's state vector into `into`, as `save` does. If `keeps_memory` is true, the bytes of `vector`
+    /// from byte `front` on must be those of the machine's state vector. They are then copied, which is faster.
     pub(crate) fn save_after(
         &self,
-        layout: &[KeyByte],
+        layout: &[StateByte],
         front: usize,
-        key: &[u8],
+        vector: &[u8],
         keeps_memory: bool,
         into: &mut [u8],
     )
-        requires key { length key.now ≡ length layout.now }
+        requires vector { length vector.now ≡ length layout.now }
         requires into { length into.old ≡ length layout.now }
         requires front { front ≤ length layout.now }
-        requires memory { keeps_memory ≡ true → HasBytesFrom self.now layout.now key.now front }
-        ensures { into.new ≡ key_of layout.now self.now }
+        requires memory { keeps_memory ≡ true → HasBytesFrom self.now layout.now vector.now front }
+        ensures { into.new ≡ vector_of layout.now self.now }
     {
         if !keeps_memory {
             self.save(layout, into);
             return;
         }
-        into.copy_from_slice(key);
+        into.copy_from_slice(vector);
         self.save_first(layout, front, into);
     }
 
-    /// Returns true only if the first `count` bytes of `key` are those of the machine's key for this layout.
-    fn matches_first(&self, layout: &[KeyByte], key: &[u8], count: usize) -> bool
-        requires length { length key.now ≡ length layout.now }
+    /// Returns true only if the first `count` bytes of `vector` are those of the machine's state vector for this
+    /// layout.
+    fn matches_first(&self, layout: &[StateByte], vector: &[u8], count: usize) -> bool
+        requires length { length vector.now ≡ length layout.now }
         requires count { count ≤ length layout.now }
-        ensures { IsTrue result → HasFirstBytes self.now layout.now key.now count }
+        ensures { IsTrue result → HasFirstBytes self.now layout.now vector.now count }
     {
         for i in 0..count {
-            if key[i] != self.byte(layout[i]) {
+            if vector[i] != self.byte(layout[i]) {
                 return false;
             }
         }
         true
     }
 
-    /// Returns true only if `key` is the machine's key for this layout.
-    pub(crate) fn matches_key(&self, layout: &[KeyByte], key: &[u8]) -> bool
-        requires { length key.now ≡ length layout.now }
-        ensures { IsTrue result → key.now ≡ key_of layout.now self.now }
+    /// Returns true only if `vector` is the machine's state vector for this layout.
+    pub(crate) fn matches_vector(&self, layout: &[StateByte], vector: &[u8]) -> bool
+        requires { length vector.now ≡ length layout.now }
+        ensures { IsTrue result → vector.now ≡ vector_of layout.now self.now }
     {
-        self.matches_first(layout, key, layout.len())
+        self.matches_first(layout, vector, layout.len())
     }
 
-    /// Sets the cells of a layout from a key, which must have the same length as the layout. Returns true only if the
-    /// machine then has this key.
-    pub fn load(&mut self, layout: &[KeyByte], key: &[u8]) -> bool
-        requires { length key.now ≡ length layout.now }
+    /// Sets the cells of a layout from a state vector, which must have the same length as the layout. Returns true only
+    /// if the machine then has this state vector.
+    pub fn load(&mut self, layout: &[StateByte], vector: &[u8]) -> bool
+        requires { length vector.now ≡ length layout.now }
         ensures keeps { KeepsBoardAndInputs self.old.1 self.new.1 }
-        ensures loaded { IsTrue result → key.now ≡ key_of layout.now self.new }
+        ensures loaded { IsTrue result → vector.now ≡ vector_of layout.now self.new }
     {
         let mut regs = self.cpu.regs();
         for i in 0..layout.len() {
-            self.set_byte(&mut regs, layout[i], key[i]);
+            self.set_byte(&mut regs, layout[i], vector[i]);
         }
         self.set_registers(&regs);
-        self.matches_key(layout, key)
+        self.matches_vector(layout, vector)
     }
 
-    /// Sets the cells whose bytes differ between the keys `last` and `key`. Returns true only if the machine then has
-    /// the key `key`. Does not compare the memory's bytes if `last` is current and none of them differs.
-    fn set_changed_cells(&mut self, layout: &[KeyByte], last: &LastKey, key: &[u8]) -> bool
+    /// Sets the cells whose bytes differ between the state vectors `last` and `vector`. Returns true only if `vector`
+    /// is then the machine's state vector. Does not compare the memory's bytes if `last` is current and none of them
+    /// differs.
+    fn set_changed_cells(&mut self, layout: &[StateByte], last: &LastVector, vector: &[u8]) -> bool
         requires last { length last.now.bytes.items ≡ length layout.now }
-        requires key { length key.now ≡ length layout.now }
-        requires known { IsLastKeyOf layout.now last.now self.old }
+        requires vector { length vector.now ≡ length layout.now }
+        requires known { IsLastVectorOf layout.now last.now self.old }
         ensures keeps { KeepsBoardAndInputs self.old.1 self.new.1 }
-        ensures loaded { IsTrue result → key.now ≡ key_of layout.now self.new }
+        ensures loaded { IsTrue result → vector.now ≡ vector_of layout.now self.new }
     {
         let mut regs = self.cpu.regs();
         let mut keeps_memory = last.is_current;
-        for i in 0..bytes_that_may_differ(&last.bytes, key, last.front) {
-            let is_kept = self.change_byte(&mut regs, layout[i], last.bytes[i], key[i]);
+        for i in 0..bytes_that_may_differ(&last.bytes, vector, last.front) {
+            let is_kept = self.change_byte(&mut regs, layout[i], last.bytes[i], vector[i]);
             keeps_memory = both(keeps_memory, is_kept);
         }
         self.set_registers(&regs);
         if !keeps_memory {
-            return self.matches_key(layout, key);
+            return self.matches_vector(layout, vector);
         }
-        self.matches_first(layout, key, last.front)
+        self.matches_first(layout, vector, last.front)
     }
 
-    /// Sets the cells of a layout from `key`, as `load` does, and returns the same result as `load`. This is faster if
-    /// `last` is current. `last` becomes `key`, or is not current afterwards.
-    pub(crate) fn reload(&mut self, layout: &[KeyByte], last: &mut LastKey, key: &[u8]) -> bool
-        requires key { length key.now ≡ length layout.now }
-        requires known { IsLastKeyOf layout.now last.old self.old }
+    /// Sets the cells of a layout from `vector`, as `load` does, and returns the same result as `load`. This is faster
+    /// if `last` is current. `last` becomes `vector`, or is not current afterwards.
+    pub(crate) fn reload(
+        &mut self,
+        layout: &[StateByte],
+        last: &mut LastVector,
+        vector: &[u8],
+    ) -> bool
+        requires vector { length vector.now ≡ length layout.now }
+        requires known { IsLastVectorOf layout.now last.old self.old }
         ensures keeps { KeepsBoardAndInputs self.old.1 self.new.1 }
-        ensures loaded { IsTrue result → key.now ≡ key_of layout.now self.new }
-        ensures known { IsLastKeyOf layout.now last.new self.new }
+        ensures loaded { IsTrue result → vector.now ≡ vector_of layout.now self.new }
+        ensures known { IsLastVectorOf layout.now last.new self.new }
     {
-        if last.bytes.len() == key.len() {
-            let is_set = self.set_changed_cells(layout, last, key);
-            last.remember(key);
+        if last.bytes.len() == vector.len() {
+            let is_set = self.set_changed_cells(layout, last, vector);
+            last.remember(vector);
             if is_set {
                 return true;
             }
         }
         last.is_current = false;
-        self.load(layout, key)
+        self.load(layout, vector)
     }
 
     /// Proves that the machine is valid: its registers and its bus are in their ranges.

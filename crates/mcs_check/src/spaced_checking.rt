@@ -6,31 +6,31 @@ ghost use Rattle.mcs_check.specs.SearchStep.{IsState};
 
 use crate::checking::{Outcome, states_that_fit};
 use crate::machine_search::MachineSearch;
-use crate::spaced_search::{SpacedSearch, first_spaced_key};
+use crate::spaced_search::{SpacedSearch, first_timed_vector};
 use crate::spacing::MAX_WAIT;
 use mcs_search::{MAX_STATES, Verdict, search_all};
 use std::alloc::{AllocError, Global};
 
-/// Searches all runs of the machine that `key` identifies, for inputs within the limits. Two changes of these inputs
+/// Searches all runs of the machine that `vector` identifies, for inputs within the limits. Two changes of these inputs
 /// are at least `wait` cycles apart, and no key stays down for more than `held` cycles. Gives up if the limits allow
 /// more than 255 levels. See `check_all` for `most` and `memory`. Fails if memory for the levels or for the first state
 /// runs out.
 pub(crate) fn search_by_levels(
     alloc: Global,
     machines: MachineSearch,
-    key: &[u8],
+    vector: &[u8],
     most: usize,
     memory: usize,
 ) -> Result<Outcome, AllocError>
     requires most { most ≤ MAX_STATES }
-    requires state { IsState machines key.now }
-    ensures { IfOk result (IsProvedAt machines key.now) }
+    requires state { IsState machines vector.now }
+    ensures { IfOk result (IsProvedAt machines vector.now) }
 {
     let wait = machines.wait().min(MAX_WAIT);
     let Some(levels) = machines.all_levels(alloc)? else {
         return Ok(Outcome::GaveUp);
     };
-    let start = first_spaced_key(alloc, key)?;
+    let start = first_timed_vector(alloc, vector)?;
     let limit = most.min(states_that_fit(memory, start.len()));
     let mut search = SpacedSearch {
         machines,

@@ -1,5 +1,6 @@
-//! The search by levels. Its keys, the spaced keys, identify a machine and what the search remembers of the machine's
-//! inputs. Its choices are the levels at which the next step can begin.
+//! The search by levels. Its states are timed state vectors. A timed state vector is a machine's state vector and,
+//! after it, the bytes of what the search remembers of the machine's inputs (`Spacing`). In each state, its choices are
+//! the levels at which the next step can begin.
 ghost use Rattle.std.specs.Prelude.{[], ◌∷◌, ◌++◌, ◌≡◌, ◌<◌, ◌≤◌, ℕ, length, true, IfOk, OnOk};
 ghost use Rattle.std.specs.List.{All, Contains};
 ghost use Rattle.mcs_check.specs.declared.spacing.TheConstants.{NO_LEVELS};
@@ -50,17 +51,18 @@ impl SpacedSearch {
     }
 }
 
-/// Returns the spaced key of a machine before its first step. Fails if memory runs out.
-pub(crate) fn first_spaced_key(alloc: Global, key: &[u8]) -> Result<Vec<u8>, AllocError>
-    ensures { IfOk result (λ spaced. spaced.items ≡ key.now ++ NO_LEVELS ∷ 0 ∷ 0 ∷ 0 ∷ 0 ∷ 0 ∷ 0 ∷ 0 ∷ 0 ∷ []) }
+/// Returns the timed state vector with which a search begins. `vector` is the state vector of the machine at the start.
+/// Fails if memory runs out.
+pub(crate) fn first_timed_vector(alloc: Global, vector: &[u8]) -> Result<Vec<u8>, AllocError>
+    ensures { IfOk result (λ timed. timed.items ≡ vector.now ++ NO_LEVELS ∷ 0 ∷ 0 ∷ 0 ∷ 0 ∷ 0 ∷ 0 ∷ 0 ∷ 0 ∷ []) }
 {
-    let mut spaced = Vec::new(alloc);
-    spaced.extend_from_slice(key)?;
-    spaced.extend_from_slice(&[NO_LEVELS, 0, 0, 0, 0, 0, 0, 0, 0])?;
-    Ok(spaced)
+    let mut timed = Vec::new(alloc);
+    timed.extend_from_slice(vector)?;
+    timed.extend_from_slice(&[NO_LEVELS, 0, 0, 0, 0, 0, 0, 0, 0])?;
+    Ok(timed)
 }
 
-/// Appends the index of each of the levels `all` at which the next step can begin. Fails if memory runs out.
+/// Appends to `into` each index in `all` at whose levels the next step can begin. Fails if memory runs out.
 fn push_indices(
     all: &[Levels],
     spacing: Spacing,
@@ -88,28 +90,28 @@ impl System for SpacedSearch {
 
     ghost rules = { spaced_rules };
 
-    fn choices(&mut self, key: &[u8], into: &mut Vec<u8>) -> Result<(), AllocError> {
-        let spacing = Spacing::of_key(key, self.machines.key_len());
+    fn choices(&mut self, state: &[u8], into: &mut Vec<u8>) -> Result<(), AllocError> {
+        let spacing = Spacing::of_vector(state, self.machines.vector_len());
         into.clear();
         let held = self.machines.held();
         push_indices(&self.levels, spacing, self.wait, held, into)
     }
 
-    fn apply_choice(&mut self, key: &[u8], choice: u8, into: &mut [u8]) -> Option<bool> {
-        let len = self.machines.key_len();
+    fn apply_choice(&mut self, state: &[u8], choice: u8, into: &mut [u8]) -> Option<bool> {
+        let len = self.machines.vector_len();
         let held = self.machines.held();
-        if key.len() < len || key.len() - len != SPACING_BYTES {
+        if state.len() < len || state.len() - len != SPACING_BYTES {
             return None;
         }
-        let machine = &key[..len];
+        let machine = &state[..len];
         let levels = self.levels.get(usize::from(choice))?;
-        let value = self.machines.value_at_key(machine, levels)?;
+        let value = self.machines.value_at_vector(machine, levels)?;
         let (next, spacing) = into.split_at_mut(len);
         let end = self.machines.run(machine, value, next)?;
         let StepEnd::Reached(cycles) = end else {
             return Some(false);
         };
-        let before = Spacing::of_key(key, len);
+        let before = Spacing::of_vector(state, len);
         before
             .after(self.wait, held, &self.levels, choice, levels, cycles)
             .write(spacing);

@@ -3,9 +3,9 @@
 ghost use Rattle.std.specs.Prelude.{◌≡◌, ◌≤◌, drop, length, slice_index};
 ghost use Rattle.mcs_check.specs.SpacedInputs.{age_at_begin, can_begin_at, down_after, down_at_begin, held_allows, number_at, spacing_after, spacing_of_bytes, wait_allows};
 
-use crate::level_sets::{Levels, have_same_keys};
+use crate::level_sets::{Levels, have_same_key_levels};
 
-/// The index that stands for no levels, before the first step of a search.
+/// The value of `Spacing::last` before the first step of a search, when there are no last levels.
 pub(crate) const NO_LEVELS: u8 = 255;
 
 /// The largest number of cycles between two changes for which each age fits into 32 bits.
@@ -39,7 +39,7 @@ fn byte_at(bytes: &[u8], i: usize) -> u8
     }
 }
 
-/// Returns the number in the four bytes from index `i` on, least significant byte first. Bytes that are missing are 0.
+/// Returns the number in the four bytes from index `i` on, least significant byte first. Missing bytes count as 0.
 fn number_at(bytes: &[u8], i: usize) -> u32
     requires { i ≤ SPACING_BYTES }
     ensures { result ≡ number_at bytes.now i }
@@ -50,7 +50,7 @@ fn number_at(bytes: &[u8], i: usize) -> u32
 }
 
 impl Spacing {
-    /// Returns what these bytes say. Bytes that are missing are 0.
+    /// Decodes what a search remembers from these bytes. Missing bytes count as 0.
     pub(crate) fn of_bytes(bytes: &[u8]) -> Spacing
         ensures { result ≡ spacing_of_bytes bytes.now }
     {
@@ -61,17 +61,17 @@ impl Spacing {
         }
     }
 
-    /// Returns what the bytes of a spaced key after its first `len` bytes say.
-    pub(crate) fn of_key(key: &[u8], len: usize) -> Spacing
-        ensures { result ≡ spacing_of_bytes (drop len key.now) }
+    /// Returns what a timed state vector says about the inputs. Its first `len` bytes are the machine's state vector.
+    pub(crate) fn of_vector(vector: &[u8], len: usize) -> Spacing
+        ensures { result ≡ spacing_of_bytes (drop len vector.now) }
     {
-        match key.get(len..) {
+        match vector.get(len..) {
             Some(bytes) => Spacing::of_bytes(bytes),
             None => Spacing::of_bytes(&[]),
         }
     }
 
-    /// Writes what a search remembers into these bytes.
+    /// Encodes what a search remembers into these bytes.
     pub(crate) fn write(self, bytes: &mut [u8])
         requires { length bytes.old ≡ SPACING_BYTES }
         ensures { spacing_of_bytes bytes.new ≡ self }
@@ -99,7 +99,7 @@ impl Spacing {
     fn down_at_begin(self, all: &[Levels], index: u8) -> u32
         ensures { result ≡ down_at_begin all.now self index }
     {
-        if self.last != NO_LEVELS && have_same_keys(all, self.last, index) {
+        if self.last != NO_LEVELS && have_same_key_levels(all, self.last, index) {
             self.down
         } else {
             0

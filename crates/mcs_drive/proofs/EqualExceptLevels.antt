@@ -4,7 +4,7 @@ use Rattle.std.proofs.Common.{◌≡◌, ◌<◌, ◌≤◌, ℕ, zero, suc, Boo
 use Rattle.mcs_model.specs.Boards.{board_fault_of}
 use Rattle.mcs_model.specs.Bus.{fetch_of}
 use Rattle.mcs_drive.specs.DrivenRuns.{Levels}
-use Rattle.mcs_drive.specs.TrackedMachine.{Observer, TrackedMachine, with_levels, without_levels, cycled, after_cycles, next_reads_input, answer}
+use Rattle.mcs_drive.specs.TrackedMachine.{Observer, TrackedMachine, with_levels, without_levels, cycled, after_cycles, next_reads_input, value_read}
 use Rattle.mcs_drive.specs.RunsBetweenReads.{IgnoresLevels, LeadsTo}
 use Rattle.mcs_drive.proofs.Tracking.{cycled-with_levels-if-no-read, cycled-decided-by-value-read}
 use Rattle.mcs_drive.proofs.ReadPoints.{cycle-board, cycles-board}
@@ -40,8 +40,8 @@ module _ (w : Observer) where
   after_cycles-first zero s = refl
   after_cycles-first (suc i) s = ap (cycled w) (after_cycles-first i s)
 
-  pub answers-lead : (p : TrackedMachine → Bool) (a b : TrackedMachine) (l m : Levels) → IgnoresLevels p → board_fault_of a.1.board ≡ None → answer l a ≡ answer m a → LeadsTo w p a b m → LeadsTo w p a b l
-  answers-lead p a b l m ignores v same to =
+  pub leads-if_same_read : (p : TrackedMachine → Bool) (a b : TrackedMachine) (l m : Levels) → IgnoresLevels p → board_fault_of a.1.board ≡ None → value_read l a ≡ value_read m a → LeadsTo w p a b m → LeadsTo w p a b l
+  leads-if_same_read p a b l m ignores v same to =
       let s = cycled w (with_levels m a) in
       let t = cycled w (with_levels l a) in
       let first : without_levels s ≡ without_levels t = sym (cycled-decided-by-value-read w l m a v same) in

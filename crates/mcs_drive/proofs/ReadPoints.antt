@@ -1,4 +1,4 @@
--- Runs that are split at the reads of inputs.
+-- Runs, split where a cycle reads an input.
 use Rattle.std.proofs.Common.{◌≡◌, ℕ, ◌+◌, ◌-◌, ◌/◌, ◌<◌, zero, suc, List, Bool, true, false, cond, Option, Some, None, unwrap_or, inl, inr, refl, sym, ap, ◌∙◌, subst, arith, nat_lt, eqb}
 use Rattle.std.proofs.lemmas.Bool.{cases_lt}
 use Rattle.mcs_nibble.specs.declared.lines.LineMask.{LineMask}
@@ -93,8 +93,8 @@ module _ (w : Observer) where
 
   -- ---- an invariant of one run, which may depend on the inputs and on the moment
 
-  -- Holds if a run that is at `a` at moment `n` leads, at the input levels `l`, to a machine for
-  -- which `R` holds at the moment of arrival.
+  -- Holds if `a`, reached at moment `n` of a run, leads at the input levels `l` to a machine for
+  -- which `R` holds at the moment of its arrival.
   abbrev pub LeadsAlong : (TrackedMachine → Bool) → (ℕ → TrackedMachine → Type 0) → ℕ → TrackedMachine → Levels → Type 0
   LeadsAlong p R n a l = (to : TrackedMachine) × (leads : LeadsTo w p a to l) × R (n + suc leads.more) to
 

@@ -13,7 +13,7 @@ use Rattle.mcs_model.specs.Levels.{is_pulled, is_rom_line, row_drives_column}
 use Rattle.mcs_model.specs.Effect.{with_pc_on_page, after_jcn, with_acc, after_fetch, registers_after, bus_after, cycle_of, effect, instruction_at}
 use Rattle.mcs_model.specs.Running.{Machine}
 use Rattle.mcs_drive.specs.DrivenRuns.{Levels, with_levels, cycled}
-use Rattle.mcs_drive.specs.InputReads.{without_levels, answer, value_read_by, can_be_pulled}
+use Rattle.mcs_drive.specs.InputReads.{without_levels, value_read, value_read_by, can_be_pulled}
 use Rattle.mcs_drive.proofs.LevelLemmas.{at_levels, bus_after-at_levels, is_taken-ignores-unread-test}
 
 after_jcn-decided-by-value-read : (l l' : Levels) (c w : ℕ) (s : Regs) (b : Bool) → eqb (c % 2) 1 ≡ b → cond b l.test 0 ≡ cond b l'.test 0 → after_jcn c w s l.test ≡ after_jcn c w s l'.test
@@ -35,13 +35,13 @@ effect-decided-by-value-read l l' (Some op) s m v e =
     ∙ ap (λ b. without_levels (registers_after op (after_fetch op s) (at_levels l' m), b)) (bus_after-at_levels l op s m v)
     ∙ sym (ap (λ b. without_levels (registers_after op (after_fetch op s) (at_levels l' m), b)) (bus_after-at_levels l' op s m v))
 
-cycle_of-decided-by-value-read : (l l' : Levels) (s : Machine) (b : Bool) → board_fault_of s.1.board ≡ None → answer l s ≡ answer l' s →
+cycle_of-decided-by-value-read : (l l' : Levels) (s : Machine) (b : Bool) → board_fault_of s.1.board ≡ None → value_read l s ≡ value_read l' s →
     without_levels (unwrap_or (cond b (Some (record s.0 { owed = 0 }, at_levels l s.1)) (elim (instruction_at s.0 s.1) as (λ _. Option (Regs × BusState)) [ Some op ↦ Some (effect op s.0 (at_levels l s.1)) | None ↦ None ])) (with_levels l s))
     ≡ without_levels (unwrap_or (cond b (Some (record s.0 { owed = 0 }, at_levels l' s.1)) (elim (instruction_at s.0 s.1) as (λ _. Option (Regs × BusState)) [ Some op ↦ Some (effect op s.0 (at_levels l' s.1)) | None ↦ None ])) (with_levels l' s))
 cycle_of-decided-by-value-read l l' s true v e = refl
 cycle_of-decided-by-value-read l l' s false v e = effect-decided-by-value-read l l' (instruction_at s.0 s.1) s.0 s.1 v e
 
-pub cycled-decided-by-value-read : (l l' : Levels) (s : Machine) → board_fault_of s.1.board ≡ None → answer l s ≡ answer l' s → without_levels (cycled (with_levels l s)) ≡ without_levels (cycled (with_levels l' s))
+pub cycled-decided-by-value-read : (l l' : Levels) (s : Machine) → board_fault_of s.1.board ≡ None → value_read l s ≡ value_read l' s → without_levels (cycled (with_levels l s)) ≡ without_levels (cycled (with_levels l' s))
 unfolding cycle_of fetch_of
 cycled-decided-by-value-read l l' s v e = cycle_of-decided-by-value-read l l' s (eqb s.0.owed 1) v e
 

@@ -13,7 +13,7 @@ use Rattle.mcs_drive.specs.declared.marks.Mark.{Mark}
 use Rattle.mcs_drive.specs.DrivenRuns.{Levels}
 use Rattle.mcs_drive.specs.InputReads.{reads_input, value_read_by}
 use Rattle.mcs_drive.specs.Marks.{column_line, line_shows, shows}
-use Rattle.mcs_drive.specs.TrackedMachine.{Observer, TrackedMachine, answer, next_reads_input, seen_count_after, condition_holds_at, seen_mark_count, seen_after, seen_after_reading, shows_next_mark, with_levels}
+use Rattle.mcs_drive.specs.TrackedMachine.{Observer, TrackedMachine, value_read, next_reads_input, seen_count_after, condition_holds_at, seen_mark_count, seen_after, seen_after_reading, shows_next_mark, with_levels}
 use Rattle.mcs_drive.proofs.LevelLemmas.{at_levels}
 
 -- true if `o` contains a mark for which `p` is true
@@ -85,7 +85,7 @@ seen_after_reading-with_levels w l s value =
     ap (seen_count_after (length w.marks) s.2.seen (condition_holds_at w s))
     (mark_satisfies-for-equal-predicates (slice_get w.marks (seen_mark_count (length w.marks) s.2.seen)) (shows op (at_levels l s.1) value) (shows op s.1 value) (shows-at_levels l op s.1 value))
 
-seen_after_reading-decided-by-value-read : (w : Observer) (l l' : Levels) (s : TrackedMachine) → answer l s ≡ answer l' s → seen_after_reading w s (port_of (at_levels l s.1)) ≡ seen_after_reading w s (port_of (at_levels l' s.1))
+seen_after_reading-decided-by-value-read : (w : Observer) (l l' : Levels) (s : TrackedMachine) → value_read l s ≡ value_read l' s → seen_after_reading w s (port_of (at_levels l s.1)) ≡ seen_after_reading w s (port_of (at_levels l' s.1))
 seen_after_reading-decided-by-value-read w l l' s same =
     let op = cond (eqb s.0.owed 1) None (instruction_at s.0 s.1) in
     ap (seen_count_after (length w.marks) s.2.seen (condition_holds_at w s))
@@ -94,6 +94,6 @@ seen_after_reading-decided-by-value-read w l l' s same =
 
 -- if a cycle reads the same value at two sets of input levels, the count of marks after the cycle
 -- is the same at both
-pub seen_after-decided-by-value-read : (w : Observer) (l l' : Levels) (s : TrackedMachine) → answer l s ≡ answer l' s → seen_after w (with_levels l s) ≡ seen_after w (with_levels l' s)
+pub seen_after-decided-by-value-read : (w : Observer) (l l' : Levels) (s : TrackedMachine) → value_read l s ≡ value_read l' s → seen_after w (with_levels l s) ≡ seen_after w (with_levels l' s)
 seen_after-decided-by-value-read w l l' s same =
     seen_after_reading-with_levels w l s (port_of (at_levels l s.1)) ∙ seen_after_reading-decided-by-value-read w l l' s same ∙ sym (seen_after_reading-with_levels w l' s (port_of (at_levels l' s.1)))

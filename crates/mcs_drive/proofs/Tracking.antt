@@ -4,7 +4,7 @@ use Rattle.mcs_model.specs.Boards.{board_fault_of}
 use Rattle.mcs_model.specs.Bus.{fetch_of}
 use Rattle.mcs_model.specs.Running.{Machine}
 use Rattle.mcs_drive.specs.DrivenRuns.{Levels, with_levels as under_machine, cycled as cycled_machine, driven as driven_machine}
-use Rattle.mcs_drive.specs.TrackedMachine.{Counts, Observer, TrackedMachine, machine_in, counts_after, with_levels, without_levels, cycled, next_reads_input, answer, driven}
+use Rattle.mcs_drive.specs.TrackedMachine.{Counts, Observer, TrackedMachine, machine_in, counts_after, with_levels, without_levels, cycled, next_reads_input, value_read, driven}
 use Rattle.mcs_drive.proofs.LevelLemmas.{cycled-with_levels-if-no-read as machine-rest}
 use Rattle.mcs_drive.proofs.ReadValueLemmas.{cycled-decided-by-value-read as machine-decides}
 use Rattle.mcs_drive.proofs.SeenMarkLemmas.{seen_after-with_levels-if-no-read, seen_after-decided-by-value-read}
@@ -22,7 +22,7 @@ module _ (w : Observer) where
       ∙ ap (with_counts (counts_after w s)) (machine-rest l (machine_in s) v e)
 
   -- the input levels affect a cycle only through the value that the cycle reads
-  pub cycled-decided-by-value-read : (l l' : Levels) (s : TrackedMachine) → board_fault_of s.1.board ≡ None → answer l s ≡ answer l' s → without_levels (cycled w (with_levels l s)) ≡ without_levels (cycled w (with_levels l' s))
+  pub cycled-decided-by-value-read : (l l' : Levels) (s : TrackedMachine) → board_fault_of s.1.board ≡ None → value_read l s ≡ value_read l' s → without_levels (cycled w (with_levels l s)) ≡ without_levels (cycled w (with_levels l' s))
   unfolding fetch_of
   cycled-decided-by-value-read l l' s v e =
       ap (λ (n : ℕ). without_levels (with_counts (record (counts_after w s) { seen = n }) (cycled_machine (under_machine l (machine_in s))))) (seen_after-decided-by-value-read w l l' s e)

@@ -43,8 +43,8 @@ value_read_by (Some (Jcn c w)) l m = if c % 2 == 1 then l.test else 0
 value_read_by _ l m = 0
 
 -- the value that the instruction at the program counter reads at the input levels `l`
-abbrev pub answer : Levels → Machine → ℕ
-answer l s = value_read_by (instruction_at s.0 s.1) l s.1
+abbrev pub value_read : Levels → Machine → ℕ
+value_read l s = value_read_by (instruction_at s.0 s.1) l s.1
 
 -- a machine without its input levels: no keys, and TEST at 0
 abbrev pub without_levels : Machine → Machine
@@ -53,7 +53,7 @@ without_levels s = with_levels (record { keys = []; test = 0 }) s
 -- the input levels affect a cycle only through the value that the cycle reads
 abbrev pub ReadsDecideCycle : Type 0
 ReadsDecideCycle =
-    (l l' : Levels) (s : Machine) → board_fault_of s.1.board ≡ None → answer l s ≡ answer l' s →
+    (l l' : Levels) (s : Machine) → board_fault_of s.1.board ≡ None → value_read l s ≡ value_read l' s →
     without_levels (cycled (with_levels l s)) ≡ without_levels (cycled (with_levels l' s))
 
 -- ---- the values that a read can return

@@ -5,8 +5,7 @@ use Rattle.mcs_drive.specs.DrivenRuns.{AreInputsAllowed, InputLimits, Levels}
 use Rattle.mcs_drive.specs.Marks.{PassesMarks}
 use Rattle.mcs_drive.specs.TrackedMachine.{Observer, TrackedMachine, Holds, driven, condition_holds_at}
 
--- false if the condition of an observer holds before all marks of the observer are seen, otherwise
--- true
+-- true unless the condition of an observer holds before all marks of the observer are seen
 abbrev pub holds_only_after_marks : Observer → TrackedMachine → Bool
 holds_only_after_marks w s = not (condition_holds_at w s && nat_lt s.2.seen (length w.marks))
 

@@ -2,7 +2,7 @@
 use Rattle.std.specs.Prelude.{◌≡◌, ◌<◌, ◌≤◌, ℕ, suc, Bool, true, false, None}
 use Rattle.mcs_model.specs.Boards.{board_fault_of}
 use Rattle.mcs_drive.specs.DrivenRuns.{Levels}
-use Rattle.mcs_drive.specs.TrackedMachine.{Observer, TrackedMachine, with_levels, without_levels, after_cycles, next_reads_input, answer}
+use Rattle.mcs_drive.specs.TrackedMachine.{Observer, TrackedMachine, with_levels, without_levels, after_cycles, next_reads_input, value_read}
 
 -- holds if the property `p` does not depend on the input levels
 abbrev pub IgnoresLevels : (TrackedMachine → Bool) → Type 0
@@ -22,4 +22,4 @@ pub record LeadsTo (w : Observer) (p : TrackedMachine → Bool) (a b : TrackedMa
 abbrev pub SameReadGivesSameRun : Type 0
 SameReadGivesSameRun =
     (w : Observer) (p : TrackedMachine → Bool) (a b : TrackedMachine) (l m : Levels) → IgnoresLevels p → board_fault_of a.1.board ≡ None →
-    answer l a ≡ answer m a → LeadsTo w p a b m → LeadsTo w p a b l
+    value_read l a ≡ value_read m a → LeadsTo w p a b m → LeadsTo w p a b l

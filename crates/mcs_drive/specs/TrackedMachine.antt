@@ -162,8 +162,8 @@ abbrev pub next_reads_input : TrackedMachine → Bool
 next_reads_input s = not (s.0.owed == 1) && reads_input (instruction_at s.0 s.1)
 
 -- the value that the instruction at the program counter reads at the input levels `l`
-abbrev pub answer : Levels → TrackedMachine → ℕ
-answer l s = value_read_by (instruction_at s.0 s.1) l s.1
+abbrev pub value_read : Levels → TrackedMachine → ℕ
+value_read l s = value_read_by (instruction_at s.0 s.1) l s.1
 
 -- a tracked machine after `k` cycles, if its inputs are set to the levels `f i` before cycle `i`,
 -- counted from 0

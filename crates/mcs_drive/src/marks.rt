@@ -1,6 +1,7 @@
-//! The key levels that an observer looks for.
+//! Marks: the key levels that an observer looks for.
 
-/// The level of one key, down or up, that an observer looks for.
+/// A key of the key matrix together with a level, down or up. An observer has a list of marks. It looks for the reads
+/// that show each key of the list at its level, in the order of the list.
 #[derive(Clone, Copy, Debug)]
 pub struct Mark {
     /// The row of the key.

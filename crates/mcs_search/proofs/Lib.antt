@@ -1,3 +1,3 @@
-pub mod KeyLists
+pub mod StateLists
 pub mod Blocks
 pub mod Closures

@@ -4,7 +4,7 @@
 
 mod arena;
 mod block;
-mod following;
+mod expanding;
 mod searching;
 mod system;
 mod visited;

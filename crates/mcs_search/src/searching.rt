@@ -4,7 +4,7 @@ ghost use Rattle.mcs_search.specs.Rules.{Rules};
 ghost use Rattle.mcs_search.specs.Verdicts.{IsProved, IsUnderWay, SearchProgress, start_of};
 
 use crate::block::Parent;
-use crate::following::{FollowOutcome, choices_to, follow_choices, is_counterexample};
+use crate::expanding::{ExpandOutcome, choices_to, expand_state, is_counterexample};
 use crate::system::System;
 use crate::visited::VisitedSet;
 use std::alloc::{AllocError, Global};
@@ -18,7 +18,7 @@ pub const MAX_STATES: usize = 4_000_000_000;
 pub enum Verdict {
     /// The property holds for all choices. The field is the number of states that the search found.
     Holds(usize),
-    /// The property fails when these choices are followed from the start.
+    /// The property fails when the system makes these choices in order, beginning in the start state.
     Broken(Vec<u8>),
     /// The search found more states than it may visit.
     TooMany,
@@ -28,13 +28,14 @@ pub enum Verdict {
     GaveUp,
 }
 
-/// A breadth-first search in progress: the states found so far, and the number of states whose choices were followed.
+/// A breadth-first search in progress. It has the states found so far and the number of expanded states. A state is
+/// expanded when each of its choices has been made and has led to a known state.
 #[derive(Drop)]
 pub struct Search {
     visited: VisitedSet,
-    followed: usize,
+    expanded: usize,
     max_states: usize,
-    key: Vec<u8>,
+    state: Vec<u8>,
     into: Vec<u8>,
     choices: Vec<u8>,
     alloc: Global,
@@ -47,32 +48,32 @@ impl Model for Search {
 
     ghost Value = { SearchProgress };
 
-    ghost view = { λ s. record { keys = s.visited.keys; followed = s.followed } };
+    ghost view = { λ s. record { states = s.visited.states; expanded = s.expanded } };
 
-    ghost invariant = { λ s. SearchInvariant s.visited s.followed s.max_states (vec_len s.key) (vec_len s.into) };
+    ghost invariant = { λ s. SearchInvariant s.visited s.expanded s.max_states (vec_len s.state) (vec_len s.into) };
 }
 
 impl Search {
-    /// Begins a search from the state with the key `start`. The search may visit at most `max_states` states. Fails if
-    /// memory cannot be allocated.
+    /// Begins a search from the state `start`. The search may visit at most `max_states` states. Fails if memory cannot
+    /// be allocated.
     pub fn begin(alloc: Global, start: &[u8], max_states: usize) -> Result<Search, AllocError>
         requires { max_states ≤ MAX_STATES }
         ensures { IfOk result (λ search.
-            search ≡ record { keys = start.now ∷ []; followed = 0 }) }
+            search ≡ record { states = start.now ∷ []; expanded = 0 }) }
     {
-        let key = vec![in alloc; 0u8; start.len()]?;
+        let state = vec![in alloc; 0u8; start.len()]?;
         let into = vec![in alloc; 0u8; start.len()]?;
         let mut visited = VisitedSet::new(alloc, start.len())?;
         let parent = Parent {
-            state: 0,
+            index: 0,
             choice: 0,
         };
         visited.add(start, parent, 1)?;
         Ok(Search {
             visited,
-            followed: 0,
+            expanded: 0,
             max_states,
-            key,
+            state,
             into,
             choices: Vec::new(alloc),
             alloc,
@@ -81,28 +82,28 @@ impl Search {
 
     /// Returns the number of states found so far.
     pub fn state_count(&self) -> usize
-        ensures { result ≡ length self.now.keys }
+        ensures { result ≡ length self.now.states }
     {
         self.visited.len()
     }
 
-    /// Returns the number of states whose choices were followed. The other states found are the frontier.
-    pub fn followed(&self) -> usize
-        ensures { result ≡ self.now.followed }
+    /// Returns the number of expanded states. The other states found are the frontier.
+    pub fn expanded(&self) -> usize
+        ensures { result ≡ self.now.expanded }
     {
-        self.followed
+        self.expanded
     }
 
-    /// Returns the key of the state at index `i`. States are indexed from 0 in the order in which they were found.
-    pub fn key(&self, i: usize) -> &[u8]
-        requires { i < length self.now.keys }
-        ensures { result.now ≡ slice_index_or self.now.keys i [] }
+    /// Returns the state vector at index `i`. States are indexed from 0 in the order in which they were found.
+    pub fn state(&self, i: usize) -> &[u8]
+        requires { i < length self.now.states }
+        ensures { result.now ≡ slice_index_or self.now.states i [] }
     {
-        self.visited.key(i)
+        self.visited.state(i)
     }
 
-    /// Returns the verdict on a `choice` that broke the property when it was followed from the current state. Replays
-    /// the choices from the start to the current state, and then `choice`. Returns `Broken` with these choices if the
+    /// Returns the verdict on a `choice` that broke the property when it was made in the current state. Replays the
+    /// choices from the start to the current state, and then `choice`. Returns `Broken` with these choices if the
     /// property fails again, and otherwise `GaveUp`. Fails if memory cannot be allocated.
     fn counterexample<S: System>(
         &mut self,
@@ -114,18 +115,18 @@ impl Search {
         ensures unchanged { self.new ≡ self.old }
         ensures proved { IfOk result (IsProved (S.rules (S.setting system.old)) (start_of self.old)) }
     {
-        let choices = choices_to(self.alloc, &self.visited, self.followed, choice)?;
-        self.key.copy_from_slice(self.visited.key(0));
-        if is_counterexample(system, &mut self.key, &mut self.into, &choices) {
+        let choices = choices_to(self.alloc, &self.visited, self.expanded, choice)?;
+        self.state.copy_from_slice(self.visited.state(0));
+        if is_counterexample(system, &mut self.state, &mut self.into, &choices) {
             Ok(Verdict::Broken(choices))
         } else {
             Ok(Verdict::GaveUp)
         }
     }
 
-    /// Follows the choices of the next state in the frontier. Returns a verdict if the frontier is empty, if the
-    /// limit on states is exceeded, or if a choice ends the search. Fails if memory cannot be allocated.
-    fn follow_next_state<S: System>(
+    /// Expands the next state in the frontier. Returns a verdict if the frontier is empty, if the limit on states is
+    /// exceeded, or if a choice ends the search. Fails if memory cannot be allocated.
+    fn expand_next_state<S: System>(
         &mut self,
         system: &mut S,
     ) -> Result<Option<Verdict>, AllocError>
@@ -140,32 +141,33 @@ impl Search {
         if self.max_states < len {
             return Ok(Some(Verdict::TooMany));
         }
-        if self.followed == len {
+        if self.expanded == len {
             return Ok(Some(Verdict::Holds(len)));
         }
-        self.key.copy_from_slice(self.visited.key(self.followed));
-        system.choices(&self.key, &mut self.choices)?;
-        match follow_choices(
+        self.state
+            .copy_from_slice(self.visited.state(self.expanded));
+        system.choices(&self.state, &mut self.choices)?;
+        match expand_state(
             system,
             &mut self.visited,
             self.max_states,
-            self.followed,
-            &self.key,
+            self.expanded,
+            &self.state,
             &self.choices,
             &mut self.into,
         )? {
-            FollowOutcome::All => {
-                self.followed += 1;
+            ExpandOutcome::All => {
+                self.expanded += 1;
                 Ok(None)
             }
-            FollowOutcome::TooMany => Ok(Some(Verdict::TooMany)),
-            FollowOutcome::GaveUp => Ok(Some(Verdict::GaveUp)),
-            FollowOutcome::Broken(choice) => Ok(Some(self.counterexample(system, choice)?)),
+            ExpandOutcome::TooMany => Ok(Some(Verdict::TooMany)),
+            ExpandOutcome::GaveUp => Ok(Some(Verdict::GaveUp)),
+            ExpandOutcome::Broken(choice) => Ok(Some(self.counterexample(system, choice)?)),
         }
     }
 
-    /// Follows the choices of at most `steps` states. Returns `None` if the search has not ended. Fails if memory
-    /// cannot be allocated. The next call resumes the search, even after an error.
+    /// Expands at most `steps` states. Returns `None` if the search has not ended. Fails if memory cannot be allocated.
+    /// The next call resumes the search, even after an error.
     pub fn resume<S: System>(
         &mut self,
         system: &mut S,
@@ -179,7 +181,7 @@ impl Search {
             IfSome verdict (IsProved (S.rules (S.setting system.old)) (start_of self.old))) }
     {
         for _ in 0..steps {
-            match self.follow_next_state(system)? {
+            match self.expand_next_state(system)? {
                 None => {}
                 Some(verdict) => return Ok(Some(verdict)),
             }
@@ -202,8 +204,8 @@ pub fn search_all<S: System>(
     ensures proved { IfOk result (IsProved (S.rules (S.setting system.old)) start.now) }
 {
     let mut search = Search::begin(alloc, start, max_states)?;
-    // Each step follows the choices of one state, and there are at most `max_states` states. One more step detects that
-    // the frontier is empty.
+    // Each step expands one state, and there are at most `max_states` states. One more step detects that the frontier
+    // is empty.
     match search.resume(system, max_states + 1) {
         Ok(Some(verdict)) => Ok(verdict),
         Ok(None) => Ok(Verdict::TooMany),

@@ -1,7 +1,7 @@
-//! The set of states that a search has found, with a hash table that looks up a state by its key.
+//! The set of states that a search has found, with a hash table that looks up a state by its bytes.
 ghost use Rattle.std.specs.Prelude.{◌≡◌, ◌≢◌, ◌<◌, ◌≤◌, ◌+◌, ℕ, List, [], ◌∷◌, ◌++◌, length, vec_len, IfOk, OnOk, MatchOption, slice_index_or};
 ghost use Rattle.std.specs.List.{Contains};
-ghost use Rattle.mcs_search.specs.Keys.{KeyStore, Adds};
+ghost use Rattle.mcs_search.specs.StateStores.{StateStore, Adds};
 ghost use Rattle.mcs_search.specs.Verdicts.{IsAddOutcome};
 
 use crate::arena::Arena;
@@ -13,30 +13,30 @@ use std::marker::Model;
 /// The number of slots in the hash table of a new set.
 const INITIAL_SLOTS: usize = 1_024;
 
-/// The result of adding a key to the set.
+/// The result of adding a state to the set.
 #[derive(Clone, Copy)]
 pub(crate) enum AddOutcome {
-    /// The key was new and was added.
+    /// The state was new and was added.
     New,
-    /// The key was already in the set.
+    /// The state was already in the set.
     Known,
-    /// The key was new, but the limit on keys was reached, so it was not added.
+    /// The state was new, but the set already had the maximum number of states, so it was not added.
     Full,
 }
 
-/// Returns the hash of a key.
-fn hash(key: &[u8]) -> usize {
+/// Returns the hash of a state.
+fn hash(state: &[u8]) -> usize {
     let mut hasher = FoldHasher::default();
-    hasher.write(key);
+    hasher.write(state);
     hasher.finish() as usize
 }
 
-/// Returns the first slot to probe for a key in a table with `count` slots. `count` is a power of two.
-fn first_slot(count: usize, key: &[u8]) -> usize
+/// Returns the first slot to probe for a state in a table with `count` slots. `count` is a power of two.
+fn first_slot(count: usize, state: &[u8]) -> usize
     requires { 0 < count }
     ensures { result < count }
 {
-    hash(key) & (count - 1)
+    hash(state) & (count - 1)
 }
 
 /// Returns the slot to probe after `at`. The first slot follows the last.
@@ -47,20 +47,20 @@ fn next_slot(count: usize, at: usize) -> usize
     if at + 1 < count { at + 1 } else { 0 }
 }
 
-/// Looks up a key. Returns `None` if it finds the key in the arena, and otherwise the index of a slot for the key. A
-/// free slot holds 0. Any other slot holds 1 plus the index of a key in the arena.
-fn slot_if_new(slots: &[u32], arena: &Arena, key: &[u8]) -> Option<usize>
+/// Looks up a state. Returns `None` if it finds the state in the arena, and otherwise the index of a slot for the
+/// state. A free slot holds 0. Any other slot holds 1 plus the index of a state in the arena.
+fn slot_if_new(slots: &[u32], arena: &Arena, state: &[u8]) -> Option<usize>
     requires { 0 < length slots.now }
-    ensures { MatchOption result (Contains arena.now.keys key.now) (λ at. at < length slots.now) }
+    ensures { MatchOption result (Contains arena.now.states state.now) (λ at. at < length slots.now) }
 {
     let count = slots.len();
-    let mut at = first_slot(count, key);
+    let mut at = first_slot(count, state);
     for _ in 0..count {
         let slot = slots[at] as usize;
         if slot == 0 {
             return Some(at);
         }
-        if slot <= arena.len() && arena.key(slot - 1) == key {
+        if slot <= arena.len() && arena.state(slot - 1) == state {
             return None;
         }
         at = next_slot(count, at);
@@ -68,13 +68,13 @@ fn slot_if_new(slots: &[u32], arena: &Arena, key: &[u8]) -> Option<usize>
     Some(at)
 }
 
-/// Returns the first free slot for a key that is not in the table, or an occupied slot if no slot is free.
-fn free_slot(slots: &[u32], key: &[u8]) -> usize
+/// Returns the first free slot for a state that is not in the table, or an occupied slot if no slot is free.
+fn free_slot(slots: &[u32], state: &[u8]) -> usize
     requires { 0 < length slots.now }
     ensures { result < length slots.now }
 {
     let count = slots.len();
-    let mut at = first_slot(count, key);
+    let mut at = first_slot(count, state);
     for _ in 0..count {
         if slots[at] == 0 {
             return at;
@@ -84,21 +84,21 @@ fn free_slot(slots: &[u32], key: &[u8]) -> usize
     at
 }
 
-/// Inserts all keys of an arena into an empty hash table.
+/// Inserts all states of an arena into an empty hash table.
 fn insert_all(slots: &mut [u32], arena: &Arena)
     requires room { 0 < length slots.old }
-    requires below_limit { length arena.now.keys < 4294967295 }
+    requires below_limit { length arena.now.states < 4294967295 }
 {
     for i in 0..arena.len() {
-        let at = free_slot(slots, arena.key(i));
+        let at = free_slot(slots, arena.state(i));
         slots[at] = i as u32 + 1;
     }
 }
 
-/// A set of keys of one width, each with its parent, and a hash table that finds them.
+/// A set of states, each with its parent, and a hash table that finds them. All state vectors have the same width.
 ///
-/// The proofs do not rely on the table. A key counts as known only if its bytes equal those of a key in the arena. If
-/// the table misses a key, the key is stored twice.
+/// The proofs do not rely on the table. A state counts as known only if its bytes equal those of a state in the arena.
+/// If the table misses a state, the state is stored twice.
 #[derive(Drop)]
 pub(crate) struct VisitedSet {
     arena: Arena,
@@ -108,9 +108,9 @@ pub(crate) struct VisitedSet {
 
 impl Model for VisitedSet {
     ghost use Rattle.std.specs.Prelude.{◌<◌, vec_len};
-    ghost use Rattle.mcs_search.specs.Keys.{KeyStore};
+    ghost use Rattle.mcs_search.specs.StateStores.{StateStore};
 
-    ghost Value = { KeyStore };
+    ghost Value = { StateStore };
 
     ghost view = { λ v. v.arena };
 
@@ -118,9 +118,9 @@ impl Model for VisitedSet {
 }
 
 impl VisitedSet {
-    /// Creates an empty set for keys of `width` bytes. Fails if memory cannot be allocated.
+    /// Creates an empty set for state vectors of `width` bytes. Fails if memory cannot be allocated.
     pub(crate) fn new(alloc: Global, width: usize) -> Result<VisitedSet, AllocError>
-        ensures { IfOk result (λ visited. visited ≡ record { width = width; keys = [] }) }
+        ensures { IfOk result (λ visited. visited ≡ record { width = width; states = [] }) }
     {
         let slots = vec![in alloc; 0u32; INITIAL_SLOTS]?;
         Ok(VisitedSet {
@@ -130,31 +130,31 @@ impl VisitedSet {
         })
     }
 
-    /// Returns the number of keys in the set.
+    /// Returns the number of states in the set.
     pub(crate) fn len(&self) -> usize
-        ensures { result ≡ length self.now.keys }
+        ensures { result ≡ length self.now.states }
     {
         self.arena.len()
     }
 
-    /// Returns the key at index `i`, in the order in which keys were added.
-    pub(crate) fn key(&self, i: usize) -> &[u8]
-        requires { i < length self.now.keys }
-        ensures key { result.now ≡ slice_index_or self.now.keys i [] }
+    /// Returns the state vector at index `i`, in the order in which states were added.
+    pub(crate) fn state(&self, i: usize) -> &[u8]
+        requires { i < length self.now.states }
+        ensures state { result.now ≡ slice_index_or self.now.states i [] }
         ensures width { length result.now ≡ self.now.width }
     {
-        self.arena.key(i)
+        self.arena.state(i)
     }
 
-    /// Returns the parent of the key at index `i`, or `None` if no parent is stored there.
+    /// Returns the parent of the state at index `i`, or `None` if no parent is stored there.
     pub(crate) fn parent(&self, i: usize) -> Option<Parent> {
         self.arena.parent(i)
     }
 
-    /// Rebuilds the hash table if it is at least half full. The new table has at least four slots per key. The arena
-    /// has all keys, so the old table is freed first. Fails if memory cannot be allocated.
+    /// Rebuilds the hash table if it is at least half full. The new table has at least four slots per state. The arena
+    /// has all states, so the old table is freed first. Fails if memory cannot be allocated.
     fn make_room(&mut self) -> Result<(), AllocError>
-        requires below_limit { length self.old.keys < 4294967295 }
+        requires below_limit { length self.old.states < 4294967295 }
         ensures { self.new ≡ self.old }
     {
         let len = self.arena.len();
@@ -169,29 +169,29 @@ impl VisitedSet {
         Ok(())
     }
 
-    /// Adds a key unless the key is present or the set already has `max_states` keys. Fails if memory cannot be
-    /// allocated; the set then keeps all its keys.
+    /// Adds a state unless the state is present or the set already has `max_states` states. Fails if memory cannot be
+    /// allocated; the set then keeps all its states.
     pub(crate) fn add(
         &mut self,
-        key: &[u8],
+        state: &[u8],
         parent: Parent,
         max_states: usize,
     ) -> Result<AddOutcome, AllocError>
-        requires width { length key.now ≡ self.old.width }
+        requires width { length state.now ≡ self.old.width }
         requires max_states { max_states < 4294967295 }
-        requires below_limit { length self.old.keys < 4294967295 }
-        ensures added { IfOk result (IsAddOutcome max_states self.old.keys self.new.keys key.now) }
-        ensures adds { Adds self.old key.now self.new }
-        ensures below_limit { length self.new.keys < 4294967295 }
+        requires below_limit { length self.old.states < 4294967295 }
+        ensures added { IfOk result (IsAddOutcome max_states self.old.states self.new.states state.now) }
+        ensures adds { Adds self.old state.now self.new }
+        ensures below_limit { length self.new.states < 4294967295 }
     {
         self.make_room()?;
-        match slot_if_new(&self.slots, &self.arena, key) {
+        match slot_if_new(&self.slots, &self.arena, state) {
             None => Ok(AddOutcome::Known),
             Some(at) => {
                 if self.arena.len() >= max_states {
                     return Ok(AddOutcome::Full);
                 }
-                self.arena.push(key, parent)?;
+                self.arena.push(state, parent)?;
                 self.slots[at] = self.arena.len() as u32;
                 Ok(AddOutcome::New)
             }

@@ -41,8 +41,8 @@ pub closure-suffices : ClosureSuffices
 closure-suffices board rom entries s each valid covered = λ f fit k.
     (covered-at-every-moment board rom entries s each (record { bus = valid; covered = covered }) f fit k).covered
 
--- if the certificate covers the machines of an entry after one more cycle, it also does so for an
--- equal board and equal ROM bytes
+-- Suppose that the certificate covers each machine covered by an entry after one more cycle. It
+-- also does so for an equal board and equal ROM bytes.
 pub stays-covered-for-equal-program : (board to_board : BoardParts) (rom to_rom : List ℕ) (entries : List Entry) (e : Entry) → board ≡ to_board → rom ≡ to_rom → StaysCoveredOneCycle board rom entries e → StaysCoveredOneCycle to_board to_rom entries e
 stays-covered-for-equal-program board to_board rom to_rom entries e same_board same_rom h = λ s bus covers member.
     h s (record { board = bus.board ∙ sym same_board; rom = bus.rom ∙ sym same_rom; ram = bus.ram; status = bus.status; test = bus.test }) covers member

@@ -142,8 +142,8 @@ covered-after-second-cycle e s is = record { at = is.at; calls = is.calls; ret =
 
 -- ---- the law
 
--- a machine's own choice is the choice with `flags` equal to the accumulator plus 16 times the
--- carry
+-- the choice that consists of a machine's values is `choice_at` of these values, with `flags` equal
+-- to the accumulator plus 16 times the carry
 choice_of-is-choice_at : (op : Op) (s : TrackedMachine) → s.0.acc < 16 → s.0.cy < 2 → choice_of op s ≡ choice_at (s.0.acc + 16 * s.0.cy) s.0.dcl (first_operand_of op s.0 s.1) (second_operand_of op s.0 s.1)
 choice_of-is-choice_at op s small carry =
     let acc : s.0.acc ≡ (s.0.acc + 16 * s.0.cy) % 16 = omega arith in

@@ -28,8 +28,8 @@ abbrev pub StaysCovered : List Entry → TrackedMachine → Type 0
 StaysCovered entries s =
     (f : ℕ → Levels) → ((k : ℕ) → FitsBoard s.1.board (f k)) → (k : ℕ) → IsCovered entries (driven no_observer f k s)
 
--- the induction: if the certificate covers the machines of each entry after one more cycle, a
--- covered machine stays covered at every moment
+-- the induction: if the certificate covers each machine covered by one of its entries after one
+-- more cycle, a covered machine stays covered at every moment
 abbrev pub ClosureSuffices : Type 0
 ClosureSuffices =
     (board : BoardParts) (rom : List ℕ) (entries : List Entry) (s : TrackedMachine) →

@@ -52,8 +52,8 @@ AllChoicesCovered rom board entries e op =
     (flags bank first second : ℕ) → flags < 32 → bank < 16 → first < 16 → second < 16 →
     AllowsChoice e op (choice_at flags bank first second) → IsChoiceCovered rom board entries e op (choice_at flags bank first second)
 
--- the law: if the certificate covers the landings of all choices of an entry, it covers the
--- machines of the entry after one more cycle
+-- the law: if the certificate covers the landings of all choices of an entry, it covers each
+-- machine covered by the entry after one more cycle
 abbrev pub LandingsSuffice : Type 0
 LandingsSuffice =
     (board : BoardParts) (rom : List ℕ) (entries : List Entry) (op : Op) (e : Entry) →

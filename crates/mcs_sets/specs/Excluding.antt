@@ -45,8 +45,8 @@ ForAllIn set p = (n : ℕ) → contains set n ≡ true → p n
 abbrev pub HasSelectableChips : BoardParts → ℕ → ℕ → Type 0
 HasSelectableChips board bank set = ForAllIn set (λ n. n / 4 < slice_index board.banks bank)
 
--- holds if a bank number is below 8 and the board has each chip that a machine of the entry may
--- select in the bank
+-- holds if a bank number is below 8 and the board has each chip that a machine covered by the
+-- entry may select in the bank
 pub record HasChipsOfBank (board : BoardParts) (e : Entry) (bank : ℕ) : Type 0 where
   pub bank_exists : bank < 8
   pub chips : HasSelectableChips board bank (slice_index e.sets (18 + bank))

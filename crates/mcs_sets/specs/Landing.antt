@@ -166,7 +166,7 @@ CallsAllow (Jms h b) calls = calls < 3
 CallsAllow (Bbl d) calls = 0 < calls
 CallsAllow _ calls = Unit {0}
 
--- a machine after an instruction
+-- a machine after it has executed an instruction
 abbrev pub machine_after : Op → TrackedMachine → TrackedMachine
 machine_after op s = (
   registers_after op (after_fetch op s.0) s.1,

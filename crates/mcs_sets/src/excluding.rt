@@ -1,4 +1,4 @@
-//! Determines the conditions that an entry excludes. An entry excludes a condition if no machine that the entry covers
+//! Determines which conditions an entry excludes. An entry excludes a condition if no machine that the entry covers
 //! meets the condition.
 ghost use Rattle.std.specs.Prelude.{◌≡◌, ◌<◌, ◌/◌, ◌%◌, ◌+◌, IsTrue, false, true, slice_index, map};
 ghost use Rattle.mcs_model.specs.Command.{lacks_rom};
@@ -108,8 +108,8 @@ fn has_selectable_chips(board: &Board, bank: u8, set: u16) -> bool
     true
 }
 
-/// Returns whether a bank number is below 8 and the board has each chip that a machine of the entry may select in that
-/// bank. Also returns true if the entry does not allow the bank.
+/// Returns whether a bank number is below 8 and the board has each chip that a machine covered by the entry may select
+/// in that bank. Also returns true if the entry does not allow the bank.
 fn has_chips_of_bank(board: &Board, entry: &Entry, bank: u8) -> bool
     ensures bank_exists { IsTrue result → contains (slice_index entry.now.sets 16) bank ≡ true → bank < 8 }
     ensures chips { IsTrue result → contains (slice_index entry.now.sets 16) bank ≡ true →
@@ -119,7 +119,7 @@ fn has_chips_of_bank(board: &Board, entry: &Entry, bank: u8) -> bool
         || (bank < 8 && has_selectable_chips(board, bank, entry.sets[usize::from(18 + bank)]))
 }
 
-/// Returns whether a board has each RAM chip that a machine of an entry may select.
+/// Returns whether a board has each RAM chip that a machine covered by an entry may select.
 fn has_selectable_ram(board: &Board, entry: &Entry) -> bool
     ensures { IsTrue result → ForAllIn (slice_index entry.now.sets 16) (HasChipsOfBank board.now entry.now) }
 {
@@ -177,7 +177,8 @@ fn has_roms_read_by(board: &Board, at: Addr, op: &Op) -> bool
     !lacks_rom(board, at) && (!reads_next_address(op) || !lacks_rom(board, at.plus(1)))
 }
 
-/// Returns true only if no machine of an entry uses an absent RAM chip, or `mistakes` does not include that mistake.
+/// Returns true only if no machine that an entry covers uses an absent RAM chip, or `mistakes` does not include that
+/// mistake.
 fn avoids_absent_ram(board: &Board, entry: &Entry, op: &Op, mistakes: &Mistakes) -> bool
     ensures { IsTrue result → mistakes.now.absent_ram ≡ true → uses_ram op.now ≡ true →
         ForAllIn (slice_index entry.now.sets 16) (HasChipsOfBank board.now entry.now) }
@@ -185,7 +186,8 @@ fn avoids_absent_ram(board: &Board, entry: &Entry, op: &Op, mistakes: &Mistakes)
     !mistakes.absent_ram || !uses_ram(op) || has_selectable_ram(board, entry)
 }
 
-/// Returns true only if no machine of an entry reads from an absent ROM, or `mistakes` does not include that mistake.
+/// Returns true only if no machine that an entry covers reads from an absent ROM, or `mistakes` does not include that
+/// mistake.
 fn avoids_absent_rom(board: &Board, entry: &Entry, op: &Op, mistakes: &Mistakes) -> bool
     ensures own_rom { IsTrue result → mistakes.now.absent_rom ≡ true → lacks_rom board.now entry.now.at ≡ false }
     ensures next_rom { IsTrue result → mistakes.now.absent_rom ≡ true → reads_next_address op.now ≡ true →
@@ -194,8 +196,8 @@ fn avoids_absent_rom(board: &Board, entry: &Entry, op: &Op, mistakes: &Mistakes)
     !mistakes.absent_rom || has_roms_read_by(board, entry.at, op)
 }
 
-/// Returns true only if no machine of an entry reads a port without input lines, or `mistakes` does not include that
-/// mistake.
+/// Returns true only if no machine that an entry covers reads a port without input lines, or `mistakes` does not
+/// include that mistake.
 fn avoids_missing_inputs(board: &Board, entry: &Entry, op: &Op, mistakes: &Mistakes) -> bool
     ensures { IsTrue result → mistakes.now.port_without_inputs ≡ true → is_rdr op.now ≡ true →
         ForAllIn (slice_index entry.now.sets 17) (λ n. has_input board.now n ≡ true) }
@@ -203,8 +205,8 @@ fn avoids_missing_inputs(board: &Board, entry: &Entry, op: &Op, mistakes: &Mista
     !mistakes.port_without_inputs || !is_rdr(op) || has_inputs(board, entry.sets[17])
 }
 
-/// Returns true only if no machine of an entry writes to a port without output lines, or `mistakes` does not include
-/// that mistake.
+/// Returns true only if no machine that an entry covers writes to a port without output lines, or `mistakes` does not
+/// include that mistake.
 fn avoids_missing_outputs(board: &Board, entry: &Entry, op: &Op, mistakes: &Mistakes) -> bool
     ensures { IsTrue result → mistakes.now.port_without_outputs ≡ true → is_wrr op.now ≡ true →
         ForAllIn (slice_index entry.now.sets 17) (λ n. has_output board.now n ≡ true) }
@@ -212,7 +214,7 @@ fn avoids_missing_outputs(board: &Board, entry: &Entry, op: &Op, mistakes: &Mist
     !mistakes.port_without_outputs || !is_wrr(op) || has_outputs(board, entry.sets[17])
 }
 
-/// Returns true only if no machine of an entry makes a mistake that `mistakes` includes when it executes `op`.
+/// Returns true only if no machine that an entry covers makes a mistake that `mistakes` includes when it executes `op`.
 fn makes_no_mistake(board: &Board, entry: &Entry, op: &Op, mistakes: &Mistakes) -> bool
     ensures { IsTrue result → MakesNoMistake board.now entry.now op.now mistakes.now }
 {
@@ -231,7 +233,7 @@ fn makes_no_mistake(board: &Board, entry: &Entry, op: &Op, mistakes: &Mistakes) 
     avoids_missing_outputs(board, entry, op, mistakes)
 }
 
-/// Returns true only if no machine of an entry makes a mistake that `mistakes` includes.
+/// Returns true only if no machine that an entry covers makes a mistake that `mistakes` includes.
 fn excludes_mistakes(rig: &BenchRig, entry: &Entry, mistakes: &Mistakes) -> bool
     ensures { IsTrue result → Excludes rig.now.board rig.now.rom (Mistaken mistakes.now) entry.now }
 {
@@ -241,8 +243,8 @@ fn excludes_mistakes(rig: &BenchRig, entry: &Entry, mistakes: &Mistakes) -> bool
     }
 }
 
-/// Returns true only if no machine of an entry meets a condition. If the condition is a comparison, returns false
-/// without evaluating the comparison.
+/// Returns true only if no machine that an entry covers meets a condition. If the condition is a comparison, returns
+/// false without evaluating the comparison.
 fn excludes(rig: &BenchRig, entry: &Entry, condition: &Condition) -> bool
     ensures { IsTrue result → Excludes rig.now.board rig.now.rom condition.now entry.now }
 {
@@ -252,7 +254,7 @@ fn excludes(rig: &BenchRig, entry: &Entry, condition: &Condition) -> bool
     }
 }
 
-/// Returns true only if no machine of an entry meets all of these conditions.
+/// Returns true only if no machine that an entry covers meets all of these conditions.
 fn excludes_conjunction(rig: &BenchRig, entry: &Entry, conditions: &[Condition]) -> bool
     ensures { IsTrue result → ExcludesConjunction rig.now.board rig.now.rom conditions.now entry.now }
 {
@@ -264,7 +266,7 @@ fn excludes_conjunction(rig: &BenchRig, entry: &Entry, conditions: &[Condition])
     false
 }
 
-/// Returns true only if no machine of an entry meets all conditions of a list in `never_lists`.
+/// Returns true only if no machine that an entry covers meets all conditions of a list in `never_lists`.
 pub(crate) fn avoids_all_lists(
     rig: &BenchRig,
     entry: &Entry,

@@ -1,9 +1,9 @@
 //! Finds a certificate. Nothing is proved about the result; `stays_covered` checks it.
 //!
-//! A search begins with the entry for the machine's current state. The search follows each entry to find the entry's
+//! A search begins with the entry for the machine's current state. The search expands each entry: it finds the entry's
 //! successors. It joins each successor into the stored entry with the same address, the same return addresses and the
-//! same values in the exact registers. The search ends when no entry grows, or at an entry whose machines may meet the
-//! forbidden conditions.
+//! same values in the exact registers. The search ends when no entry grows, or when it finds an entry that covers a
+//! machine that may meet all conditions of a list that must never be met.
 ghost use Rattle.std.specs.Prelude.{◌≡◌};
 
 use crate::entries::{Entry, contains};
@@ -18,9 +18,9 @@ use mcs_nibble::{Addr, Bit, Nibble};
 use std::alloc::{AllocError, Global};
 use std::collections::HashMap;
 
-/// The maximum number of times that a search follows an entry: once when the entry is new, and once each time that the
+/// The maximum number of times that a search expands an entry: once when the entry is new, and once each time that the
 /// entry has grown. An entry has 28 sets of at most 16 numbers.
-const MAX_FOLLOWS_PER_ENTRY: usize = 449;
+const MAX_EXPANSIONS_PER_ENTRY: usize = 449;
 
 /// A certificate: its entries, and the links that they refer to.
 #[derive(Drop)]
@@ -29,18 +29,19 @@ pub(crate) struct Certificate {
     pub(crate) links: Vec<usize>,
 }
 
-/// The values that all machines of an entry share. Each exact register (see `precision`) takes four bits of `exact`.
+/// The values that all machines covered by an entry share. Each exact register (see `precision`) takes four bits of
+/// `exact`.
 #[derive(Clone, Copy, PartialEq, Eq, Hash)]
-struct Key {
+struct SharedValues {
     at: u16,
     calls: u8,
     returns: (u16, u16, u16),
     exact: u64,
 }
 
-/// Returns the key of an entry: the values that all of its machines share. `exact` is the set of exact registers. Each
+/// Returns the values that all machines covered by an entry share. `exact` is the set of exact registers. Each
 /// exact register has a single value in the entry.
-fn key_of(entry: &Entry, exact: u16) -> Key {
+fn shared_values(entry: &Entry, exact: u16) -> SharedValues {
     let mut exact_values = 0u64;
     for r in 0..16u8 {
         if (exact >> r) % 2 == 1 {
@@ -48,7 +49,7 @@ fn key_of(entry: &Entry, exact: u16) -> Key {
             exact_values |= u64::from(set.trailing_zeros() % 16) << (4 * r);
         }
     }
-    Key {
+    SharedValues {
         at: entry.at.get(),
         calls: entry.calls,
         returns: (entry.ret[0].get(), entry.ret[1].get(), entry.ret[2].get()),
@@ -63,7 +64,7 @@ pub(crate) enum Stop {
     TooMany,
     /// An allocation failed. The field is the number of entries that fit into memory.
     NoMemory(usize),
-    /// A machine of an entry may meet all conditions of a list that must never be met.
+    /// A machine covered by an entry may meet all conditions of a list that must never be met.
     MayMeet,
 }
 
@@ -94,10 +95,11 @@ fn landing_of(rig: &mut BenchRig, entry: &Entry, choice: &Choice) -> Option<Land
 #[derive(Drop)]
 struct Finder {
     entries: Vec<Entry>,
-    /// For each entry, true if the entry is new or grew since the search last followed it.
+    /// For each entry, true if the entry is new or grew since the search last expanded it.
     pending: Vec<bool>,
-    index: HashMap<Key, usize>,
-    /// The indices of the successors of the entry that the search followed last.
+    /// The index of the stored entry with these shared values.
+    index: HashMap<SharedValues, usize>,
+    /// The indices of the successors of the entry that the search expanded last.
     successors: Vec<usize>,
     /// The exact registers at each address, as a bit mask: bit `r` is 1 if register `r` is exact.
     exact: Vec<u16>,
@@ -127,28 +129,28 @@ impl Finder {
     }
 
     /// Adds an entry and returns its index. Fails if memory runs out.
-    fn push(&mut self, key: Key, entry: &Entry) -> Result<usize, AllocError> {
+    fn push(&mut self, shared: SharedValues, entry: &Entry) -> Result<usize, AllocError> {
         let i = self.entries.len();
         self.entries.push(*entry)?;
         self.pending.push(true)?;
-        self.index.insert(key, i)?;
+        self.index.insert(shared, i)?;
         Ok(i)
     }
 
     /// Adds an entry and returns its index. Fails if the limit on entries is reached or memory runs out.
-    fn push_within_limit(&mut self, key: Key, entry: &Entry) -> Result<usize, Stop> {
+    fn push_within_limit(&mut self, shared: SharedValues, entry: &Entry) -> Result<usize, Stop> {
         if self.entries.len() >= self.max_entries {
             return Err(Stop::TooMany);
         }
-        Ok(self.push(key, entry)?)
+        Ok(self.push(shared, entry)?)
     }
 
-    /// Joins an entry into the stored entry with the same key, or stores it if there is none. Returns the index of
-    /// the stored entry.
+    /// Joins an entry into the stored entry with the same shared values, or stores the entry if there is none. Returns
+    /// the index of the stored entry.
     fn store(&mut self, entry: &Entry) -> Result<usize, Stop> {
-        let key = key_of(entry, self.exact_at(entry.at));
-        let Some(i) = self.index.get(&key).copied() else {
-            return self.push_within_limit(key, entry);
+        let shared = shared_values(entry, self.exact_at(entry.at));
+        let Some(i) = self.index.get(&shared).copied() else {
+            return self.push_within_limit(shared, entry);
         };
         if i < self.entries.len() && i < self.pending.len() && join(&mut self.entries[i], entry) {
             self.pending[i] = true;
@@ -235,8 +237,8 @@ impl Finder {
         i >= self.entries.len() || avoids_all_lists(rig, &self.entries[i], never_lists)
     }
 
-    /// Follows entry `i`: stores the entries to which its choices lead, and records them as successors.
-    fn follow(&mut self, rig: &mut BenchRig, i: usize) -> Result<(), Stop> {
+    /// Expands entry `i`: stores the entries to which its choices lead, and records them as successors.
+    fn expand(&mut self, rig: &mut BenchRig, i: usize) -> Result<(), Stop> {
         self.successors.clear();
         if i >= self.entries.len() {
             return Ok(());
@@ -248,9 +250,9 @@ impl Finder {
         self.follow_choices(rig, &source, &op)
     }
 
-    /// Follows each pending entry: an entry that is new or has grown since the search last followed it. Returns
+    /// Expands each pending entry: an entry that is new or has grown since the search last expanded it. Returns
     /// whether there was a pending entry.
-    fn follow_pending(
+    fn expand_pending(
         &mut self,
         rig: &mut BenchRig,
         never_lists: &[Vec<Condition>],
@@ -265,21 +267,21 @@ impl Finder {
                     return Err(Stop::MayMeet);
                 }
                 self.pending[i] = false;
-                self.follow(rig, i)?;
+                self.expand(rig, i)?;
                 had_pending = true;
             }
         }
         Ok(had_pending)
     }
 
-    /// Follows pending entries until no entry grows.
-    fn follow_until_stable(
+    /// Expands pending entries until no entry grows.
+    fn expand_until_stable(
         &mut self,
         rig: &mut BenchRig,
         never_lists: &[Vec<Condition>],
     ) -> Result<(), Stop> {
-        for _ in 0..self.max_entries.saturating_mul(MAX_FOLLOWS_PER_ENTRY) {
-            if !self.follow_pending(rig, never_lists)? {
+        for _ in 0..self.max_entries.saturating_mul(MAX_EXPANSIONS_PER_ENTRY) {
+            if !self.expand_pending(rig, never_lists)? {
                 return Ok(());
             }
         }
@@ -290,7 +292,7 @@ impl Finder {
     fn collect_links(&mut self, alloc: Global, rig: &mut BenchRig) -> Result<Vec<usize>, Stop> {
         let mut links = Vec::new(alloc);
         for i in 0..self.entries.len() {
-            self.follow(rig, i)?;
+            self.expand(rig, i)?;
             let first = links.len();
             links.extend_from_slice(&self.successors)?;
             if i < self.entries.len() {
@@ -310,14 +312,14 @@ impl Finder {
         never_lists: &[Vec<Condition>],
     ) -> Result<Vec<usize>, Stop> {
         self.store(start)?;
-        self.follow_until_stable(rig, never_lists)?;
+        self.expand_until_stable(rig, never_lists)?;
         self.collect_links(alloc, rig)
     }
 }
 
-/// Finds a certificate of at most `max_entries` entries that covers the machines of the entry `start`. No machine that
-/// the certificate covers meets all conditions of a list in `never_lists`. `exact` has the exact registers at each
-/// address: bit `r` is 1 if register `r` is exact. Each exact register must have a single value in `start`.
+/// Finds a certificate of at most `max_entries` entries that covers each machine covered by the entry `start`. No
+/// machine that the certificate covers meets all conditions of a list in `never_lists`. `exact` has the exact registers
+/// at each address: bit `r` is 1 if register `r` is exact. Each exact register must have a single value in `start`.
 pub(crate) fn find_certificate(
     alloc: Global,
     rig: &mut BenchRig,

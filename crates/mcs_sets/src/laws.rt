@@ -16,8 +16,8 @@ pub fn landing_is_correct()
     ensures { LandingIsCorrect }
 {}
 
-/// Proves that a certificate covers the machines of an entry after one more cycle, if it covers the landings of all
-/// choices that the entry allows.
+/// Proves that a certificate covers each machine covered by an entry after one more cycle, if it covers the landings of
+/// all choices that the entry allows.
 pub fn landings_suffice()
     ensures { LandingsSuffice }
 {}

@@ -54,8 +54,8 @@ fn selects_bank(op: &Op) -> bool {
     }
 }
 
-/// Returns a copy of an entry with fewer choices. The accumulator, the carry or the bank is reduced to a single value
-/// if the instruction's effect on an entry does not depend on it.
+/// Returns a copy of an entry with fewer choices. Of the accumulator, the carry and the bank, each is reduced to a
+/// single value if the instruction's effect on an entry does not depend on it.
 pub(crate) fn sample(source: &Entry, op: &Op) -> Entry {
     let mut entry = *source;
     if ignores_flags(op) {

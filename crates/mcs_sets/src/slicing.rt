@@ -13,7 +13,7 @@ use mcs_nibble::{Addr, PairNo};
 use std::alloc::{AllocError, Global};
 
 /// The number of ROM addresses.
-const ADDRESSES: u16 = 4096;
+const ADDRESS_COUNT: u16 = 4096;
 
 /// The maximum number of passes over all addresses.
 const MAX_PASSES: u16 = 1000;
@@ -22,7 +22,7 @@ const MAX_PASSES: u16 = 1000;
 const MAX_LOOP_PASSES: u16 = 8;
 
 /// The mask that selects the index registers from a set, without accumulator and carry.
-const REGISTERS: u32 = 65535;
+const REGISTER_MASK: u32 = 65535;
 
 /// Returns whether an instruction has two words.
 fn has_two_words(op: &Op) -> bool {
@@ -85,7 +85,7 @@ impl Table {
     /// Creates a table in which all sets are empty.
     fn new(alloc: Global) -> Result<Table, AllocError> {
         let mut sets = Vec::new(alloc);
-        for _ in 0..ADDRESSES {
+        for _ in 0..ADDRESS_COUNT {
             sets.push(0u32)?;
         }
         Ok(Table { sets })
@@ -228,7 +228,7 @@ impl Slice {
     /// marked.
     fn mark_reached_once(&mut self, rig: &BenchRig) -> bool {
         let mut grew = false;
-        for n in 0..ADDRESSES {
+        for n in 0..ADDRESS_COUNT {
             let at = Addr::ZERO.plus(n);
             if let Some(op) = self.op_if_reached(rig, at) {
                 grew |= self.reached.add_to_successors(&op, at, 1);
@@ -263,8 +263,8 @@ impl Slice {
     /// its successors may write. Returns whether a set grew.
     fn extend_may_write(&mut self, rig: &BenchRig) -> bool {
         let mut grew = false;
-        for n in 0..ADDRESSES {
-            let at = Addr::MAX.plus(ADDRESSES - n);
+        for n in 0..ADDRESS_COUNT {
+            let at = Addr::MAX.plus(ADDRESS_COUNT - n);
             if let Some(op) = self.op_if_reached(rig, at) {
                 let written_later = self.may_write.union_of_successors(&op, at);
                 let set = written_later | self.writes_of(&op);
@@ -287,8 +287,8 @@ impl Slice {
     /// whether the body grew.
     fn add_to_body(&self, rig: &BenchRig, body: &mut Table, head: Addr, last: Addr) -> bool {
         let mut grew = false;
-        for n in 0..ADDRESSES {
-            let at = Addr::MAX.plus(ADDRESSES - n);
+        for n in 0..ADDRESS_COUNT {
+            let at = Addr::MAX.plus(ADDRESS_COUNT - n);
             if head < at && at < last {
                 if let Some(op) = self.op_if_reached(rig, at) {
                     let members = body.union_of_successors(&op, at);
@@ -329,7 +329,7 @@ impl Slice {
     /// Computes, for each ISZ that jumps back, the registers that its loop writes. `body` is scratch space for one
     /// loop.
     fn find_loops(&mut self, rig: &BenchRig, body: &mut Table) {
-        for n in 0..ADDRESSES {
+        for n in 0..ADDRESS_COUNT {
             let at = Addr::ZERO.plus(n);
             if let Some(Op::Isz(_, word)) = self.op_if_reached(rig, at) {
                 let head = Addr::on_page(at.plus(2).page(), word);
@@ -347,7 +347,7 @@ impl Slice {
         match op {
             Op::Isz(r, word) => {
                 let head = Addr::on_page(at.plus(2).page(), *word);
-                if self.relevant.get(head) & self.loop_writes.get(at) & REGISTERS != 0 {
+                if self.relevant.get(head) & self.loop_writes.get(at) & REGISTER_MASK != 0 {
                     register_bit(*r)
                 } else {
                     0
@@ -372,8 +372,8 @@ impl Slice {
     /// address. Returns whether a set grew.
     fn add_relevant(&mut self, rig: &BenchRig, level: Level) -> bool {
         let mut grew = false;
-        for n in 0..ADDRESSES {
-            let at = Addr::MAX.plus(ADDRESSES - n);
+        for n in 0..ADDRESS_COUNT {
+            let at = Addr::MAX.plus(ADDRESS_COUNT - n);
             if let Some(op) = self.op_if_reached(rig, at) {
                 let after = self.relevant_after(&op, at);
                 let set = relevant_before(&op, after)
@@ -389,7 +389,7 @@ impl Slice {
     /// relevant when the routine that contains the address returns. Returns whether a set grew.
     fn add_relevant_on_return(&mut self, rig: &BenchRig) -> bool {
         let mut grew = false;
-        for n in 0..ADDRESSES {
+        for n in 0..ADDRESS_COUNT {
             let at = Addr::ZERO.plus(n);
             if let Some(op) = self.op_if_reached(rig, at) {
                 let set = self.relevant_on_return.get(at);
@@ -414,10 +414,10 @@ impl Slice {
     }
 }
 
-/// Returns the registers that are relevant at one address or more.
+/// Returns the registers that are relevant at one or more addresses.
 fn relevant_somewhere(slice: &Slice) -> u32 {
     let mut members = 0;
-    for n in 0..ADDRESSES {
+    for n in 0..ADDRESS_COUNT {
         members |= slice.relevant.get(Addr::ZERO.plus(n));
     }
     members
@@ -445,9 +445,9 @@ pub(crate) fn exact_registers(
         0
     };
     let mut exact = Vec::new(alloc);
-    for n in 0..ADDRESSES {
+    for n in 0..ADDRESS_COUNT {
         let set = slice.relevant.get(Addr::ZERO.plus(n)) | exact_everywhere;
-        exact.push((set & REGISTERS) as u16)?;
+        exact.push((set & REGISTER_MASK) as u16)?;
     }
     Ok(exact)
 }

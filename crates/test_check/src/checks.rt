@@ -9,7 +9,7 @@ use std::process::Abort;
 /// The number of states of the die: one at the start, and two for each of the six patterns in
 /// `FACES`. The first state of a pattern follows the display of the pattern. The second follows a
 /// read that shows the key as up. An independent model of the chips gives the same number.
-pub(crate) const STATES: usize = 13;
+pub(crate) const STATE_COUNT: usize = 13;
 
 /// The number of cycles after which a search step ends if the program reads no input. The die's program reads its key
 /// more often.
@@ -57,7 +57,7 @@ fn lamps_never_show(alloc: Global, n: u8) -> Result<Property, AllocError> {
     Ok(Property::without_stopwatch(alloc, never_lists))
 }
 
-/// Checks a property of the die, with a limit of `STATES` states.
+/// Checks a property of the die, with a limit of `STATE_COUNT` states.
 pub(crate) fn check_die(
     alloc: Global,
     rt: &impl Abort,
@@ -65,7 +65,7 @@ pub(crate) fn check_die(
 ) -> Result<Outcome, AllocError> {
     let die = die(alloc, rt)?;
     let limits = all_inputs(alloc, &die)?;
-    check_all(alloc, die, property, limits, STATES, MEMORY, PAUSE)
+    check_all(alloc, die, property, limits, STATE_COUNT, MEMORY, PAUSE)
 }
 
 /// Checks that the lamps never show the pattern `n`. Returns true if the outcome is `MayFail`, and false if the check
@@ -81,10 +81,10 @@ fn may_show(alloc: Global, rt: &impl Abort, n: u8) -> bool {
     }
 }
 
-/// Expects the outcome `Holds` with `STATES` states.
+/// Expects the outcome `Holds` with `STATE_COUNT` states.
 pub(crate) fn expect_holds(rt: &impl Abort, outcome: Outcome) {
     match outcome {
-        Outcome::Holds(n) => assert_eq!(rt; n, STATES),
+        Outcome::Holds(n) => assert_eq!(rt; n, STATE_COUNT),
         _ => panic!(rt; "another outcome"),
     }
 }
@@ -103,7 +103,7 @@ fn only_faces_are_shown(rt: HostRuntime) {
 
 #[test]
 fn a_limit_on_states_stops_the_check(rt: HostRuntime) {
-    for max_states in [0, 1, STATES - 1] {
+    for max_states in [0, 1, STATE_COUNT - 1] {
         let die = die(rt.alloc(), &rt).expect(&rt, "memory");
         let property = lamps_show_only_faces(rt.alloc()).expect(&rt, "memory");
         let limits = all_inputs(rt.alloc(), &die).expect(&rt, "memory");
@@ -126,9 +126,16 @@ fn a_limit_on_memory_stops_the_check(rt: HostRuntime) {
         let die = die(rt.alloc(), &rt).expect(&rt, "memory");
         let property = lamps_show_only_faces(rt.alloc()).expect(&rt, "memory");
         let limits = all_inputs(rt.alloc(), &die).expect(&rt, "memory");
-        let outcome = check_all(rt.alloc(), die, property, limits, STATES, memory, PAUSE).expect(
-            &rt, "memory",
-        );
+        let outcome = check_all(
+            rt.alloc(),
+            die,
+            property,
+            limits,
+            STATE_COUNT,
+            memory,
+            PAUSE,
+        )
+        .expect(&rt, "memory");
         assert!(&rt; matches!(outcome, Outcome::NoMemory(_)), "{memory}");
     }
 }

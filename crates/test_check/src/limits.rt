@@ -9,7 +9,7 @@ use mcs_nibble::Bit;
 use std::alloc::Global;
 use std::process::Abort;
 
-/// The maximum number of states of a check, more than these programs have.
+/// A limit on the number of states of a check. These programs have fewer states.
 const MAX_STATES: usize = 1_000;
 
 /// A program that drives row 0 and reads its two keys in an endless loop. It reaches address 18 if

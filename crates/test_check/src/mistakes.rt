@@ -1,6 +1,6 @@
 //! Tests that check programs for common mistakes.
 use crate::boards::{all_inputs, die, machine};
-use crate::checks::{MEMORY, PAUSE, STATES, expect_holds};
+use crate::checks::{MEMORY, PAUSE, STATE_COUNT, expect_holds};
 use mcs_check::{Condition, Conjunction, Mistakes, Outcome, Property, check_all};
 use std::alloc::{AllocError, Global};
 
@@ -31,7 +31,16 @@ fn the_die_makes_no_mistake(rt: HostRuntime) {
     let limits = all_inputs(rt.alloc(), &die).expect(&rt, "memory");
     expect_holds(
         &rt,
-        check_all(rt.alloc(), die, property, limits, STATES, MEMORY, PAUSE).expect(&rt, "memory"),
+        check_all(
+            rt.alloc(),
+            die,
+            property,
+            limits,
+            STATE_COUNT,
+            MEMORY,
+            PAUSE,
+        )
+        .expect(&rt, "memory"),
     );
 }
 
@@ -75,10 +84,11 @@ fn each_program_makes_its_mistake(rt: HostRuntime) {
                 machine,
                 property,
                 limits,
-                STATES,
+                STATE_COUNT,
                 MEMORY,
                 5_000,
-            ).expect(&rt, "memory");
+            )
+            .expect(&rt, "memory");
             let is_made = matches!(outcome, Outcome::MayFail(_));
             assert!(&rt; is_made == (kind == k), "program {k}, mistake {kind}");
         }

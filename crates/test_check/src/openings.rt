@@ -6,7 +6,7 @@ use mcs_check::{Mark, Marks, Outcome, Property, add_mark_requirement, check_all}
 use std::alloc::{AllocError, Global};
 use std::process::Abort;
 
-/// The maximum number of states of a check, more than these programs have.
+/// A limit on the number of states of a check. These programs have fewer states.
 const MAX_STATES: usize = 10_000;
 
 /// A program that drives row 0. In an endless loop, it reads the key of this row until the key is

@@ -1,6 +1,6 @@
 //! A test in which one allocation can fail. `checks/allocations` runs the test once for each allocation, and makes
 //! this allocation fail. When `./test gate` runs the test, no allocation fails.
-use crate::checks::{STATES, check_die, expect_holds, lamps_show_only_faces};
+use crate::checks::{STATE_COUNT, check_die, expect_holds, lamps_show_only_faces};
 use mcs_check::{Outcome, Property};
 use std::alloc::Global;
 use std::process::Abort;
@@ -9,7 +9,7 @@ use std::process::Abort;
 fn check_once(alloc: Global, rt: &impl Abort, property: Property) -> &'static str {
     match check_die(alloc, rt, property) {
         Ok(Outcome::NoMemory(states)) => {
-            assert!(rt; states <= STATES);
+            assert!(rt; states <= STATE_COUNT);
             "a state"
         }
         Ok(outcome) => {

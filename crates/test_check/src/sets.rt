@@ -8,11 +8,11 @@ use mcs_sets::check_by_sets;
 use std::alloc::{AllocError, Global};
 use std::process::Abort;
 
-/// More entries than a check of any of these programs needs.
-const ENTRIES: usize = 10_000;
+/// A limit on the number of entries of a check. These programs need fewer entries.
+const MAX_ENTRIES: usize = 10_000;
 
 /// Returns the lists of conditions that a program without these mistakes never meets: one list with one condition.
-fn nevers_of_mistakes(
+fn never_lists_of_mistakes(
     alloc: Global,
     mistakes: Mistakes,
 ) -> Result<Vec<Vec<Condition>>, AllocError> {
@@ -34,7 +34,7 @@ fn check_program(
 ) -> Outcome {
     let mut machine = rig(alloc, rt, program).expect(rt, "memory");
     let mut search_rig = rig(alloc, rt, program).expect(rt, "memory");
-    let never_lists = nevers_of_mistakes(alloc, mistakes).expect(rt, "memory");
+    let never_lists = never_lists_of_mistakes(alloc, mistakes).expect(rt, "memory");
     check_by_sets(
         alloc,
         &Cpu::new(),
@@ -48,7 +48,14 @@ fn check_program(
 
 #[test]
 fn the_die_makes_no_mistake(rt: HostRuntime) {
-    let outcome = check_program(rt.alloc(), &rt, &DIE_PROGRAM, ALL_MISTAKES, ENTRIES, MEMORY);
+    let outcome = check_program(
+        rt.alloc(),
+        &rt,
+        &DIE_PROGRAM,
+        ALL_MISTAKES,
+        MAX_ENTRIES,
+        MEMORY,
+    );
     assert!(rt; matches!(&outcome, Outcome::Holds(_)));
 }
 
@@ -60,7 +67,7 @@ fn no_mistake_is_missed(rt: HostRuntime) {
             &rt,
             &MISTAKEN_PROGRAMS[k],
             mistake_of(k),
-            ENTRIES,
+            MAX_ENTRIES,
             MEMORY,
         );
         assert!(rt; matches!(&outcome, Outcome::GaveUp));
@@ -76,7 +83,7 @@ fn limits_stop_the_search(rt: HostRuntime) {
         &rt,
         &DIE_PROGRAM,
         ALL_MISTAKES,
-        ENTRIES,
+        MAX_ENTRIES,
         300,
     );
     assert!(rt; matches!(&with_little_memory, Outcome::NoMemory(1)));

@@ -8,7 +8,7 @@ use mcs_check::{
 use std::alloc::{AllocError, Global};
 use std::process::Abort;
 
-/// The maximum number of states of a check, more than these programs have.
+/// A limit on the number of states of a check. These programs have fewer states.
 const MAX_STATES: usize = 10_000;
 
 /// The number of cycles after which a search step ends if the program reads no input. If the program is in a loop, the
@@ -32,7 +32,7 @@ const BRANCHES_CYCLES: u32 = 100;
 
 /// The number of states of `BRANCHES`. Pass n of the 16 passes reads TEST at n different stopwatch times, and the start
 /// is one more state.
-const BRANCHES_STATES: usize = 137;
+const BRANCHES_STATE_COUNT: usize = 137;
 
 /// A program with four nested loops: FIM P0 0, FIM P1 8, the loops with ISZ R0 to R3, and JUN 0.
 /// The outermost loop has 8 passes.
@@ -117,7 +117,7 @@ fn inputs_determine_the_time(rt: HostRuntime) {
 #[test]
 fn states_differ_only_in_time(rt: HostRuntime) {
     match check_time(rt.alloc(), &rt, &BRANCHES, 0, 0, BRANCHES_CYCLES) {
-        Outcome::Holds(states) => assert_eq!(&rt; states, BRANCHES_STATES),
+        Outcome::Holds(states) => assert_eq!(&rt; states, BRANCHES_STATE_COUNT),
         _ => panic!(&rt; "another outcome"),
     }
 }

@@ -8,5 +8,5 @@ use Rattle.test_search.specs.Wheels.{trivial_rules}
 pub trivial_rules_under_way : (n : ℕ) (p : SearchProgress) → IsUnderWay (trivial_rules n) p
 trivial_rules_under_way n p = record {
   states = λ k d h. tt;
-  followed = λ k h. ([], tt, All-nil (LeadsInto (trivial_rules n) p.keys (get_or p.keys k [])));
+  expanded = λ k h. ([], tt, All-nil (LeadsInto (trivial_rules n) p.states (get_or p.states k [])));
 }

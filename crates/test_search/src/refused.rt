@@ -14,8 +14,8 @@ const POSITION_COUNT: u8 = 41;
 /// The number of states: 41 * 41 * 41, one for each combination of positions.
 const STATE_COUNT: usize = 68_921;
 
-/// A number of steps that is sufficient to follow the choices of all states.
-const STEPS: usize = 100_000;
+/// A number of steps that is sufficient to expand all states.
+const STEP_COUNT: usize = 100_000;
 
 /// Checks that the property holds, and that the search found all states.
 fn expect_all(rt: &impl Abort, verdict: Option<Verdict>) {
@@ -29,14 +29,17 @@ fn expect_all(rt: &impl Abort, verdict: Option<Verdict>) {
 /// `nothing` if no allocation failed.
 fn run_to_end(rt: &impl Abort, search: &mut Search) -> &'static str {
     let mut wheels = Wheels::new(3, POSITION_COUNT);
-    match resume(search, &mut wheels, STEPS) {
+    match resume(search, &mut wheels, STEP_COUNT) {
         Ok(verdict) => {
             expect_all(rt, verdict);
             "nothing"
         }
         Err(_) => {
-            assert!(rt; search.followed() < STATE_COUNT);
-            expect_all(rt, resume(search, &mut wheels, STEPS).expect(rt, "memory"));
+            assert!(rt; search.expanded() < STATE_COUNT);
+            expect_all(
+                rt,
+                resume(search, &mut wheels, STEP_COUNT).expect(rt, "memory"),
+            );
             "a step"
         }
     }

@@ -6,9 +6,9 @@ use std::process::Abort;
 /// The start state: three wheels at position 0.
 const START: [u8; 3] = [0; 3];
 
-/// Follows the choices of the next state, which must be the one at `index`, and checks that the search does not end.
+/// Expands the next state, which must be the state at `index`, and checks that the search does not end.
 fn expect_next_state(rt: &impl Abort, search: &mut Search, wheels: &mut Wheels, index: usize) {
-    assert_eq!(rt; search.followed(), index);
+    assert_eq!(rt; search.expanded(), index);
     assert!(rt; index < search.state_count());
     assert!(rt; resume(search, wheels, 1).expect(rt, "memory").is_none());
 }

@@ -34,8 +34,8 @@ impl Wheels {
 
 /// Returns true if the wheels of a state are at the given positions. Returns false if there are no wheels or more
 /// than three.
-fn wheels_are_at(key: &[u8], positions: &[u8; 3]) -> bool {
-    !key.is_empty() && key.len() <= 3 && key == &positions[..key.len()]
+fn wheels_are_at(state: &[u8], positions: &[u8; 3]) -> bool {
+    !state.is_empty() && state.len() <= 3 && state == &positions[..state.len()]
 }
 
 impl System for Wheels {
@@ -48,18 +48,18 @@ impl System for Wheels {
 
     ghost rules = { trivial_rules };
 
-    fn choices(&mut self, key: &[u8], into: &mut Vec<u8>) -> Result<(), AllocError> {
+    fn choices(&mut self, state: &[u8], into: &mut Vec<u8>) -> Result<(), AllocError> {
         into.clear();
         for i in 0..3u8 {
-            if usize::from(i) < key.len() {
+            if usize::from(i) < state.len() {
                 into.push(i)?;
             }
         }
         Ok(())
     }
 
-    fn apply_choice(&mut self, key: &[u8], choice: u8, into: &mut [u8]) -> Option<bool> {
-        into.copy_from_slice(key);
+    fn apply_choice(&mut self, state: &[u8], choice: u8, into: &mut [u8]) -> Option<bool> {
+        into.copy_from_slice(state);
         let at = usize::from(choice);
         if at < into.len() {
             let next_position = into[at].wrapping_add(1);
@@ -76,7 +76,7 @@ impl System for Wheels {
     }
 }
 
-/// Resumes a search and follows the choices of at most `steps` states.
+/// Resumes a search, which then expands at most `steps` states.
 #[tactic(auto, using(crate::proofs::TrivialRules::trivial_rules_under_way))]
 pub(crate) fn resume(
     search: &mut Search,

@@ -10,7 +10,7 @@ fact-if_reached Failed fact is e = absurd (cc)
 
 pub returns-clause-leads : goal.returns-clause-leads
 returns-clause-leads c = λ well.
-    fact-if_reached c.in_ok-end.end (λ cycles. LeadsIn c.args.self.now cycles c.args.key.now c.args.choice c.run.new.into) c.in_ok-end.ensures.leads (sym c.is_reached.ensures ∙ well)
+    fact-if_reached c.in_ok-end.end (λ cycles. LeadsIn c.args.self.now cycles c.args.state.now c.args.choice c.run.new.into) c.in_ok-end.ensures.leads (sym c.is_reached.ensures ∙ well)
 
 pub returns-clause-state : goal.returns-clause-state
 returns-clause-state c = λ well.

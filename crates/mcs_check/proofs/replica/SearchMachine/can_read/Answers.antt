@@ -8,7 +8,7 @@ use Rattle.mcs_check.proofs.replica.SearchMachine.can_read.Goals as goal
 pub returns-in-NoInput : goal.returns-in-NoInput
 returns-in-NoInput c = λ no.
     let s = c.args.self.now in
-    let parts = or_parts (eqb c.args.value 0) (eqb s.0.owed 1) (sym c.may_answer_without_read.ensures ∙ no) in
+    let parts = or_parts (eqb c.args.value 0) (eqb s.0.owed 1) (sym c.may_try_without_read.ensures ∙ no) in
     cannot_read-without_input c.args.limits.now c.args.value s (subst (Reads s) c.in-NoInput.is c.requires.reads) parts.1 (eqb-false c.args.value 0 parts.0)
 
 pub returns-in-Test : goal.returns-in-Test

@@ -1,5 +1,5 @@
 use Rattle.std.proofs.Common.{sym, subst}
-use Rattle.mcs_check.specs.Keys.{KeepsBoardAndInputs}
+use Rattle.mcs_check.specs.StateVectors.{KeepsBoardAndInputs}
 use Rattle.mcs_check.proofs.Keeping.{keeps-refl, keeps-trans}
 use Rattle.mcs_check.proofs.replica.SearchMachine.load.Goals as goal
 

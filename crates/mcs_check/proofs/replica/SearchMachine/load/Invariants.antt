@@ -1,4 +1,4 @@
-use Rattle.mcs_check.specs.Keys.{KeepsBoardAndInputs}
+use Rattle.mcs_check.specs.StateVectors.{KeepsBoardAndInputs}
 use Rattle.mcs_check.proofs.replica.SearchMachine.load.Given as goal
 
 abbrev pub invariant-loop-i : goal.invariant-loop-i

@@ -4,7 +4,7 @@ use Rattle.mcs_check.proofs.replica.SearchMachine.save_first.Given as goal
 
 abbrev pub invariant-loop-i : goal.invariant-loop-i
 invariant-loop-i l = record {
-  len : length l.key ≡ length l.initial.key;
-  done : HasFirstBytes l.self l.layout l.key l.i;
-  others : (k : ℕ) → l.count ≤ k → slice_index l.key k ≡ slice_index l.initial.key k;
+  len : length l.vector ≡ length l.initial.vector;
+  done : HasFirstBytes l.self l.layout l.vector l.i;
+  others : (k : ℕ) → l.count ≤ k → slice_index l.vector k ≡ slice_index l.initial.vector k;
 }
