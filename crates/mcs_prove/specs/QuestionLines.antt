@@ -20,7 +20,7 @@ use Rattle.mcs_prove.specs.declared.inputs.KeyPosition.{KeyPosition}
 use Rattle.mcs_prove.specs.declared.lines.QuestionLine.{QuestionLine}
 use Rattle.mcs_prove.specs.declared.lines.QuestionLine.TheVariants.{Blank, MaxStates, MaxEntries, MaxMemory, Pause, TimeLimit, BoardText, ProgramText, Conditions, OneCondition, NextMark, Together, Wait, Held, Only, Pressable, TestMayChange, Prove}
 use Rattle.mcs_prove.specs.declared.lines.ListRole.TheVariants.{Never, Begin, End, Open}
-use Rattle.mcs_prove.specs.declared.lines.TheConstants.{LAST_INDEX, MAX_TIME_LIMIT, MAX_PAUSE, MAX_ENTRIES, MAX_MEMORY, MAX_WAIT, MIN_WAIT, MAX_HELD}
+use Rattle.mcs_prove.specs.declared.lines.TheConstants.{MAX_CELL_INDEX, MAX_TIME_LIMIT, MAX_PAUSE, MAX_ENTRIES, MAX_MEMORY, MAX_WAIT, MIN_WAIT, MAX_HELD}
 
 -- ---- a comparison: `in ramport 0 line1 1 1`
 
@@ -57,7 +57,7 @@ cell_at list i = if nat_lt i (max_cell_count list) then Some (record { list = li
 
 abbrev pub cell_of : List ℕ → List ℕ → Option Cell
 cell_of list index =
-    lookup_entry (bytes_eq list) cell_lists >>= λ l. number_up_to LAST_INDEX index >>= λ i. cell_at l i
+    lookup_entry (bytes_eq list) cell_lists >>= λ l. number_up_to MAX_CELL_INDEX index >>= λ i. cell_at l i
 
 -- the comparison that six words spell. It compares a cell's value, or one line of the value, with a
 -- range.

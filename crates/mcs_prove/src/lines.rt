@@ -3,7 +3,7 @@
 //!     most 1000000                search at most 1000000 states
 //!     sets 1000000                prove with sets of values, with at most 1000000 entries; 0: prove by search
 //!     memory 1000                 use at most about 1000 MB
-//!     pause 1000000               split a stretch of cycles without reads every 1000000 cycles
+//!     pause 1000000               split a run of cycles without reads every 1000000 cycles
 //!     wire                        the board's text follows, up to a line with a single dot
 //!     asm                         the program's text follows, up to a line with a single dot
 //!     never                       the conditions that follow must never all be met at once
@@ -47,7 +47,7 @@ use mcs_model::numeral::number_within;
 use mcs_search::MAX_STATES;
 
 /// The largest index of a cell.
-const LAST_INDEX: u32 = 2047;
+const MAX_CELL_INDEX: u32 = 2047;
 
 /// The largest number of entries that a question can allow for sets of values.
 const MAX_ENTRIES: u32 = 100_000_000;
@@ -94,7 +94,7 @@ pub(crate) enum QuestionLine {
     MaxEntries(u32),
     /// The maximum memory for states or entries, in MB.
     MaxMemory(u32),
-    /// The number of cycles after which a search splits a stretch of cycles without reads.
+    /// The maximum number of cycles of a search step. A longer run of cycles without reads is split into several steps.
     Pause(u32),
     /// The maximum number of cycles that the stopwatch may show.
     TimeLimit(StopwatchCycles),
@@ -193,7 +193,7 @@ fn cell_of(list: &[u8], index: &[u8]) -> Option<Cell>
     ensures { result ≡ cell_of list.now index.now }
 {
     let list = list_named(list)?;
-    let index = number_within(index, LAST_INDEX)? as u16;
+    let index = number_within(index, MAX_CELL_INDEX)? as u16;
     if index < list.count() {
         Some(Cell { list, index })
     } else {

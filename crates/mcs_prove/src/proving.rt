@@ -102,7 +102,7 @@ fn with_limit(
 
 /// Returns the conjunctions that must never be met. They are those of `with_limit`, and those that are met when a
 /// conjunction in `opens` is met before all marks were seen.
-fn nevers_of(
+fn never_conjunctions(
     alloc: Global,
     never_lists: Vec<Vec<Condition>>,
     limit: Option<StopwatchCycles>,
@@ -119,7 +119,8 @@ fn nevers_of(
 
 /// Searches all runs of the machine that a board's text and a program's text define, for all inputs that `inputs`
 /// allows. Checks the conditions, the stopwatch's limit and the marks after each cycle. The search uses at most
-/// `max_states` states and about `memory` bytes. It splits a stretch of cycles without reads every `pause` cycles.
+/// `max_states` states and about `memory` bytes. It splits each run of cycles without reads into steps of `pause`
+/// cycles.
 pub fn prove(
     alloc: Global,
     board: &str,
@@ -138,7 +139,7 @@ pub fn prove(
 {
     let rig = rig_of(alloc, board, program)?;
     let opens = conjunctions_of(alloc, goal.opens)?;
-    let never_lists = nevers_of(alloc, goal.never_lists, goal.limit, &opens, &goal.marks)?;
+    let never_lists = never_conjunctions(alloc, goal.never_lists, goal.limit, &opens, &goal.marks)?;
     let begins = conjunctions_of(alloc, goal.begins)?;
     let ends = conjunctions_of(alloc, goal.ends)?;
     let limits = inputs.limits_of(alloc, rig.board())?;

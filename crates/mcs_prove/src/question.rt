@@ -13,7 +13,7 @@ use std::alloc::{AllocError, Global};
 use std::marker::Model;
 use std::mem;
 
-/// The default for `pause`: the number of cycles after which a search splits a stretch of cycles without reads.
+/// The default for `pause`, in cycles.
 const DEFAULT_PAUSE: u32 = 1_000_000;
 
 /// The section of a question to which its next line belongs.
@@ -54,7 +54,7 @@ pub(crate) struct Question {
     pub(crate) max_entries: u32,
     /// The maximum memory for states or entries, in MB.
     pub(crate) memory: u32,
-    /// The number of cycles after which a search splits a stretch of cycles without reads.
+    /// The maximum number of cycles of a search step. A longer run of cycles without reads is split into several steps.
     pub(crate) pause: u32,
     /// True after the `prove` line.
     pub(crate) has_prove_line: bool,

@@ -3,7 +3,7 @@ use Rattle.mcs_check.specs.declared.conditions.Condition.{Condition}
 use Rattle.mcs_check.specs.Conditions.{meets_none}
 use Rattle.mcs_prove.specs.Questions.{is_within_limit}
 use Rattle.mcs_prove.proofs.Proved.{mark_requirement}
-use Rattle.mcs_prove.proofs.proving.nevers_of.Goals as goal
+use Rattle.mcs_prove.proofs.proving.never_conjunctions.Goals as goal
 
 pub returns : goal.returns
 returns c = λ s.
