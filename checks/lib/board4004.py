@@ -16,7 +16,7 @@ from assembler import CODES_WITHOUT_OPERAND, CODES_ON_PAIR, CODES_ON_REGISTER, C
 ADDRESS_COUNT = 4096
 TWO_WORDS = {"JCN", "FIM", "JUN", "JMS", "ISZ"}
 TWO_CYCLES = TWO_WORDS | {"FIN"}
-# A line of the board: `rom` with chip and line number, `ram` with bank, chip and line number, or `chain` with its number and a bit number.
+# An I/O line: `rom` with chip and line number, `ram` with bank, chip and line number, or `chain` with the chain's number and a bit number.
 Line = tuple[str, tuple[int, ...]]
 
 

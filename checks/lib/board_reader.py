@@ -180,15 +180,15 @@ def line_of(lines, part):
     """Returns the number of lines in the shortest prefix of the text that is valid TOML and contains a part. `part` describes this part as
     `ParsedBoard.first_error` does."""
     _number, section, index, key = part
-    too_short, long_enough = 0, len(lines)
-    while long_enough - too_short > 1:
-        middle = (too_short + long_enough) // 2
+    too_short_count, sufficient_count = 0, len(lines)
+    while sufficient_count - too_short_count > 1:
+        middle = (too_short_count + sufficient_count) // 2
         count, document = longest_valid_prefix(lines[:middle], middle)
         if has_part(document, section, index, key):
-            long_enough = count
+            sufficient_count = count
         else:
-            too_short = middle
-    return long_enough
+            too_short_count = middle
+    return sufficient_count
 
 
 def wiring_answer(lines):

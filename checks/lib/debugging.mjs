@@ -64,7 +64,7 @@ async function machineState(client) {
   return { acc: digits("acc"), cy: values.cy, pc: digits("pc"), dcl: digits("dcl"), test: values.test, r };
 }
 
-/** Returns only the values in an answer to `state` that `machineState` returns, too. */
+/** From the values in an answer to `state`, returns only those that `machineState` returns, too. */
 const comparableState = ({ acc, cy, pc, dcl, test, r }) => ({ acc, cy, pc, dcl, test, r });
 
 /** Compares steps of the adapter in an example, forward and back, with the steps of the native program. */
@@ -101,7 +101,7 @@ async function tryBreakpoints(name) {
   const client = new Client(MCS4);
   await client.beginSession(example(name));
   await client.waitForEvent("stopped");
-  const initial = await client.request("evaluate", { expression: "state", context: "repl" });
+  const initialState = await client.request("evaluate", { expression: "state", context: "repl" });
   for (const [label, address] of labels) {
     copyFileSync(file, `${folder}/run.mcs`);
     const answers = runProgram("open", `${folder}/run.mcs`, `break ${address}\nrun 50000\nunbreak ${address}\nstate\n`);
@@ -113,7 +113,7 @@ async function tryBreakpoints(name) {
     verdict([stop.reason, await machineState(client)], ["function breakpoint", comparableState(valuesOf(answers[3]))], `${name}: a breakpoint at ${label}`);
     await client.request("setFunctionBreakpoints", { breakpoints: [] });
   }
-  matches(initial.result, /^state seq 2 acc 0 cy 0 pc 000/, `${name}: the state after launch`);
+  matches(initialState.result, /^state seq 2 acc 0 cy 0 pc 000/, `${name}: the state after launch`);
   await client.endSession();
 }
 
@@ -236,7 +236,7 @@ async function tryFiles() {
   await client.endSession();
 }
 
-/** Checks that the adapter reports errors in messages. */
+/** Checks that the adapter answers invalid or untimely messages with the correct error. */
 async function tryMessages() {
   const client = new Client(MCS4);
   matches((await client.fetchResponse("threads")).message, /send initialize first/, "a request before initialize");

@@ -111,16 +111,16 @@ async function tryAttach() {
  */
 async function tryRejectedFiles() {
   const file = sessionFile("held", "");
-  const holder = spawn(process.env.MCS4, ["open", file], { stdio: ["pipe", "pipe", "ignore"] });
-  await new Promise((resume) => holder.stdout.once("data", resume));
+  const sessionHolder = spawn(process.env.MCS4, ["open", file], { stdio: ["pipe", "pipe", "ignore"] });
+  await new Promise((resume) => sessionHolder.stdout.once("data", resume));
   const client = new Client(ADAPTER);
   await client.request("initialize", VSCODE);
   for (const command of ["attach", "launch"]) {
     const { message } = await client.fetchResponse(command, { session: file });
-    matches(message, new RegExp(`in use.*mcs4 open held\\.mcs \\(process ${holder.pid}\\)`, "s"), `${command}: a session in use is rejected, and its user is named`);
+    matches(message, new RegExp(`in use.*mcs4 open held\\.mcs \\(process ${sessionHolder.pid}\\)`, "s"), `${command}: a session in use is rejected, and its user is named`);
   }
-  holder.stdin.end();
-  await new Promise((resume) => holder.on("close", resume));
+  sessionHolder.stdin.end();
+  await new Promise((resume) => sessionHolder.on("close", resume));
   writeFileSync(`${folder}/binary`, Buffer.from(Array.from({ length: 70000 }, (_, index) => (index * 7919) % 256)));
   writeFileSync(`${folder}/text`, "x".repeat(65536));
   writeFileSync(`${folder}/program.asm`, " NOP\n".repeat(13107));
@@ -175,8 +175,8 @@ async function tryRequests() {
     "supportsExceptionFilterOptions", "supportsDataBreakpoints", "supportsCompletionsRequest", "supportsReadMemoryRequest", "supportsWriteMemoryRequest"];
   verdict(usedCapabilities.filter((name) => capabilities[name] !== true), [], "the adapter announces all capabilities that are used");
   verdict(filters.breakpoints.map(({ verified }) => verified), [true, true], "exception filters with options are verified");
-  const initial = await readStop(client);
-  const { targets } = await client.request("stepInTargets", { frameId: initial.frames[0].id });
+  const initialStop = await readStop(client);
+  const { targets } = await client.request("stepInTargets", { frameId: initialStop.frames[0].id });
   verdict(targets, [], "stepInTargets: a jump is not a call");
   await client.runUntilStop("stepIn");
   const targetsAhead = await client.request("stepInTargets", { frameId: 1 });

@@ -1,5 +1,5 @@
-// Tests of checks/editors that send requests in the order of Visual Studio Code, for the lock example as a project on disk. Prints `ok TEXT` or
-// `failed: TEXT` for each check, and `speed: TEXT` for a measurement.
+// Tests of checks/editors that send requests in the same order as Visual Studio Code. They open the lock example as a project on disk. Prints
+// `ok TEXT` or `failed: TEXT` for each check, and `speed: TEXT` for a measurement.
 import { copyFileSync, mkdirSync, readFileSync, symlinkSync, writeFileSync } from "node:fs";
 import { execFileSync } from "node:child_process";
 import { Client } from "./lsp_client.mjs";
@@ -17,7 +17,7 @@ function verdict(actual, expected, description) {
   console.log(actualText === expectedText ? `ok ${description}` : `failed: ${description}: ${actualText}, not ${expectedText}`);
 }
 
-/** The capabilities that the editor reports to a server. */
+/** The client capabilities that Visual Studio Code sends to a language server. */
 const CAPABILITIES = {
   workspace: {
     applyEdit: true, configuration: true, workspaceFolders: true, didChangeWatchedFiles: { dynamicRegistration: true },

@@ -179,7 +179,7 @@ def percentage_of(count: int, total: int) -> str:
 
 
 def line_ranges(lines: list[int], chosen_lines: list[int]) -> str:
-    """Returns the numbers, from 1, of the chosen lines as text. Chosen lines that are neighbours in `lines` are written as a range."""
+    """Returns text that lists the chosen lines by number, where index 0 is line 1. Chosen lines that are neighbours in `lines` form a range."""
     spans: list[list[int]] = []
     previous = None
     for line in lines:
@@ -207,11 +207,11 @@ def cover_output(start: Board, cycles: int, source: Source) -> str:
     taken_count = sum(1 for counts in directions.values() for taken_text in counts if taken_text)
     rows += ["", f"{len(lines) - len(lines_never_run)} of {len(lines)} instructions were run{percentage_of(len(lines) - len(lines_never_run), len(lines))}, "
              f"{taken_count} of {2 * len(directions)} branch directions{percentage_of(taken_count, 2 * len(directions))}"]
-    one_way_lines = [f"{i + 1} ({'always' if taken else 'never'} taken)" for i, (taken, not_taken) in directions.items() if (taken == 0) != (not_taken == 0)]
+    one_way_texts = [f"{i + 1} ({'always' if taken else 'never'} taken)" for i, (taken, not_taken) in directions.items() if (taken == 0) != (not_taken == 0)]
     if lines_never_run:
         rows.append(f"never run: line{'s' if len(lines_never_run) > 1 else ''} {line_ranges(lines, lines_never_run)}")
-    if one_way_lines:
-        rows.append(f"only one way: line{'s' if len(one_way_lines) > 1 else ''} {', '.join(one_way_lines)}")
+    if one_way_texts:
+        rows.append(f"only one way: line{'s' if len(one_way_texts) > 1 else ''} {', '.join(one_way_texts)}")
     return "".join(f"{row}\n" for row in rows)
 
 
@@ -228,9 +228,9 @@ class Calls:
     def __init__(self) -> None:
         self.open: list[tuple[int, int]] = []
         self.counts: dict[int, int] = {}
-        self.times: dict[int, list[int]] = {}
+        self.durations: dict[int, list[int]] = {}
 
-    def enter(self, target: int, time: int) -> None:
+    def enter_subroutine(self, target: int, time: int) -> None:
         """Enters a subroutine at a JMS. A fourth nested JMS loses the first return address."""
         self.open = [*self.open[-2:], (target, time)]
         self.counts[target] = self.counts.get(target, 0) + 1
@@ -239,7 +239,7 @@ class Calls:
         """Leaves a subroutine at a BBL, or at the end of the run. The time of nested calls of the same subroutine is counted once."""
         target, start = self.open.pop()
         if all(open_target != target for open_target, _start in self.open):
-            self.times.setdefault(target, []).append(time - start)
+            self.durations.setdefault(target, []).append(time - start)
 
 
 def profile_output(start: Board, cycles: int, source: Source) -> str:
@@ -253,7 +253,7 @@ def profile_output(start: Board, cycles: int, source: Source) -> str:
         end = min(start_cycle + 1 + (name in TWO_CYCLES), total)
         own_cycles[source.label_below(address)] += end - start_cycle
         if name == "JMS":
-            calls.enter(256 * low + start.rom[(address + 1) % ADDRESS_COUNT], end)
+            calls.enter_subroutine(256 * low + start.rom[(address + 1) % ADDRESS_COUNT], end)
         elif name == "BBL" and calls.open:
             calls.leave(end)
     while calls.open:
@@ -262,8 +262,8 @@ def profile_output(start: Board, cycles: int, source: Source) -> str:
     for (address, label), label_cycles in sorted(own_cycles.items(), key=lambda item: (-item[1], item[0][0])):
         row = f"{label or '(no label)':<17} {f'{address:03X}' if label else '':<4} {label_cycles:10} {100 * label_cycles / total:6.1f}"
         if calls.counts.get(address):
-            times = calls.times.get(address, [0])
-            row += f" {calls.counts[address]:9} {sum(times):10} {max(times):10}"
+            durations = calls.durations.get(address, [0])
+            row += f" {calls.counts[address]:9} {sum(durations):10} {max(durations):10}"
         rows.append(row)
     if start.owed and total:
         rows.append(f"{'(begun before)':<22} {1:10} {100 / total:6.1f}")

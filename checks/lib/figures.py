@@ -40,8 +40,8 @@ def check_phrases():
     check."""
     yield f"{len(BOARD_MUTANTS) + len(TOOL_MUTANTS)} wrong readings"
     yield f"{len(SEARCH_MUTANTS) + len(LIMIT_MUTANTS) + len(WAIT_MUTANTS) + len(HELD_MUTANTS)} wrong searches"
-    boards = re.search(r"^RANDOM_BOARD_COUNT = (\d+)$", (TOP / "checks/runs").read_text(), re.M)
-    yield f"of {boards[1]} seeded boards in various TOML spellings"
+    board_count_match = re.search(r"^RANDOM_BOARD_COUNT = (\d+)$", (TOP / "checks/runs").read_text(), re.M)
+    yield f"of {board_count_match[1]} seeded boards in various TOML spellings"
     for path in sorted((TOP / "checks").iterdir()):
         if path.is_file():
             yield rf"`{path.name}`"

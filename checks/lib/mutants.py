@@ -31,7 +31,7 @@ def replace_function(owner: Any, name: str, replacement: Callable[..., Any]) -> 
 
 
 def daa_without_carry(board: Board, _low: int, _second_byte: int) -> None:
-    """DAA, but it clears the carry."""
+    """Executes DAA, but clears the carry if the accumulator does not overflow."""
     board.cy, board.acc = divmod(board.acc + (6 if board.cy or board.acc > 9 else 0), 16)
 
 
@@ -310,7 +310,7 @@ LIMIT_MUTANTS: dict[str, Callable[[], AbstractContextManager]] = {
 
 # ---- the minimum time between changes
 
-def begins_with_free(part: int) -> Callable[[int, Spacing, Levels], bool]:
+def begins_with_free_change(part: int) -> Callable[[int, Spacing, Levels], bool]:
     """Lets TEST (part 1) or the keys (part 0) change at any time, if the other levels do not change."""
     return lambda wait, spacing, levels: (
         CORRECT_CAN_BEGIN_AT(wait, spacing, levels) or spacing.last is not None and spacing.last[1 - part] == levels[1 - part])
@@ -322,7 +322,7 @@ def age_of_late_change(wait: int, spacing: Spacing, levels: Levels) -> int:
 
 
 def age_of_free_change(wait: int, spacing: Spacing, levels: Levels) -> int:
-    """Forgets a change: it does not delay the next one."""
+    """Ignores a change when it calculates the age, so that the change does not delay the next one."""
     return CORRECT_AGE_AT_BEGIN(wait, spacing, levels if spacing.last is None else spacing.last)
 
 
@@ -341,8 +341,8 @@ WAIT_MUTANTS: dict[str, Callable[[], AbstractContextManager]] = {
         CORRECT_CAN_BEGIN_AT(wait - 1, spacing, levels))),
     "a change is a cycle late": replace_function(second_waits, "can_begin_at", lambda wait, spacing, levels: (
         CORRECT_CAN_BEGIN_AT(wait + 1, spacing, levels))),
-    "keys change at any time": replace_function(second_waits, "can_begin_at", begins_with_free(0)),
-    "TEST changes at any time": replace_function(second_waits, "can_begin_at", begins_with_free(1)),
+    "keys change at any time": replace_function(second_waits, "can_begin_at", begins_with_free_change(0)),
+    "TEST changes at any time": replace_function(second_waits, "can_begin_at", begins_with_free_change(1)),
     "the first levels are a change": replace_function(second_waits, "age_at_begin", lambda wait, spacing, levels: (
         0 if spacing.last is None else CORRECT_AGE_AT_BEGIN(wait, spacing, levels))),
     "a change is made as late as possible": replace_function(second_waits, "age_at_begin", age_of_late_change),
@@ -360,17 +360,17 @@ WAIT_MUTANTS: dict[str, Callable[[], AbstractContextManager]] = {
 # ---- keys that are down for a limited time
 
 def down_without_long_steps(limits: InputLimits, down: int, levels: Levels, cycles: int) -> int:
-    """Keeps the time after a step of more than `wait` cycles."""
+    """Continues to count the time for which a key is down after a step of more than `wait` cycles, instead of starting again at 0."""
     return min(down + cycles, limits.held) if levels[0] else 0
 
 
 def down_with_limited(are_limited: Callable[[Levels], bool]) -> Callable[[InputLimits, int, Levels, int], int]:
-    """Limits the time for which levels are the same, if they are limited."""
+    """Limits the time for which the levels stay the same, but only levels that `are_limited` selects."""
     return lambda limits, down, levels, cycles: min(down + cycles, limits.held) if are_limited(levels) and cycles <= limits.wait else 0
 
 
 def down_with_longer_wait(cycle_count: int) -> Callable[[InputLimits, int, Levels, int], int]:
-    """Lets the levels change twice only during a step that is longer by a number of cycles."""
+    """Lets the levels change twice only during steps that are longer than `wait` plus `cycle_count` cycles."""
     return lambda limits, down, levels, cycles: CORRECT_DOWN_AFTER(replace(limits, wait=limits.wait + cycle_count), down, levels, cycles)
 
 

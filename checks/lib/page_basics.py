@@ -63,7 +63,7 @@ PUT_INTO_EDITOR = "document.querySelector(`${arguments[0]} .cm-editor`).lineEdit
 BLOCK_PAGE = "const end = performance.now() + arguments[0]; while (performance.now() < end);"
 
 # True if the disassembly shows the program counter's line. The rows move with the counter, so an earlier click would hit another line.
-IS_AT_COUNTER = """const next = document.querySelector('#lines-of-program .next');
+IS_COUNTER_ROW_SHOWN = """const next = document.querySelector('#lines-of-program .next');
 return next !== null && next.textContent.includes(document.getElementById('value-pc').textContent)"""
 
 GET_RATE = "return Number(document.getElementById('rate').textContent.replace(/\\D/g, ''))"
@@ -230,7 +230,7 @@ def check_breakpoint_and_watch(browser):
     browser.click("#step")
     browser.wait_until(GET_STATUS, STEPPED)
     next_row = "#lines-of-program button.next"
-    eventually(browser, "the disassembly is at the program counter", IS_AT_COUNTER, True)
+    eventually(browser, "the disassembly is at the program counter", IS_COUNTER_ROW_SHOWN, True)
     address = browser.text_of(f"{next_row} span")[:3]
     browser.click_at_rest(next_row)
     eventually(browser, "a click sets a breakpoint", f"return document.querySelector('{next_row}').getAttribute('aria-pressed')", "true")

@@ -24,7 +24,7 @@ INSERT_SCAN_LABEL = "Insert code that scans these keys"
 GET_PIN_NUMBERS = "return [...document.querySelectorAll('#wiring-picture [aria-label^=\"ROM 0\"] .number')].map((node) => node.textContent).join(' ')"
 GET_SOURCE = "return document.querySelector('#program-editor .cm-editor').lineEditor.getValue()"
 GET_DISABLED_BUTTONS = "return [...document.querySelectorAll('#shelf button:disabled')].map((node) => `${node.textContent}: ${node.title}`)"
-GET_POSITION_OF_KEYS = """
+GET_KEYS_POSITION = """
 const box = document.querySelector("#wiring-picture .of-keys rect");
 return [box.getAttribute("x"), box.getAttribute("y")].map(Number)"""
 GET_CENTRE = "const box = document.querySelector(arguments[0]).getBoundingClientRect(); return [box.x + box.width / 2, box.y + box.height / 2]"
@@ -213,16 +213,16 @@ def check_buzzer(browser):
 
 def check_moving_part(browser):
     """Checks that a part can be dragged to another position, that a reload keeps this position, and that Tidy restores the old one."""
-    position_before = browser.script(GET_POSITION_OF_KEYS)
+    position_before = browser.script(GET_KEYS_POSITION)
     drag(browser, "#wiring-picture .of-keys .title", (-30, 90))
-    eventually(browser, "a part moves when it is dragged", f"{GET_POSITION_OF_KEYS}[1] > {position_before[1] + 40}", True)
-    new_position = browser.script(GET_POSITION_OF_KEYS)
+    eventually(browser, "a part moves when it is dragged", f"{GET_KEYS_POSITION}[1] > {position_before[1] + 40}", True)
+    new_position = browser.script(GET_KEYS_POSITION)
     time.sleep(1)
     browser.reload()
     wait_until_ready(browser)
-    eventually(browser, "a reload keeps the position of the part", GET_POSITION_OF_KEYS, new_position)
+    eventually(browser, "a reload keeps the position of the part", GET_KEYS_POSITION, new_position)
     browser.click("#drawing-tidy")
-    eventually(browser, "Tidy moves the part back", GET_POSITION_OF_KEYS, position_before)
+    eventually(browser, "Tidy moves the part back", GET_KEYS_POSITION, position_before)
 
 
 def check_chain_keeps_its_position(browser):

@@ -127,13 +127,13 @@ if (location.search === "?hang") {
   block("beforeunload");
   block("pagehide");
 }"""
-# A flag in the browser's storage marks a session that is being opened. A flag that remains shows that the page hung. AGE_FLAGS makes all flags old.
+# A flag in the browser's storage marks a session that is being opened. A flag that remains shows that the page hung. BACKDATE_FLAGS ages all flags.
 COUNT_FLAGS = "return Object.keys(localStorage).filter((key) => key.startsWith('fethsaim.opening')).length"
-AGE_FLAGS = "for (const key of Object.keys(localStorage)) if (key.startsWith('fethsaim.opening')) localStorage.setItem(key, '1')"
+BACKDATE_FLAGS = "for (const key of Object.keys(localStorage)) if (key.startsWith('fethsaim.opening')) localStorage.setItem(key, '1')"
 # Removes all flags, because a busy page that the user left can have left its flag behind.
 REMOVE_FLAGS = "for (const key of Object.keys(localStorage)) if (key.startsWith('fethsaim.opening')) localStorage.removeItem(key)"
 UNFINISHED_NOTICE = 'The session "die" was not opened automatically: the last time, opening it did not finish.'
-GET_LAST_ENTRY = "return document.getElementById('log').lastElementChild.textContent"
+GET_LAST_LOG_ENTRY = "return document.getElementById('log').lastElementChild.textContent"
 HAS_PROGRESS = "return document.querySelector('#work progress').value > 0"
 GET_LONGEST_BLOCK = "clearInterval(window.ticking); return window.longest"
 
@@ -159,7 +159,7 @@ def check_long_work(browser, page):
     browser.script("document.getElementById('send').click()")
     eventually(browser, "work in pieces is completed", "return document.getElementById('lines').value", "", 60)
     send_lines(browser, "seq")
-    verdict("each line of the work is executed once", browser.script(GET_LAST_ENTRY), f"seqseq {int(answer_before.rsplit(' ', 1)[1]) + 20000}")
+    verdict("each line of the work is executed once", browser.script(GET_LAST_LOG_ENTRY), f"seqseq {int(answer_before.rsplit(' ', 1)[1]) + 20000}")
 
 
 SHORTEN_WAIT = """
@@ -190,7 +190,8 @@ def check_calculator_works(browser, description):
 
 
 def check_missing_features(browser, page, folder):
-    """Checks that the page shows only a notice if WebAssembly lacks bulk memory, and that it works without a store of sessions or without locks."""
+    """Checks that the page shows only a notice if WebAssembly lacks bulk memory. The page must work in browsers where it can store nothing, and in
+    browsers without the Web Locks API."""
     verdict("the notice about a browser without bulk memory", notice_after_reopening(browser, page_without_feature(page, folder, "WebAssembly.validate = () => false")),
             re.compile(r"This browser has no WebAssembly with bulk memory.*97.*102.*16"))
     verdict("the buttons of a page without a module", browser.script(GET_SHOWN_CONTROLS), ["Dismiss"])
@@ -207,7 +208,7 @@ def check_missing_features(browser, page, folder):
 
 
 def check_no_locks(browser, page, folder):
-    """Checks that in a browser without locks, two tabs with the same session do not overwrite each other's changes. A closed tab must not block the
+    """Checks that without the Web Locks API, two tabs with the same session do not overwrite each other's changes. A closed tab must not block the
     session."""
     notice_after_reopening(browser, write_altered_page(page, folder, "Object.defineProperty(Navigator.prototype, 'locks', { value: undefined })"), IS_READY, True)
     address = browser.script("return location.href")
@@ -262,11 +263,11 @@ def reopen(browser, address):
 
 
 def open_hanging_session(browser, address):
-    """Opens a session in a page that never finishes opening it. Makes the flag of this opening old, as if the page had hung for a long time."""
+    """Opens a session in a page that never finishes opening it. Then backdates the page's opening flag, as if the page had hung for a long time."""
     browser.open("about:blank")
     browser.open(address.replace("html", "html?hang", 1))
     browser.wait_until("return Boolean(window.hung)", True)
-    browser.script(AGE_FLAGS)
+    browser.script(BACKDATE_FLAGS)
 
 
 def check_leaving_early(browser, address, session):

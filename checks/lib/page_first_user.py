@@ -171,8 +171,8 @@ def check_project_file(browser, folder):
 
 
 def check_example(browser):
-    """Checks that the texts of an example that is a project have their comments, and that its session is in the state that they describe. Then
-    corrects the error in its program."""
+    """Opens an example that is a project. Checks that its texts have their comments, and that its session is in the state that these describe. Then
+    corrects the error in the example's program."""
     browser.script("for (const each of document.querySelectorAll('#notice .dismiss')) each.click()")
     choose_by_keyboard(browser, "a fault to find")
     verdict("the example's source has its comments", browser.script(GET_PROGRAM_TEXT), re.compile("^; Four lamps should count from 0 to 9"))

@@ -179,7 +179,7 @@ def check_port_names(browser):
 
 
 def check_board_without_panel(browser):
-    """Checks that a board without comments about its front panel shows its lamps with their lines as names, a default title, and the TEST button."""
+    """Checks the front panel of a board without comments about the panel: a default title, the TEST button, and lamps named after their I/O lines."""
     status_of(browser, "#board-editor", board_of_lamps(16))
     eventually(browser, "sixteen lamps without a front panel are not a display", "return document.getElementById('display').hidden", True)
     names = re.sub(", (lit|dark)", "", browser.script(GET_NAMES))

@@ -28,7 +28,7 @@ Worker.prototype.addEventListener = function (kind, handler) {
 };"""
 GET_FRAMES = "return window.frames"
 
-# A script to insert before the worker's own. It adds to each reply the milliseconds since the request.
+# A script to insert before the worker's own script. It adds the milliseconds since the request to each reply.
 INSTALL_WORKER_METER = """
 let start = 0;
 addEventListener("message", () => { start = performance.now(); });

@@ -98,7 +98,7 @@ def read_listing(mcs4):
     """Reads the output of `mcs4 listing`. Returns two dictionaries: the number and text of the source line that begins at each address, and the
     value of each name."""
     listing = listing_of(mcs4).splitlines()
-    # Continuation rows of a line have no text.
+    # If a source line has several rows, only its first row has text.
     rows = [row for row in listing if row[17:] or not re.match("[0-9A-F]{3} ", row)]
     lines = {row[:3]: (number, row[17:]) for number, row in enumerate(rows, 1) if re.match("[0-9A-F]{3} [0-9A-F]{2}", row)}
     return lines, dict(line.split() for line in listing_of(mcs4, "--names").splitlines())
@@ -150,13 +150,13 @@ def check_breakpoint_at_name(browser, source, values, lines):
 def check_margin_clicks(browser, source, values):
     """Checks that clicks in the source's margin set and clear breakpoints. At a line without bytes, the breakpoint must move to the next
     instruction."""
-    show_line = source[values["show"]][0]
-    browser.script(CLICK_MARGIN, show_line)
-    eventually(browser, "a click in the margin sets a breakpoint", GET_BREAKPOINT_LINES, str(show_line))
+    line_of_show = source[values["show"]][0]
+    browser.script(CLICK_MARGIN, line_of_show)
+    eventually(browser, "a click in the margin sets a breakpoint", GET_BREAKPOINT_LINES, str(line_of_show))
     browser.click("#reset")
     browser.click("#run")
     eventually(browser, "the program stops at the breakpoint's line", GET_STATUS, f"Paused at {values['show']}, at a breakpoint.")
-    browser.script(CLICK_MARGIN, show_line)
+    browser.script(CLICK_MARGIN, line_of_show)
     eventually(browser, "another click clears the breakpoint", GET_BREAKPOINT_LINES, "")
     browser.script(CLICK_MARGIN, 1)
     eventually(browser, "a breakpoint at a line without bytes moves to the next instruction, with a message", GET_POPUP,

@@ -231,7 +231,8 @@ def open_link(browser, page, link):
 
 
 def check_link(browser, page):
-    """Checks that a link contains the name and the texts, that a preview appears before it is opened, and that an incomplete link is rejected."""
+    """Checks that a link contains a session's name and texts, that a preview appears before a linked session is opened, and that an incomplete link
+    is rejected."""
     status_of(browser, "#board-editor", BOARD)
     status_of(browser, "#program-editor", PROGRAM)
     rename_session(browser, "my light")

@@ -10,7 +10,7 @@ from page_basics import GET_DIGITS, GET_RATE, GET_STATUS, SET_SPEED, STEPPED, ch
 from verdicts import eventually, verdict
 
 TOP = pathlib.Path(__file__).resolve().parent.parent.parent
-GET_MARKED = "return document.querySelector('#cycles span:last-child').textContent"
+GET_CYCLES_BETWEEN_MARKS = "return document.querySelector('#cycles span:last-child').textContent"
 GET_CYCLES_SINCE_STOP = "return document.querySelector('#cycles span:nth-child(2) b').textContent"
 GET_CYCLES_SINCE_RESET = "return document.querySelector('#cycles span:first-child b').textContent"
 CHANGE_FIELD = """
@@ -197,8 +197,8 @@ def check_delay(browser):
 
 
 def check_stopwatch(browser):
-    """Checks that a hundredth of a second of the stopwatch is 926 cycles, measured between two marks. Also checks going back to a change of the
-    lamps, and the message about an unknown name."""
+    """Checks that a hundredth of a second on the stopwatch takes 926 cycles, measured between two marks. Also checks that the user can go back to a
+    change of the lamps, and that an unknown name is reported."""
     open_paused_example(browser, "stopwatch")
     send_lines(browser, "test 0")
     browser.script(CHANGE_FIELD, "#change-place", "lamps")
@@ -207,7 +207,7 @@ def check_stopwatch(browser):
         browser.click("#until-change")
         browser.wait_until(GET_STATUS, re.compile("after lamps changed, after"))
         browser.click("#mark")
-    verdict("the cycles between two changes of the lamps", browser.script(GET_MARKED), re.compile(r"Between the marks 926 cycles, 10\.001 ms$"))
+    verdict("the cycles between two changes of the lamps", browser.script(GET_CYCLES_BETWEEN_MARKS), re.compile(r"Between the marks 926 cycles, 10\.001 ms$"))
     lamps = send_lines(browser, "lamps")
     browser.click("#back-change")
     eventually(browser, "going back to the change of the lamps", GET_STATUS, re.compile("^Back at ..., 1 cycle, 0.011 ms earlier: this instruction changes lamps"))

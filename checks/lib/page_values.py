@@ -54,7 +54,7 @@ def point_until_shown(browser, line, word, query, expected):
             return
 
 
-def run_to_add(browser):
+def run_to_add_instruction(browser):
     """Runs the program to ADD, the instruction after RDM. R5 is then 1, and the nibble that the program writes is 7. Also checks words that the page
     shows in the new session."""
     browser.script("document.getElementById('change-place').value = 'nonsense'")
@@ -202,7 +202,7 @@ def check_heat_map(browser):
 
 def check(browser, page, _folder, _mcs4):
     reopen_page(browser, page)
-    run_to_add(browser)
+    run_to_add_instruction(browser)
     check_values_at_pointer(browser)
     check_edited_value(browser)
     check_watched_values(browser)

@@ -185,7 +185,7 @@ def check_past_cycles(browser):
 
 # Sets the values of fields. The argument maps the fields' ids to values.
 FILL_FIELDS = "for (const [id, value] of Object.entries(arguments[0])) document.getElementById(id).value = value"
-GET_COUNT = "return document.getElementById('scope-count').textContent"
+GET_SCOPE_COUNT = "return document.getElementById('scope-count').textContent"
 
 
 def check_live_recording(browser, folder, mcs4):
@@ -199,7 +199,7 @@ def check_live_recording(browser, folder, mcs4):
     verdict("the status before the program is running", record(browser, 1000000, "live"), "Records as soon as the machine runs.")
     browser.click("#run")
     eventually(browser, "the status while recording", GET_SCOPE_STATUS, "Recording.")
-    eventually(browser, "the number of recorded cycles is shown", GET_COUNT, re.compile(r"^[0-9,]{4,} cycles, [0-9.]+ m?s$"))
+    eventually(browser, "the number of recorded cycles is shown", GET_SCOPE_COUNT, re.compile(r"^[0-9,]{4,} cycles, [0-9.]+ m?s$"))
     eventually(browser, "the program is running", GET_STATUS, re.compile("^Running \""))
     eventually(browser, "the tab reports that it records", "return document.getElementById('waves-tab').textContent", "Wavesrecords")
     browser.click("#keys button")

@@ -192,7 +192,7 @@ return [...document.querySelectorAll("#chosen :is(button, input, select)")].filt
   .map((each) => each.getAttribute("aria-label"))"""
 GET_DIGIT_FILL = """
 return getComputedStyle(document.querySelector(`#examples button[aria-label='new session: ${arguments[0]}'] .digits`)).fill"""
-GET_OFFERS = """
+GET_SHOWN_OFFERS = """
 return ["board-offer", "hello"].filter((id) => isShown(document.getElementById(id)))"""
 COUNT_BUTTONS_AT_EDGE = """
 const { left, right } = document.getElementById("history").getBoundingClientRect();
@@ -221,7 +221,7 @@ def check_details(browser, set_size):
             == browser.script(GET_DIGIT_FILL, "counter"), False)
     browser.click("#close-sessions")
     choose_example(browser, "empty bench")
-    verdict("the only offer on an empty bench", browser.script(GET_OFFERS), ["board-offer"])
+    verdict("the only offer on an empty bench", browser.script(GET_SHOWN_OFFERS), ["board-offer"])
     choose_example(browser, "first")
     verdict("a session without texts shows the field for lines", browser.script(FIND_SHOWN, ["lines"]), ["lines"])
     choose_example(browser, "three lamps")

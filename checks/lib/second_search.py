@@ -56,7 +56,7 @@ class InputLimits:
     held: int = 0
 
     def lines(self) -> list[str]:
-        """Returns the lines of a question for these limits."""
+        """Returns the lines that state these limits in a question."""
         return [*([] if self.together is None else [f"together {self.together}"]), *(["only"] if self.only else []),
                 *(f"press {row} {column}" for row, column in self.keys), *(["test"] if self.test else []),
                 *([f"wait {self.wait}"] if self.wait else []), *([f"held {self.held}"] if self.held else [])]
@@ -138,7 +138,7 @@ def chain_bit(board: QuestionBoard, n: int, index: int) -> int:
     return chain[index] if index < len(chain) else 0
 
 
-# The readers of the cells in each list.
+# For each list of cells, the function that reads the cell with an index.
 CELL_READERS: dict[str, Callable[[QuestionBoard, int], int]] = {
     "character": lambda board, index: board.chips.ram[index // 256][index % 256],
     "status": lambda board, index: board.chips.status[index // 64][index // 4 % 16][index % 4],
@@ -191,9 +191,9 @@ class MarkSequence:
 
 
 class QuestionBoard(Board):
-    """The board of a question, with what the search adds to it. `elapsed` is the number of cycles that the stopwatch shows, or 0 if it does not run.
-    `seen_count` is the number of marks seen. While the condition of the marks is true, and in the cycle after that, it is the number of all marks
-    plus 1. A question can have no stopwatch and no marks."""
+    """The board of a question, with state that the search needs. `elapsed` is the number of cycles that the stopwatch shows, or 0 if it does not run.
+    `seen_count` is the number of marks seen. While the condition `opens` is true, and in the cycle after that, `seen_count` is the number of all
+    marks plus 1. A question need not have a stopwatch or marks."""
 
     def __init__(self, limits: InputLimits) -> None:
         super().__init__()

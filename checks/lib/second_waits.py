@@ -40,8 +40,8 @@ MAX_LEVELS = 255
 # ---- levels
 
 def all_levels(board: QuestionBoard) -> list[Levels]:
-    """Returns the levels of the keys and TEST of a board that its limits allow, in the program's order: by TEST, then by each key. Returns at most
-    MAX_LEVELS + 1."""
+    """Returns the combinations of key and TEST levels that the board's limits allow, sorted as mcs4-prove sorts them: by TEST, then by each key.
+    Returns at most MAX_LEVELS + 1 of them."""
     keys = allowed_keys(board)
     sets_of_keys = (keys_down for count in range(min(len(keys), max_keys_down(board)) + 1) for keys_down in itertools.combinations(keys, count))
     levels = ((frozenset(keys_down), test) for keys_down in sets_of_keys for test in allowed_test_levels(board))
@@ -68,9 +68,9 @@ DownTimes = tuple[int, ...]
 
 
 class LiteralSearch:
-    """All states that the machine of a question reaches. A state has a machine, its levels for the next cycle, the age of the last change in cycles,
-    at most `wait`, and the times for which keys are down. If there was no change yet, the age is `wait`, too: both allow a change. The ages of all
-    states that are otherwise the same are the bits of one number."""
+    """A search that visits all reachable states, cycle by cycle. A state consists of the machine, its levels in the next cycle, the times for which
+    keys have been down, and the age of the last change in cycles. `wait` is the maximum age, and also the age if there was no change yet: both allow
+    a change. States that differ only in their ages are stored as one number, which has a bit for each age."""
 
     def __init__(self, question: Question) -> None:
         self.board, self.is_failure = power_on(question), failure_condition(question)
@@ -81,12 +81,12 @@ class LiteralSearch:
         self.machines: list[tuple] = []
         self.numbers: dict[tuple, int] = {}
         self.successors: dict[tuple[int, int], int] = {}
-        # The ages that were reached for each machine, levels and times. Those in `new_ages` have not been continued yet.
+        # For each combination of machine, levels and times, the ages that were reached. The search has not continued from those in `new_ages` yet.
         self.ages: dict[tuple[int, int, DownTimes], int] = {}
         self.new_ages: dict[tuple[int, int, DownTimes], int] = {}
 
     def number_of(self, machine: tuple) -> int:
-        """Returns the number of a machine's state."""
+        """Returns the number of a state of the machine. A new state gets the next number."""
         if machine not in self.numbers:
             self.numbers[machine] = len(self.machines)
             self.machines.append(machine)
@@ -181,13 +181,13 @@ def age_after(wait: int, age: int, cycles: int) -> int:
 
 
 def down_at_begin(spacing: Spacing, levels: Levels) -> int:
-    """Returns the number of cycles for which a key has certainly been down at the beginning of a step at these levels."""
+    """Returns a number of cycles: for at least this time, a key has been down at the beginning of a step at these levels."""
     return spacing.down if spacing.last is not None and levels[0] == spacing.last[0] else 0
 
 
 def down_after(limits: InputLimits, down: int, levels: Levels, cycles: int) -> int:
-    """Returns this number after a step at these levels, which began with `down`. The levels can change twice during a step of more than `wait`
-    cycles."""
+    """Returns what `down_at_begin` becomes after a step at these levels, if it was `down` before. Returns 0 after a step of more than `wait` cycles,
+    because the levels can change twice during such a step."""
     return min(down + cycles, limits.held) if levels[0] and cycles <= limits.wait else 0
 
 
@@ -198,8 +198,8 @@ def is_held_too_long(held: int, spacing: Spacing, levels: Levels) -> bool:
 
 @dataclass
 class StepsResult:
-    """The result of a search by steps: its verdict (`holds`, `may fail`, `too many` or `gave up`), and the number of states found. `path` has the
-    levels at the beginning of each step on the way to the failure."""
+    """The result of StepSearch: the verdict (`holds`, `may fail`, `too many` or `gave up`), and the number of states found. If the property can
+    fail, `path` has the levels at the beginning of each step that leads to the failure."""
 
     verdict: str
     states: int
@@ -281,13 +281,13 @@ def search_by_steps(question: Question) -> StepsResult:
 
 # ---- replaying a counterexample
 
-# A moment and the levels from that moment on.
+# A change of the levels: its time in cycles, and the levels from then on.
 Change = tuple[int, Levels]
 
 
 def steps_of(question: Question, path: list[Levels]) -> tuple[list[Change], int, str]:
-    """Returns the moments at which the steps of a counterexample begin, with their levels. Also returns the number of all cycles, and a description
-    of the error, or "" if the property fails after the last one."""
+    """Replays a counterexample. Returns the levels of each step and the cycle at which the step begins, the total number of cycles, and a description
+    of the error. The description is "" if the property fails after the last cycle, as it must."""
     board, is_failure, moment, begins = power_on(question), failure_condition(question), 0, []
     has_failed = is_failure(board)
     for index, levels in enumerate(path):
@@ -300,8 +300,8 @@ def steps_of(question: Question, path: list[Levels]) -> tuple[list[Change], int,
 
 
 def is_simple(begins: list[Change], limits: InputLimits) -> bool:
-    """Returns true if the search by steps is exact on a way with these begins of steps. Without `held`, it always is. With `held`, keys may be down
-    at two successive begins only if they are the same keys and the begins are at most `wait` cycles apart."""
+    """Returns true if the search by steps is exact for steps that begin at these times with these levels. Without `held`, it is always exact. With
+    `held`, keys may be down in two successive steps only if they are the same keys and the steps begin at most `wait` cycles apart."""
     return not limits.held or limits.wait <= limits.held and all(
         not (before[0] and levels[0]) or before[0] == levels[0] and moment - previous <= limits.wait
         for (previous, before), (moment, levels) in itertools.pairwise(begins))
@@ -336,7 +336,7 @@ def earliest_changes(begins: list[Change], limits: InputLimits) -> list[Change] 
     """Returns changes that are within the limits, and for which the levels at the beginning of each step are right. Each change is as early as
     possible. Returns None if there are no such changes."""
     changes, latest = possible_changes(begins, limits)
-    # The indexes of two changes and a number of cycles: the first change is not before the second one plus this number.
+    # Each constraint (i, j, cycles) means: change `i` happens at least `cycles` cycles after change `j`.
     constraints = [(index, index - 1, limits.wait) for index in range(2, len(changes))]
     constraints += [(pressed, released, -limits.held) for pressed, released in presses_of(changes) if limits.held]
     moments = [moment for moment, _levels in changes]

@@ -14,7 +14,7 @@ from board4004 import Board
 INVALID_CODES = [*range(1, 16), 0xE3, 0xFE, 0xFF]
 JUMPS = ("JUN", "JMS", "JCN", "ISZ")
 NAMES = ("inf", "nan", "INFINITY", "infinity", "NaN", "INF", "e0", "E1", "_0E0", "x1e2")
-ORIGINS = (0x00, 0x02, 0x1E, 0x40, 0xD9, 0xDE, 0xE0, 0xE1, 0xF0, 0xF9)
+ORG_OFFSETS = (0x00, 0x02, 0x1E, 0x40, 0xD9, 0xDE, 0xE0, 0xE1, 0xF0, 0xF9)
 # The maximum number of bytes in the text of a board or of a program.
 MAX_TEXT_BYTES = 16384
 
@@ -81,7 +81,7 @@ class Program:
         self.loops: dict[int, int] = {}
         self.free = set(range(ADDRESS_COUNT))
         for page in wiring.pages:
-            for word in {0, *rng.sample(ORIGINS, 2)} if page == 0 else rng.sample(ORIGINS, rng.randrange(1, 4)):
+            for word in {0, *rng.sample(ORG_OFFSETS, 2)} if page == 0 else rng.sample(ORG_OFFSETS, rng.randrange(1, 4)):
                 self.put_phrases(256 * page + word, rng.randrange(4, 30))
             if rng.random() < 0.5:
                 self.put_end_of_page(256 * page)
@@ -147,8 +147,8 @@ class Program:
         selection = [f"FIM P{pair}, 0x{16 * numbers[0] if clock.startswith('rom') else 64 * numbers[1]:02X}", f"SRC P{pair}"]
         if clock.startswith("ram"):
             selection = [f"LDM {numbers[0]}", "DCL", *selection]
-        write = "WRR" if clock.startswith("rom") else "WMP"
-        pulse = [up, write, down, write]
+        write_mnemonic = "WRR" if clock.startswith("rom") else "WMP"
+        pulse = [up, write_mnemonic, down, write_mnemonic]
         return selection + (self.rng.randrange(1, 6) * pulse if self.rng.random() < 0.5 else [*pulse, f"ISZ R{self.rng.randrange(16)} ^5"])
 
     def any_instruction(self, value: int, pair: int) -> str:
@@ -249,7 +249,7 @@ class SeededSession:
         return self.rng.choice([f"break {address}"] * 2 + [f"unbreak {address}"] + [f"watch {bank} {src}"] * 2 + [f"unwatch {bank} {src}"])
 
     def trace_place(self) -> str:
-        """Returns a place for `trace`, which the board does not always have."""
+        """Returns a place for `trace`. The board may lack this place."""
         rng = self.rng
         bank, src = self.ram_nibble()
         line = rng.choice(self.wiring.lines + self.wiring.inputs + [f"chain{rng.randrange(4)}.{rng.randrange(80)}"])

@@ -1,5 +1,5 @@
 """Random questions for mcs4-prove, reproducible from a seed. Each has a random board (seeded_boards.py), a short program that reads keys and TEST in
-loops, and comparisons of values that such a program changes. Some of the comparisons become true, and some never do. Some questions also ask about
+loops, and conditions that compare values that such a program changes. Some of these become true, and some never do. Some questions also ask about
 mistakes in the program. A quarter of the questions have a stopwatch, and a quarter have marks (second_search.py explains these words). The same
 questions can also be asked with limits on the inputs."""
 
@@ -158,7 +158,7 @@ def random_comparison(rng: random.Random, wiring: Wiring, boards: list[dict[tupl
 
 
 def comparisons_at_address(recorded_values: dict[tuple[str, int], int]) -> Row:
-    """Returns comparisons that are true when the program counter has the value in a recorded state, between two instructions."""
+    """Returns comparisons that are true when the machine is between two instructions and its program counter has the recorded value."""
     return [("in", "counter", 3, "whole", 0, 0), *(("in", "counter", n, "whole", *[recorded_values["counter", n]] * 2) for n in (4, 5))]
 
 
@@ -188,19 +188,19 @@ def add_stopwatch(question: Question, rng: random.Random, wiring: Wiring, boards
 
 
 def longest_time(question: Question, rng: random.Random) -> int:
-    """Returns the longest time that the stopwatch of a question shows on several random walks."""
-    shown = [0]
+    """Returns the longest time, in cycles, that the stopwatch of a question shows during some random walks."""
+    shown_times = [0]
 
-    def note(board: QuestionBoard) -> bool:
-        shown.append(board.elapsed)
+    def record_elapsed(board: QuestionBoard) -> bool:
+        shown_times.append(board.elapsed)
         return False
 
     for _walk in range(TIMED_WALKS):
         board = power_on(dataclasses.replace(question, within=0))
         for _n in range(MAX_WALK_STATES):
             values = values_read(board)
-            run_to_next_state(board, values[rng.choice(sorted(values))], note, min(question.pause, 50))
-    return max(shown)
+            run_to_next_state(board, values[rng.choice(sorted(values))], record_elapsed, min(question.pause, 50))
+    return max(shown_times)
 
 
 def add_marks(question: Question, rng: random.Random, wiring: Wiring) -> None:
@@ -250,7 +250,7 @@ def key_waiting_question(rng: random.Random, wiring: Wiring) -> Question:
 
 
 def marks_on_walk(question: Question, rng: random.Random) -> list[tuple[QuestionBoard, list[Mark]]]:
-    """Returns the machine at some states of a random walk, each with the marks that the next cycle shows."""
+    """Returns some of the states that a random walk visits: copies of the machine, each with the marks that its next cycle shows."""
     board, walk = power_on(question), []
     for _n in range(2 * MAX_WALK_STATES):
         values = values_read(board)

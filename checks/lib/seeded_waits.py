@@ -1,7 +1,7 @@
-"""Random questions for mcs4-prove with `wait`, reproducible from a seed. Most of them are about programs that read an input several times, and that
-look for certain levels, one after another. The time between two changes decides whether these levels are possible. The other questions are those of
-seeded_questions.py. The boards have few keys, or the limits allow few keys, so that a search can try all levels. In half of the questions, `held`
-limits the time for which a key is down, too. Most of these look for a key that is down several times in succession."""
+"""Random questions for mcs4-prove with `wait`, reproducible from a seed. Most of them are about programs that read an input several times, and ask
+whether the reads can return certain levels, one after another. The time between two changes decides whether they can. The other questions are those
+of seeded_questions.py. The boards have few keys, or the limits allow few keys, so that a search can try all levels. In half of the questions, `held`
+also limits the time for which a key is down. Most of these ask whether several reads in succession can find a key down."""
 
 from __future__ import annotations
 
@@ -33,7 +33,7 @@ class FewKeyWiring(KeyWiring):
 
 
 def delay_phrases(rng: random.Random) -> list[str]:
-    """Returns instructions between two reads, which take some cycles."""
+    """Returns instructions to put between two reads, so that some cycles pass."""
     kind = rng.random()
     if kind < 0.2:
         register = rng.choice([8, 9])
@@ -134,8 +134,9 @@ def largest_failing_wait(question: Question) -> int:
 
 
 def spaced_question(seed: int) -> Question:
-    """Returns a random question with `wait`. Seven of eight are the first one, among a few attempts, for which `wait` matters. Then `wait` is usually
-    the largest one with which the property can fail, or one more. The search for one in eight may visit only a few states."""
+    """Returns a random question with `wait`. For seven of eight seeds, it tries a few questions and returns the first whose answer depends on `wait`.
+    Then `wait` is usually the largest value with which the property can fail, or one more. For one of eight seeds, the search may visit only a few
+    states."""
     rng = random.Random(f"waits {seed}")
     for _attempt in range(1 if seed % 8 == 7 else MAX_ATTEMPTS):
         question = random_spaced_question(rng)
@@ -165,14 +166,14 @@ def smallest_failing_held(question: Question) -> int:
 
 
 def levels_of_presses(rng: random.Random) -> list[int]:
-    """Returns the levels that reads of a key show: it is up, and then down several times, once or twice."""
+    """Returns the levels that successive reads of a key return, for one or two presses: 0 while the key is up, and then 1 while it is down."""
     levels = [level for _press in range(rng.choice([1, 1, 2])) for level in rng.randrange(3) * [0] + rng.randrange(2, 5) * [1]]
     return levels + rng.randrange(2) * [0]
 
 
 def random_held_question(rng: random.Random, levels: list[int]) -> Question:
-    """Returns a random question with few levels, which usually looks for these levels of a key. In most questions, only one key is down at a time. In
-    most of these, TEST is constant."""
+    """Returns a random question with few levels. Usually it asks whether a key can have these levels, one after the other. In most questions, at most
+    one key is down at a time, and TEST is usually constant then."""
     question = pattern_question(rng, FewKeyWiring(rng), levels) if rng.random() < 0.9 else random_spaced_question(rng)
     keys = all_keys(power_on(question))
     question.limits = InputLimits(1, True, keys[:MAX_KEYS], rng.random() < 0.2) if rng.random() < 0.75 else few_inputs(rng, keys)

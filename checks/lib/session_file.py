@@ -139,7 +139,7 @@ class State:
                 f"r {''.join(f'{register:X}' for register in self.registers)} ret {' '.join(f'{address:03X}' for address in self.return_addresses)}")
 
     def cycle(self):
-        """Executes one cycle, with the few instructions that the checks use."""
+        """Executes one cycle. Knows only the few instructions that the checks use."""
         if self.owed:
             self.owed = 0
             return

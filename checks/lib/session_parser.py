@@ -12,10 +12,10 @@ MAX_COMMANDS = 2**32 - 1
 MAX_CHAINS = {1: 2, 2: 4}
 MAX_CHIPS = {1: 4, 2: 8}
 # The places that `poke` sets, by their numbers in a record: the format of each, the maxima of the numbers in it, and the maximum of its value.
-PLACES = (("acc", 15), ("cy", 1), ("pc", 4095), ("r{}", 15, 15), ("dcl", 7), ("rom.{}", 4095, 255), ("ram.{}.{}", 7, 255, 15),
+POKE_PLACES = (("acc", 15), ("cy", 1), ("pc", 4095), ("r{}", 15, 15), ("dcl", 7), ("rom.{}", 4095, 255), ("ram.{}.{}", 7, 255, 15),
           ("st.{}.{}.{}", 7, 15, 3, 15))
 # The other commands whose operands are all numbers, by the first byte of their record, each with the maxima of its operands.
-COMMANDS = {3: ("press", 255, 255), 4: ("release", 255, 255), 5: ("run", 2**32 - 1), 6: ("step",), 8: ("test", 1), 9: ("reset",),
+NUMERIC_COMMANDS = {3: ("press", 255, 255), 4: ("release", 255, 255), 5: ("run", 2**32 - 1), 6: ("step",), 8: ("test", 1), 9: ("reset",),
             10: ("break", 4095), 11: ("unbreak", 4095), 12: ("watch", 7, 255), 13: ("unwatch", 7, 255)}
 
 
@@ -132,7 +132,7 @@ def read_state(snapshot):
 
 
 def absent_parts(state):
-    """Yields the parts of a state that must be 0, because their chip is missing, or because an input line stores nothing."""
+    """Yields the parts of a state that must be 0: the memory and ports of missing chips, and the port bits of input lines, which store nothing."""
     for chip in range(16):
         port = state.board.roms.get(chip, "iiii")
         yield b"" if chip in state.board.roms else state.rom[256 * chip:256 * chip + 256]
@@ -178,12 +178,12 @@ def read_command(record, version):
         addresses = [address for address in range(4096) if bitmap[address // 8] >> address % 8 & 1]
         words = ["asm", [line for address in addresses for line in (f"ORG {address}", f"DB {reader.read_number(255)}")]]
     elif tag == 7:
-        name, *maxima = PLACES[reader.read_number(7)]
+        name, *maxima = POKE_PLACES[reader.read_number(7)]
         numbers = [reader.read_number(maximum) for maximum in maxima]
         words = ["poke", name.format(*numbers[:-1]), str(numbers[-1])]
     else:
-        require(tag in COMMANDS)
-        name, *maxima = COMMANDS[tag]
+        require(tag in NUMERIC_COMMANDS)
+        name, *maxima = NUMERIC_COMMANDS[tag]
         words = [name, *(str(reader.read_number(maximum)) for maximum in maxima)]
     reader.expect_end()
     return words, {"run": lambda: int(words[1]), "step": lambda: 2}.get(words[0], lambda: 0)()

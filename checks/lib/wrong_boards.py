@@ -89,7 +89,7 @@ CHANGES = (remove_key, add_key, set_invalid_value, set_invalid_value, replace_li
 
 
 def spoil_text(rng, text):
-    """Returns `text` with characters added, removed or replaced, with one line more or fewer, or without its end."""
+    """Returns `text` with characters added, removed or replaced, with a line added or removed, or without its end."""
     for _n in range(rng.choice([1, 1, 2, 5])):
         index = rng.randrange(len(text) + 1)
         lines = text.split("\n")

@@ -78,7 +78,7 @@ class Case(NamedTuple):
 
 
 LONG_NAME = "a_session_with_a_long_name_that_takes_several_slots_of_a_folder_on_a_file_system_of_that_sort.mcs"
-CREATE_SEED = "mcs4 new seed < /dev/null > /dev/null"
+CREATE_FILE_SEED = "mcs4 new seed < /dev/null > /dev/null"
 CREATE_OTHER_FILES = "for i in 1 2 3 4 5 6 7 8 9 10; do : > f$i; done"
 # The names of the session files that are copied into the machine, and the number of commands in each. The second file has version 1 of the format.
 SERVED_FILE, VERSION_1_FILE = "served.mcs", "first.mcs"
@@ -91,13 +91,13 @@ CASES = {case.name: case for case in (
     Case("new-empty", "", ": > s.mcs", "new s.mcs", "s.mcs"),
     Case("new-folder", "", "mkdir d", "new d/s.mcs", "d/s.mcs"),
     Case("new-link", "mkdir a b; ln -s ../b/real.mcs a/s.mcs", "", "new a/s.mcs", "a/s.mcs"),
-    Case("linked", CREATE_SEED, "ln seed s.mcs || cp seed s.mcs", "open s.mcs", "s.mcs"),
-    Case("copied", CREATE_SEED, "cp seed s.mcs", "open s.mcs", "s.mcs"),
-    Case("moved", CREATE_SEED, "mv seed s.mcs", "open s.mcs", "s.mcs"),
-    Case("replaced", f"mcs4 new s.mcs < /dev/null > /dev/null; {CREATE_SEED}", "mv seed s.mcs", "open s.mcs", "s.mcs"),
-    Case("long-copied", f"{CREATE_SEED}; {CREATE_OTHER_FILES}", f"cp seed {LONG_NAME}", f"open {LONG_NAME}", LONG_NAME),
-    Case("long-moved", f"{CREATE_SEED}; {CREATE_OTHER_FILES}", f"mv seed {LONG_NAME}", f"open {LONG_NAME}", LONG_NAME),
-    Case("folder-copied", CREATE_SEED, "mkdir d; cp seed d/s.mcs", "open d/s.mcs", "d/s.mcs"),
+    Case("linked", CREATE_FILE_SEED, "ln seed s.mcs || cp seed s.mcs", "open s.mcs", "s.mcs"),
+    Case("copied", CREATE_FILE_SEED, "cp seed s.mcs", "open s.mcs", "s.mcs"),
+    Case("moved", CREATE_FILE_SEED, "mv seed s.mcs", "open s.mcs", "s.mcs"),
+    Case("replaced", f"mcs4 new s.mcs < /dev/null > /dev/null; {CREATE_FILE_SEED}", "mv seed s.mcs", "open s.mcs", "s.mcs"),
+    Case("long-copied", f"{CREATE_FILE_SEED}; {CREATE_OTHER_FILES}", f"cp seed {LONG_NAME}", f"open {LONG_NAME}", LONG_NAME),
+    Case("long-moved", f"{CREATE_FILE_SEED}; {CREATE_OTHER_FILES}", f"mv seed {LONG_NAME}", f"open {LONG_NAME}", LONG_NAME),
+    Case("folder-copied", CREATE_FILE_SEED, "mkdir d; cp seed d/s.mcs", "open d/s.mcs", "d/s.mcs"),
     Case("folder-moved", "mkdir d; mcs4 new d/s.mcs < /dev/null > /dev/null", "mv d e", "open e/s.mcs", "e/s.mcs"),
     Case("served", f"cp /{SERVED_FILE} s.mcs", "", "open s.mcs", "s.mcs", initial_commands=SERVED_COMMANDS, is_durable=True),
     Case("carried", f"cp /{VERSION_1_FILE} s.mcs", "", "open s.mcs", "s.mcs", initial_commands=VERSION_1_COMMANDS, is_durable=True),

@@ -32,8 +32,8 @@ Part = tuple[int, int] | None
 
 @dataclasses.dataclass
 class Image:
-    """Possible contents of the disk after a power cut. Cuts after the event with the number `first_event`, or after a later event up to `last_event`,
-    can leave this image. After each of these cuts, at least `min_commands` and at most `max_commands` commands must be found. `min_commands` is None
+    """Possible contents of the disk after a power cut. A cut after any event from number `first_event` to number `last_event` can leave this image.
+    The session then must contain at least `min_commands` and at most `max_commands` commands. `min_commands` is None
     before the first answer if no session existed at the beginning. `durable_count` is the number of durable writes, and `parts` has the parts of the
     pending writes that are on the disk. `selection` names how the parts were selected: none, all or some."""
     first_event: int
@@ -72,7 +72,7 @@ class History:
         durable_at = self.durable_at()
         never = len(events) + 1
         self.writes = {event.number: event for event in events if event.kind == "write"}
-        # Sorted by the time at which they become durable, so that the durable writes of each image are the first ones in this list.
+        # The numbers of the writes, sorted by when the write became durable. In each image, the durable writes are therefore the first in this list.
         self.writes_by_durability = sorted(self.writes, key=lambda number: (durable_at.get(number, never), number))
         self.durability_events = [durable_at.get(number, never) for number in self.writes_by_durability]
         self.rank = {number: rank for rank, number in enumerate(self.writes_by_durability)}

@@ -84,13 +84,13 @@ def check_command_bounds() -> bool:
 
 
 def check_command_bounds_of_copy() -> bool:
-    """Checks that a copied session has its commands even before its first answer."""
+    """Checks that a session file that was copied must contain its commands even if the power is cut before the first answer."""
     images = history_of([write_event(1, 0, A), event_of("answered", 7)], initial_commands=7).all_images()
     return {(image.min_commands, image.max_commands) for image in images if image.selection != "some"} == {(7, 7)}
 
 
 def check_permanent_images() -> bool:
-    """Checks that an image can be written permanently, and then another one, regardless of the first."""
+    """Checks that an image can be written permanently, and that the first image has no effect on a second one that is written after it."""
     history = history_of([write_event(1, 0, A), event_of("wrote", 1), event_of("flush", 2), event_of("flushed", 2), write_event(3, 0, B)])
     disk = Disk(BLOCK)
     builder = ImageBuilder(disk, history)

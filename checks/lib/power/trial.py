@@ -75,7 +75,7 @@ class Stage:
     image_count: int
 
 
-class Runner:
+class TrialRunner:
     """A machine with two disks, on which trials run. Images are written to `disk`. The machine copies the session files that it finds to
     `output_disk`."""
 
@@ -273,7 +273,7 @@ class Runner:
         name.with_suffix(".json").write_text(json.dumps(description))
         print(f"    examine it again: {self.show_command} --show {name}", flush=True)
 
-    def examine_stored(self, name: pathlib.Path) -> bool:
+    def examine_stored_image(self, name: pathlib.Path) -> bool:
         """Prints the contents of a stored image. Returns true if they are as required."""
         description = json.loads(name.with_suffix(".json").read_text())
         file_system, image = FILE_SYSTEMS[description["file_system"]], name.read_bytes()

@@ -26,7 +26,7 @@ echo "lamps *..........***......*.." > "$folder/answers"
 verdict "$(outcome ./mcs4 display "$folder/board.toml" < "$folder/answers")" "-1.82
 status 0" "a display with points"
 
-# Checks multiplexed digits: the display over 30 ms, which differs from the lamps at one instant.
+# Checks multiplexed digits. At any instant, only some of the digits' lamps are on, so the display must be computed from the last 30 ms.
 ./mcs4 script examples/clock/board.toml examples/clock/clock.asm | sed '/^run /d' > "$folder/clock.txt"
 new_session clock < "$folder/clock.txt"
 verdict "$(outcome ./mcs4 keys examples/clock/board.toml SET | tail -n 3)" "run 16000

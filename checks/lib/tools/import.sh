@@ -140,7 +140,7 @@ LOOP, NOP|LOOP is not an instruction; mcs4 import takes programs in Intel's and 
  NOP / none|NOP takes no operand; mcs4 import takes programs in Intel's and AS's spelling
  JMP 4|JMP is not an instruction; JUN?
 lines
-# Checks that unsupported lines are reported, and that then no program is printed.
+# Checks that unsupported lines are reported, and that a text with such lines prints no program.
 cat > "$folder/bad.src" <<'source'
        JMP START
 X      EQU Y

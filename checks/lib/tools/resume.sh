@@ -1,7 +1,7 @@
 # Checks that mcs4 resume continues a session with the part of a script that the session has not executed.
 # shellcheck shell=sh
 
-# Cuts a script off after every third line. `resume` must then lead to the same state. Also kills the program while it runs a script.
+# Cuts a script off after every third line. `resume` must then lead to the same state as the whole script. Also kills the program during a script.
 cat > "$folder/resume.txt" <<'script'
 regs
 wire
@@ -65,8 +65,8 @@ verdict "$(./mcs4 resume "$folder/long.txt" "$folder/cut.mcs" | tail -n 1)" \
     "acc 0 cy 0 pc A00 owed 0 dcl 0 test 1 r 8888888888888888 ret 000 000 000" "a script that was killed"
 verdict "$(echo seq | "$mcs4" open "$folder/cut.mcs" | tail -n 1)" "seq 800" "the commands of a script that was killed"
 
-# Checks that for a session that did not begin with the script, the difference is reported, and no line is sent. Arguments: the script, the session's
-# lines, the expected output, and a description of the difference.
+# Checks that if the session did not begin with the lines of the script, the tool reports the difference and sends nothing. Arguments: the script, the
+# session's lines, the expected output, and a description of the difference.
 check_differs() {
     printf "$1" > "$folder/script"
     printf "$2" | new_session other
