@@ -171,7 +171,7 @@ class Bench:
                 yield line, self.answer(*words)
 
     def answer(self, command: str, *operands: object) -> list[str]:
-        """Returns the lines of the answer to a command or a query. Its operands are words, or the lines of a text."""
+        """Returns the lines of the answer to a command or a query. The operands are words, or the lines of a text."""
         if command in QUERIES:
             return QUERIES[command](self, *operands)
         reply = COMMANDS[command](self.board, *operands)

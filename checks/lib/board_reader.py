@@ -36,8 +36,8 @@ def is_line(value):
     return numbers_of(value) is not None
 
 
-# The keys that each table must have, in the manual's order, each with a function that tests its value.
-KEYS = {
+# The TOML keys that each section's tables must have, in the manual's order, each with a function that tests its value.
+KEYS_OF_SECTIONS = {
     "rom": {"chip": is_within(0, 15), "port": lambda value: isinstance(value, str) and re.fullmatch("[i01]{4}", value, re.ASCII) is not None},
     "ram": {"bank": is_within(0, 7), "chips": is_within(1, 4)},
     "chain": {"clock": is_line, "data": is_line, "chips": is_within(1, 8)},
@@ -90,14 +90,14 @@ class ParsedBoard:
         for section, index, table in self.tables:
             if isinstance(table, dict):
                 for key in sorted(table):
-                    if key not in KEYS[section]:
+                    if key not in KEYS_OF_SECTIONS[section]:
                         yield 21, section, index, key
 
     def missing_key_errors(self):
         """Yields error 22 for each missing key."""
         for section, index, table in self.tables:
             if isinstance(table, dict):
-                for key in KEYS[section]:
+                for key in KEYS_OF_SECTIONS[section]:
                     if key not in table:
                         yield 22, section, index, key
 
@@ -110,7 +110,7 @@ class ParsedBoard:
             if not isinstance(table, dict):
                 yield 23, section, index, None
                 continue
-            for key, is_valid in KEYS[section].items():
+            for key, is_valid in KEYS_OF_SECTIONS[section].items():
                 if not is_valid(table[key]):
                     yield 23, section, index, key
 

@@ -5,7 +5,7 @@ import re
 from session_file import Board, chain_line, ram_line, rom_line
 
 KINDS = ("rom", "ram", "chain", "keys", "lamp")
-EQUALS = (" = ", " = ", "=", "\t= ")
+EQUAL_SIGNS = (" = ", " = ", "=", "\t= ")
 TEXT_ENDS = ("\n", "\n", "\n\n", " # one\n", "\t\n# one more\n")
 
 
@@ -61,7 +61,7 @@ def pairs_of(rng, table, prefix=""):
     """Returns a table's `KEY = VALUE` strings in random order, each with a prefix."""
     items = list(table.items())
     rng.shuffle(items)
-    return [f"{prefix}{key_text(rng, key)}{rng.choice(EQUALS)}{value_text(rng, value)}" for key, value in items]
+    return [f"{prefix}{key_text(rng, key)}{rng.choice(EQUAL_SIGNS)}{value_text(rng, value)}" for key, value in items]
 
 
 def inline_table(rng, table):

@@ -95,7 +95,7 @@ class BrowserDriver:
         """Touches an element with one finger for a time in milliseconds. (For WebKit, whose driver cannot touch, a script dispatches the events.)"""
         self.touch_together([selector], milliseconds_down)
 
-    def click_secondary(self, x, y):
+    def right_click(self, x, y):
         """Clicks a point of the window with the secondary mouse button."""
         self.perform_actions({"type": "pointer", "id": "mouse", "parameters": {"pointerType": "mouse"}, "actions": [
             {"type": "pointerMove", "duration": 0, "x": x, "y": y}, {"type": "pointerDown", "button": 2}, {"type": "pointerUp", "button": 2}]})

@@ -83,12 +83,12 @@ async function trySteps(name) {
   }
   verdict(states, expected.map(comparableState), `${name}: ${STEPS} steps`);
   verdict(lines, expected.map(({ pc }) => lineAt.get(parseInt(pc, 16)) || 0), `${name}: the lines of the steps`);
-  const statesBack = [];
+  const backwardStates = [];
   for (let step = 0; step < 40; step++) {
     await client.runUntilStop("stepBack");
-    statesBack.unshift(await machineState(client));
+    backwardStates.unshift(await machineState(client));
   }
-  verdict(statesBack, states.slice(-40), `${name}: 40 steps back`);
+  verdict(backwardStates, states.slice(-40), `${name}: 40 steps back`);
   verdict(client.violations, [], `${name}: each message follows the protocol`);
   verdict(await client.endSession(), 0, `${name}: the adapter's status`);
 }
@@ -131,14 +131,14 @@ async function tryArrivals(name, label, register) {
   await client.waitForEvent("stopped");
   const { breakpoints: [{ id }] } = await client.request("setFunctionBreakpoints", { breakpoints: [{ name: label }] });
   for (let stop = 0; stop < 40; stop++) await client.runUntilStop("continue");
-  const stopsBack = [];
+  const backwardStops = [];
   const ids = [];
   for (let stop = 0; stop < 20; stop++) {
     const { reason, hitBreakpointIds } = await client.runUntilStop("reverseContinue");
-    stopsBack.push(await machineState(client));
+    backwardStops.push(await machineState(client));
     ids.push([reason, ...(hitBreakpointIds || [])]);
   }
-  verdict(stopsBack, expected.slice(20, 40).reverse().map(comparableState), `${name}: back to 20 arrivals at ${label}`);
+  verdict(backwardStops, expected.slice(20, 40).reverse().map(comparableState), `${name}: back to 20 arrivals at ${label}`);
   verdict(ids.filter(([reason, hit]) => reason !== "function breakpoint" || hit !== id), [], `${name}: each stop is by that breakpoint`);
   const value = expected[10].r[register];
   const matching = expected.slice(1, 20).filter(({ r }) => r[register] === value).reverse();

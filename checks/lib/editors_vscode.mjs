@@ -58,7 +58,7 @@ const open = (client, name, languageId) => client.notify("textDocument/didOpen",
   textDocument: { uri: uriOf(name), languageId, version: 1, text: readFileSync(`${folder}/${name}`, "utf8") } });
 
 /** Sends the requests that the editor sends when it shows a program, all at once. */
-async function show(client) {
+async function sendShowRequests(client) {
   open(client, "lock.asm", "mcs4");
   const [symbols, folds, actions, links, colours, rangeColours, hints, lenses, marks, diagnostics] = await Promise.all([
     client.request("textDocument/documentSymbol", { textDocument }), client.request("textDocument/foldingRange", { textDocument }),
@@ -178,7 +178,7 @@ async function measureSpeed(client) {
 makeProject();
 const client = new Client(MCS4);
 await begin(client);
-await change(client, await show(client));
+await change(client, await sendShowRequests(client));
 await openOthers(client);
 await openDevices(client);
 await measureSpeed(client);

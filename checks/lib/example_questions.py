@@ -240,10 +240,10 @@ LIMITED_CONDITIONS = [
     # The scan finds several keys in a row only if they are down together.
     LimitedCondition(LOCK, "in register 6 whole 14 14", InputLimits(1, True, [(0, 0), (0, 1)]), "holds 2259",
                      InputLimits(2, True, [(0, 0), (0, 1)]), 2),
-    # The lock opens only with the key 4.
+    # Without the key 4, the lock cannot be opened.
     LimitedCondition(LOCK, "in ramport 0 line1 1 1", InputLimits(1, True, [(0, 0), (2, 0), (3, 2)]), "holds 8797",
                      InputLimits(1, True, [(0, 0), (1, 0), (2, 0), (3, 2)]), 201),
-    # With the keys 0, + and = alone, the calculator never divides by zero. With /, it does.
+    # If only the keys 0, + and = can be pressed, the calculator never divides by zero. With / instead of +, it does.
     LimitedCondition("calculator/calculator.props", "in ramport 0 line2 1 1", InputLimits(1, True, [(3, 0), (3, 3), (4, 3)]), "holds 6084",
                      InputLimits(1, True, [(0, 3), (3, 0), (4, 3)]), 51),
 ]

@@ -17,7 +17,7 @@ GET_DIGITS = "return document.getElementById('digits').textContent"
 # The status text without the label and the line number after an address.
 GET_STATUS = "return document.getElementById('status').textContent.replace(/ \\([^()]*line \\d+\\)/g, '')"
 GET_WHOLE_STATUS = "return document.getElementById('status').textContent"
-STEPPED = re.compile("^At [0-9A-F]{3}, after [12] cycles?, ")
+STEPPED_MESSAGE = re.compile("^At [0-9A-F]{3}, after [12] cycles?, ")
 GET_NOTICE = "return [...document.querySelectorAll('#notice p')].map((shown) => shown.textContent).join(' ')"
 # All notices so far, newest first, as the list shows them.
 GET_ALL_NOTICES = """
@@ -228,7 +228,7 @@ def check_session_files(browser, folder, mcs4):
 def check_breakpoint_and_watch(browser):
     """Checks that clicks set and clear a breakpoint and a watch, and that runs stop at them."""
     browser.click("#step")
-    browser.wait_until(GET_STATUS, STEPPED)
+    browser.wait_until(GET_STATUS, STEPPED_MESSAGE)
     next_row = "#lines-of-program button.next"
     eventually(browser, "the disassembly is at the program counter", IS_COUNTER_ROW_SHOWN, True)
     address = browser.text_of(f"{next_row} span")[:3]
@@ -267,7 +267,7 @@ def check_keyboard_alone(browser):
     browser.script("document.getElementById('name').focus()")
     verdict("the Tab key reaches Step", move_focus_until(browser, TAB, "e.id === 'step'"), True)
     browser.type_keys([ENTER])
-    eventually(browser, "Enter steps", GET_STATUS, STEPPED)
+    eventually(browser, "Enter steps", GET_STATUS, STEPPED_MESSAGE)
     verdict("the Tab key reaches the disassembly", move_focus_until(browser, TAB, "e.closest('#lines-of-program') !== null"), True)
     browser.type_keys([DOWN, DOWN, ENTER])
     eventually(browser, "arrows and Enter set a breakpoint", "return document.activeElement.getAttribute('aria-pressed')", "true")
@@ -459,7 +459,7 @@ def take_picture(browser, page, path):
     browser.wait_until(GET_DIGITS, "3.1428571")
     browser.click("#run")
     browser.click("#step")
-    browser.wait_until(GET_STATUS, STEPPED)
+    browser.wait_until(GET_STATUS, STEPPED_MESSAGE)
     browser.click_at_rest("#lines-of-program button.next + button")
     browser.click(".ram button")
     browser.wait_until("return document.querySelectorAll('#lines-of-program [aria-pressed=true], .ram [aria-pressed=true]').length", 2)

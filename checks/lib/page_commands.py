@@ -5,14 +5,14 @@ import re
 
 from browser_driver import ELEMENT_KEY
 from page_access import check_view
-from page_basics import DOWN, ENTER, ESCAPE, GET_STATUS, IS_READY, STEPPED, TAB, TOP, choose_example, reopen_page, show_text, pause_running_time, wait_until_ready
+from page_basics import DOWN, ENTER, ESCAPE, GET_STATUS, IS_READY, STEPPED_MESSAGE, TAB, TOP, choose_example, reopen_page, show_text, pause_running_time, wait_until_ready
 from verdicts import eventually, verdict
 from web_driver import Chromium
 
 CONTROL, SHIFT, UP = "\ue009", "\ue008", "\ue013"
 F1, F5, F8, F9, F10, F11 = "\ue031", "\ue035", "\ue038", "\ue039", "\ue03a", "\ue03b"
 # The messages after stepping over and out. F5 can pause time inside a subroutine or before a call, so each message has two forms.
-STEPPED_OVER_MESSAGE = re.compile(f"{STEPPED.pattern}|^Returned to [0-9A-F]{{3}}, after ")
+STEPPED_OVER_MESSAGE = re.compile(f"{STEPPED_MESSAGE.pattern}|^Returned to [0-9A-F]{{3}}, after ")
 STEPPED_OUT_MESSAGE = re.compile("^Returned to |no call is open here")
 IS_PALETTE_OPEN = "const palette = document.getElementById('palette'); return palette !== null && palette.open"
 GET_PALETTE_ITEMS = "return [...document.querySelectorAll('#palette-list li .grow')].map((node) => node.textContent)"
@@ -76,8 +76,8 @@ def check_palette_contents(browser):
     bench_html = (TOP / "page/bench.html").read_text()
     buttons = set(re.findall(r'<button[^>]* id="([\w-]+)"', bench_html))
     tabs = set(re.findall(r'<button[^>]* role="tab" id="([\w-]+)"', bench_html))
-    regions = {button for button in buttons if button.startswith("region-")} | {"drawer-button"}
-    buttons_without_command = {button for button in buttons - tabs - regions - set(BUTTONS_WITHOUT_COMMAND) if f'"{button}"' not in commands}
+    region_buttons = {button for button in buttons if button.startswith("region-")} | {"drawer-button"}
+    buttons_without_command = {button for button in buttons - tabs - region_buttons - set(BUTTONS_WITHOUT_COMMAND) if f'"{button}"' not in commands}
     exempt_buttons = {"back-stop", "back-breakpoint", "forward"}
     verdict("the buttons of the page without a command", sorted(buttons_without_command - exempt_buttons), [])
 
@@ -127,7 +127,7 @@ def check_keys(browser):
     browser.type_keys([F5])
     eventually(browser, "F5 pauses the program", GET_STATUS, re.compile("^Paused"))
     browser.type_keys([F11])
-    eventually(browser, "F11 steps", GET_STATUS, STEPPED)
+    eventually(browser, "F11 steps", GET_STATUS, STEPPED_MESSAGE)
     status_after_step = browser.script(GET_STATUS)
     press_chord(browser, CONTROL, F11)
     eventually(browser, "Ctrl+F11 steps back", f"return document.getElementById('status').textContent !== {status_after_step!r}", True)
@@ -391,8 +391,8 @@ def check_examples(browser):
     """Checks that every example in the list has a note, and that "three lamps" is the first example."""
     browser.click("#sessions-button")
     eventually(browser, "the number of examples without a note", COUNT_EXAMPLES_WITHOUT_NOTE, 0)
-    first_label_script = "return document.querySelector('#examples li:nth-child(2) button').getAttribute('aria-label')"
-    verdict("the first example in the list", browser.script(first_label_script), "new session: three lamps")
+    first_example_script = "return document.querySelector('#examples li:nth-child(2) button').getAttribute('aria-label')"
+    verdict("the first example in the list", browser.script(first_example_script), "new session: three lamps")
     browser.click("#close-sessions")
 
 

@@ -78,7 +78,7 @@ INC_LINE_PATTERN = re.compile("INC R9")
 GET_LINE_ABOVE_ROW = "const row = document.querySelector('.breakpoint-row'); return row ? row.previousElementSibling.textContent : ''"
 IS_FOCUS_IN_SOURCE = "return document.activeElement.closest('#program-editor .cm-content') !== null"
 GET_FOCUSED_TEXT = "return document.activeElement.textContent"
-# Clicks the margin of a line with the secondary mouse button.
+# Opens the context menu of a line's margin, as a right click does.
 OPEN_MARGIN_MENU = """
 const number = [...document.querySelectorAll("#program-editor .cm-lineNumbers .cm-gutterElement")].find((node) => node.textContent === String(arguments[0]));
 const { x, y } = number.getBoundingClientRect();

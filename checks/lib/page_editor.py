@@ -3,7 +3,7 @@
 import re
 import time
 
-from page_basics import GET_ALL_NOTICES, GET_STATUS, GET_TEXT_OF_EDITOR, PUT_INTO_EDITOR, STEPPED, choose_example, reopen_page, show_text, pause_running_time
+from page_basics import GET_ALL_NOTICES, GET_STATUS, GET_TEXT_OF_EDITOR, PUT_INTO_EDITOR, STEPPED_MESSAGE, choose_example, reopen_page, show_text, pause_running_time
 from verdicts import eventually, verdict
 
 CONTROL, SHIFT, ALT, ENTER, ESCAPE, TAB = "\ue009", "\ue008", "\ue00a", "\ue007", "\ue00c", "\ue004"
@@ -133,8 +133,8 @@ def check_typing(browser):
 
 
 def check_name_commands(browser):
-    """Checks that the keys find a name's definition and its references, and rename it everywhere except in comments. Also checks going to a line,
-    commenting, and replacing."""
+    """Checks that keyboard shortcuts find a name's definition and its references, and rename it everywhere except in comments. Also checks the
+    shortcuts that go to a line, comment lines out, and replace text."""
     text_script = GET_TEXT_OF_EDITOR.replace("arguments[0]", f"'{PROGRAM_EDITOR}'")
     caret_script = GET_CARET.replace("arguments[0]", f"'{PROGRAM_EDITOR}'")
     set_text(browser, PROGRAM_EDITOR, "loop:\tNOP ; loop\n\tFIM P0, loop\n\tJUN loop")
@@ -207,7 +207,7 @@ def check_folding(browser):
     pause_running_time(browser)
     # On a busy machine, time can be paused before the first instruction, whose line is not folded.
     browser.click("#step")
-    browser.wait_until(GET_STATUS, STEPPED)
+    browser.wait_until(GET_STATUS, STEPPED_MESSAGE)
     # Time is paused either at the loop's label or at the line below it. In the first case, the line below the label stays folded.
     eventually(browser, "the line at which the program is paused is unfolded", GET_FOLDED_LINES, re.compile("^\u2026 1 line(,\u2026 1 line){1,2}$"))
 

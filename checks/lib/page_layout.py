@@ -4,7 +4,7 @@ covers the marks of changes, cells that are edited in place, printing, and acces
 import re
 import time
 
-from page_basics import (ENTER, ESCAPE, GET_STATUS, IS_COUNTER_ROW_SHOWN, STEPPED, choose_example, key, send_lines, reopen_page, show_text,
+from page_basics import (ENTER, ESCAPE, GET_STATUS, IS_COUNTER_ROW_SHOWN, STEPPED_MESSAGE, choose_example, key, send_lines, reopen_page, show_text,
                          step_with_marks, pause_running_time, wait_until_ready)
 from page_workbench import (check_arrangement, check_touch_targets, check_first_glance, check_phone_details, check_first_tasks, check_layout_shifts,
                             check_details)
@@ -205,7 +205,7 @@ def check_change_marks(browser):
     verdict("a register that changed at the beginning of the run is marked", "R5" in browser.script(GET_MARKED_REGISTERS).split(), True)
     verdict("a register that has its old value again is not marked", "R0" in browser.script(GET_MARKED_REGISTERS).split(), False)
     browser.click("#step")
-    browser.wait_until(GET_STATUS, STEPPED)
+    browser.wait_until(GET_STATUS, STEPPED_MESSAGE)
     verdict("a step removes the mark of a register that it does not change", "R5" in browser.script(GET_MARKED_REGISTERS).split(), False)
     browser.click("#reset")
     eventually(browser, "the status after Reset", GET_STATUS, "The board was reset; the program counter is at 000.")

@@ -139,9 +139,9 @@ def check_breakpoint_at_name(browser, source, values, lines):
     eventually(browser, "a breakpoint that is set at a name is in the source's margin", GET_BREAKPOINT_LINES, str(line))
     browser.click("#run")
     eventually(browser, "the program stops at the name", GET_STATUS, f"Paused at {values['scan']}, at a breakpoint.")
-    call = next(number for number, text in enumerate(lines, 1) if "JMS scan" in text.expandtabs(1))
+    call_line = next(number for number, text in enumerate(lines, 1) if "JMS scan" in text.expandtabs(1))
     eventually(browser, "the counter and the return addresses are shown with names", GET_STACK, re.compile(
-        rf"^\['pc {values['scan']} scan, line {line}', 'ret 1 {int(values['await'], 16) + 2:03X} await \+ 2, call in line {call}', "
+        rf"^\['pc {values['scan']} scan, line {line}', 'ret 1 {int(values['await'], 16) + 2:03X} await \+ 2, call in line {call_line}', "
         r"'ret 2 ... stale', 'ret 3 ... stale'\]$"))
     browser.click("#break-there")
     eventually(browser, "the same button clears the breakpoint", GET_BREAKPOINT_LINES, "")

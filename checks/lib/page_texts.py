@@ -205,8 +205,8 @@ def check_notices(browser, folder):
 
 
 def check_many_notices(browser, folder):
-    """Checks that each file causes one notice and that the newest three are visible. They disappear automatically, and the list can show and undo
-    them."""
+    """Checks that each file causes one notice and that the newest three notices are visible. Notices disappear automatically, and the list of notices
+    can show and undo them."""
     notices = [f"{number}.asm is in Source. Assemble and run puts it into ROM." for number in range(4)]
     for number in range(4):
         text = folder / f"{number}.asm"
@@ -375,8 +375,8 @@ def check_opened_and_exported_files(browser, folder, mcs4):
     choose_from_file_menu(browser, "#save-session-button")
     session = wait_for_download(folder, "my light.mcs")
     rom, size = [TOP / "mcs4", "rom"], str(len(image))
-    questions = subprocess.run([*rom, "ask", "0", size], stdout=subprocess.PIPE, check=True, text=True).stdout
-    answers = answers_in_copy(mcs4, session, questions)
+    rom_queries = subprocess.run([*rom, "ask", "0", size], stdout=subprocess.PIPE, check=True, text=True).stdout
+    answers = answers_in_copy(mcs4, session, rom_queries)
     for arguments, suffix, expected in ((["save"], ".bin", image), (["save", "--hex"], ".hex", None)):
         expected_file = subprocess.run([*rom, *arguments, "0", size], input=answers.encode(), stdout=subprocess.PIPE, check=True).stdout
         verdict(f"the exported {suffix} file is the output of mcs4 rom", expected or export_file(browser, folder, suffix), expected_file)

@@ -6,7 +6,7 @@ import pathlib
 import re
 import subprocess
 
-from page_basics import GET_DIGITS, GET_RATE, GET_STATUS, SET_SPEED, STEPPED, choose_example, key, send_lines, pause_running_time, wait_until_ready
+from page_basics import GET_DIGITS, GET_RATE, GET_STATUS, SET_SPEED, STEPPED_MESSAGE, choose_example, key, send_lines, pause_running_time, wait_until_ready
 from verdicts import eventually, verdict
 
 TOP = pathlib.Path(__file__).resolve().parent.parent.parent
@@ -125,7 +125,7 @@ def check_step_over(browser, program, name, example):
 def step_into_and_out(browser):
     """Steps into a subroutine with F11, and out of it with Shift+F11."""
     browser.script(PRESS_KEY, "F11", False)
-    browser.wait_until(GET_STATUS, STEPPED)
+    browser.wait_until(GET_STATUS, STEPPED_MESSAGE)
     browser.script(PRESS_KEY, "F11", True)
 
 
@@ -213,7 +213,7 @@ def check_stopwatch(browser):
     eventually(browser, "going back to the change of the lamps", GET_STATUS, re.compile("^Back at ..., 1 cycle, 0.011 ms earlier: this instruction changes lamps"))
     verdict("the lamps have not changed yet", send_lines(browser, "lamps") != lamps, True)
     browser.click("#step")
-    browser.wait_until(GET_STATUS, STEPPED)
+    browser.wait_until(GET_STATUS, STEPPED_MESSAGE)
     verdict("the next step changes the lamps", send_lines(browser, "lamps"), lamps)
     browser.script(CHANGE_FIELD, "#change-place", "chain2.0")
     browser.click("#until-change")

@@ -27,7 +27,7 @@ sum:    RDM
         BBL 0
 """
 LINES = PROGRAM.split("\n")
-GET_TIP = "const tip = document.querySelector('.value-tip:not(#change-tip)'); return tip.hidden ? '' : tip.textContent"
+GET_VALUE_TIP = "const tip = document.querySelector('.value-tip:not(#change-tip)'); return tip.hidden ? '' : tip.textContent"
 SET_CARET = """
 const editor = document.querySelector("#program-editor .cm-editor").lineEditor;
 editor.focus();
@@ -83,10 +83,10 @@ def check_values_at_pointer(browser):
             ("FIM P0", "digit", re.compile(r"^digit = 0x12, 18, 0001 0010; sent by SRC, it selects ROM 1; bank 0, chip 0, register 1, char")),
             ("JUN turn", "turn", "turn: address 0x002, line 3"),
             ("LDM 7", "7", "7 = 0x7, 0111")):
-        point_until_shown(browser, line_of(text), word, GET_TIP, expected)
-        eventually(browser, f"the value of {word} at the pointer", GET_TIP, expected)
+        point_until_shown(browser, line_of(text), word, GET_VALUE_TIP, expected)
+        eventually(browser, f"the value of {word} at the pointer", GET_VALUE_TIP, expected)
     point_at(browser, line_of("INC R5"), "INC")
-    eventually(browser, "an instruction without further operands has no value", GET_TIP, "")
+    eventually(browser, "an instruction without further operands has no value", GET_VALUE_TIP, "")
 
 
 def check_edited_value(browser):

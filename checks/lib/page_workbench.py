@@ -340,7 +340,7 @@ def run_test(browser):
     """Runs the sample test of the board."""
     browser.click("#tests-tab")
     browser.click("#first-test")
-    # Running the board creates the test, which takes a while on a busy machine.
+    # The page runs the board to create the test. This takes a while on a busy machine.
     eventually(browser, "a sample test is in the editor", GET_TESTS, re.compile("^ *expect", re.M))
     browser.click("#tests-editor .send")
     eventually(browser, "the number of test results", "return document.querySelectorAll('#test-list li').length", 1)

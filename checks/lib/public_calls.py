@@ -83,7 +83,7 @@ def fields_of(lines, index):
 
 @functools.cache
 def declarations_of_file(path):
-    """Returns the public declarations in a file, as pairs of a name and its public form."""
+    """Returns the public declarations in a file, as pairs: the name of the item, and its line in public_calls.txt."""
     lines = without_comments(path.read_text()).splitlines()
     items = []
     for index, line in enumerate(lines):
@@ -116,11 +116,11 @@ def calls_of(crate):
     """Yields the public interface of a crate, line by line."""
     source = TOP / "crates" / crate / "src"
     text = without_comments((source / "lib.rt").read_text())
-    open_modules = set(re.findall(r"^pub mod (\w+);", text, re.M)) | {"lib"}
+    public_modules = set(re.findall(r"^pub mod (\w+);", text, re.M)) | {"lib"}
     reexports = set(reexported_names(text))
     names = {name for _, name in reexports}
     for path in sorted(source.rglob("*.rt")):
-        yield from (line for name, line in declarations_of_file(path) if path.stem in open_modules or name in names)
+        yield from (line for name, line in declarations_of_file(path) if path.stem in public_modules or name in names)
     yield from (f"use {name}" for first_word, name in reexports if not (source / f"{first_word}.rt").exists())
 
 

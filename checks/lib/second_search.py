@@ -45,8 +45,8 @@ def condition_lines(word: str, rows: list[Row]) -> list[str]:
 class InputLimits:
     """The inputs that a question allows. At most `together` keys are down at a time, or any number if it is None. If `only` is true, a key can be
     pressed only if it is one of `keys`, and TEST can be 1 only if `test` is true. Otherwise all keys can be pressed, and TEST can be 0 or 1. Two
-    changes of the levels are at least `wait` cycles apart. With `held`, no key is down for more than `held` cycles in succession. `search` ignores
-    `wait` and `held`, and second_waits.py does not. Without `wait`, the program ignores `held`, too."""
+    changes of the levels are at least `wait` cycles apart. With `held`, no key is down for more than `held` cycles in succession. Only the searches
+    in second_waits.py use `wait` and `held`; `search` ignores them. Without `wait`, the program ignores `held`, too."""
 
     together: int | None = None
     only: bool = False
@@ -522,8 +522,8 @@ def commands(levels: Levels, previous: Levels) -> list[str]:
 
 
 def replay_lines(question: Question, path: list[int]) -> tuple[list[str], str]:
-    """Returns the session lines that replay a counterexample up to the cycle in which the property fails, and a description of the error, or "" if
-    there is none."""
+    """Returns the session lines that replay a counterexample up to the cycle in which the property fails. Also returns a description of the error in
+    the counterexample, or "" if it has none."""
     board, is_failure, levels_before = power_on(question), failure_condition(question), LEVELS_AT_POWER_ON
     lines, has_failed = [*itertools.chain(*question.texts()), "reset"], is_failure(board)
     for index, value in enumerate(path):

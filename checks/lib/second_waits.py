@@ -1,6 +1,6 @@
-"""A second implementation of the search of mcs4-prove with `wait` and `held`. It shares no code with the program. The levels of keys and TEST change
-at moments that are at least `wait` cycles apart. The levels before the first cycle are no change. With `held`, each key is up at some moment of any
-`held` + 1 successive moments, so that no key is down for more than `held` cycles in succession.
+"""A second implementation of the search of mcs4-prove with `wait` and `held`. It shares no code with the program. Successive changes of the levels of
+keys and TEST are at least `wait` cycles apart. The levels before the first cycle do not count as a change. With `held`, each key is up in at least
+one of any `held` + 1 successive cycles, so that no key is down for more than `held` cycles in succession.
 
 Two searches answer whether a property can fail:
 
@@ -8,9 +8,9 @@ Two searches answer whether a property can fail:
   allowed. Its states contain the machine, the levels, the number of cycles since the last change, and the number of cycles for which each key has
   been down. It does not know which cycles read an input.
 - The search by steps works like the program. Its steps are those of second_search.py. A step begins at levels that the search chooses. If they differ
-  from those of the last step, the change between the two steps was made as early as possible. It counts the states, as the program does.
+  from the levels of the previous step, the change between the two steps was made as early as possible. This search counts states as the program does.
 
-A counterexample has the levels at the beginning of each step. `replay_steps` finds moments for its changes.
+A counterexample has the levels at the beginning of each step. `replay_steps` finds the cycles in which the levels can change.
 
 Without `held`, the two verdicts must agree. With `held`, the search by steps allows more inputs than the definition. If it answers `holds`, the
 property also holds by the definition. But it can answer `may fail` although the property holds, because it does not remember
@@ -19,7 +19,8 @@ property also holds by the definition. But it can answer `may fail` although the
 - what happened in a step that is longer than `wait`: the key can have been up during the step, but then the next change is later;
 - that a key that was pressed must be released. If `wait` is more than `held`, no change can release it in time.
 
-It is exact on a way that `is_simple` describes. On such a way, there must be moments for the changes. On another way, there may be none.
+`is_search_exact` describes the sequences of steps for which the search by steps is exact. For these, there must be possible times of all changes. For
+other sequences, there may be none.
 """
 
 from __future__ import annotations
@@ -33,7 +34,7 @@ from second_search import (
     LEVELS_AT_POWER_ON, InputLimits, Levels, Question, QuestionBoard, all_keys, allowed_keys, allowed_test_levels, commands, failure_condition, load_state,
     max_keys_down, power_on, run_cycle, run_lengths, run_to_next_state, set_levels, state_of)
 
-# The maximum number of levels that the program tries. It gives up if there are more.
+# The maximum number of combinations of levels that the program tries. The program gives up if there are more.
 MAX_LEVELS = 255
 
 
@@ -265,8 +266,8 @@ class StepSearch:
 
 
 def levels_leading_to(origins: list[tuple[int, Levels]], index: int) -> list[Levels]:
-    """Returns the levels at the beginning of each step on the way to a state. Each state has the index of the state before it, and the levels at the
-    beginning of the step between them."""
+    """Returns the levels at the beginning of each step that leads to the state with this index. `origins` has, for each state, the index of its
+    predecessor, and the levels at the beginning of the step from there."""
     path = []
     while index:
         index, levels = origins[index]
@@ -288,23 +289,23 @@ Change = tuple[int, Levels]
 def steps_of(question: Question, path: list[Levels]) -> tuple[list[Change], int, str]:
     """Replays a counterexample. Returns the levels of each step and the cycle at which the step begins, the total number of cycles, and a description
     of the error. The description is "" if the property fails after the last cycle, as it must."""
-    board, is_failure, moment, begins = power_on(question), failure_condition(question), 0, []
+    board, is_failure, moment, step_starts = power_on(question), failure_condition(question), 0, []
     has_failed = is_failure(board)
     for index, levels in enumerate(path):
         if has_failed or not question.limits.allow(levels) or not levels[0] <= set(all_keys(board)):
-            return begins, moment, f"step {index + 1}: " + ("the property fails before" if has_failed else f"{levels} is not allowed")
-        begins.append((moment, levels))
+            return step_starts, moment, f"step {index + 1}: " + ("the property fails before" if has_failed else f"{levels} is not allowed")
+        step_starts.append((moment, levels))
         cycles, has_failed = run_to_next_state(board, levels, is_failure, question.pause, counts_idle_cycles=True)
         moment += cycles
-    return begins, moment, "" if has_failed else "the property does not fail"
+    return step_starts, moment, "" if has_failed else "the property does not fail"
 
 
-def is_simple(begins: list[Change], limits: InputLimits) -> bool:
+def is_search_exact(step_starts: list[Change], limits: InputLimits) -> bool:
     """Returns true if the search by steps is exact for steps that begin at these times with these levels. Without `held`, it is always exact. With
     `held`, keys may be down in two successive steps only if they are the same keys and the steps begin at most `wait` cycles apart."""
     return not limits.held or limits.wait <= limits.held and all(
         not (before[0] and levels[0]) or before[0] == levels[0] and moment - previous <= limits.wait
-        for (previous, before), (moment, levels) in itertools.pairwise(begins))
+        for (previous, before), (moment, levels) in itertools.pairwise(step_starts))
 
 
 def presses_of(changes: list[Change]) -> list[tuple[int, int]]:
@@ -316,26 +317,26 @@ def presses_of(changes: list[Change]) -> list[tuple[int, int]]:
     return presses
 
 
-def possible_changes(begins: list[Change], limits: InputLimits) -> tuple[list[Change], list[int]]:
-    """Returns the changes between steps, each at its earliest possible moment. Also returns the latest possible moment of each. `begins` has the
-    moment and the levels at the beginning of each step. The first change is at moment 0. With `held`, a last change releases all keys after the
-    beginning of the last step."""
-    changes, latest = begins[:1], [0] * len(begins[:1])
-    for (before, levels_before), (moment, levels) in itertools.pairwise(begins):
+def possible_changes(step_starts: list[Change], limits: InputLimits) -> tuple[list[Change], list[int]]:
+    """Returns the changes between steps, each in the earliest possible cycle. Also returns the latest possible cycle of each change. `step_starts`
+    has the first cycle and the levels of each step. The first change is in cycle 0. With `held`, a last change releases all keys after the beginning
+    of the last step."""
+    changes, latest = step_starts[:1], [0] * len(step_starts[:1])
+    for (before, levels_before), (moment, levels) in itertools.pairwise(step_starts):
         if levels != levels_before:
             changes.append((before + 1, levels))
             latest.append(moment)
     if limits.held and changes and changes[-1][1][0]:
-        moment, (_keys_down, test) = begins[-1]
+        moment, (_keys_down, test) = step_starts[-1]
         changes.append((moment + 1, (frozenset(), test)))
         latest.append(moment + limits.held)
     return changes, latest
 
 
-def earliest_changes(begins: list[Change], limits: InputLimits) -> list[Change] | None:
-    """Returns changes that are within the limits, and for which the levels at the beginning of each step are right. Each change is as early as
-    possible. Returns None if there are no such changes."""
-    changes, latest = possible_changes(begins, limits)
+def earliest_changes(step_starts: list[Change], limits: InputLimits) -> list[Change] | None:
+    """Returns changes that are within the limits and produce the levels at the beginning of each step. Each change is as early as possible. Returns
+    None if there are no such changes."""
+    changes, latest = possible_changes(step_starts, limits)
     # Each constraint (i, j, cycles) means: change `i` happens at least `cycles` cycles after change `j`.
     constraints = [(index, index - 1, limits.wait) for index in range(2, len(changes))]
     constraints += [(pressed, released, -limits.held) for pressed, released in presses_of(changes) if limits.held]
@@ -352,7 +353,7 @@ def earliest_changes(begins: list[Change], limits: InputLimits) -> list[Change] 
 
 def limit_error(limits: InputLimits, changes: list[Change]) -> str:
     """Returns a description of the error in changes that the limits do not allow, or "" if they are allowed. The levels are constant after the last
-    change. The first change sets the levels from moment 0 on, and is none of the limits' changes."""
+    change. The limits do not apply to the first change, which sets the levels from cycle 0 on."""
     moments = [moment for moment, _levels in changes[1:]]
     if any(earlier + limits.wait > later for earlier, later in itertools.combinations(moments, 2)):
         return f"the changes at {moments} are less than {limits.wait} cycles apart"
@@ -379,23 +380,23 @@ def change_error(question: Question, changes: list[Change], cycle_count: int) ->
 
 
 def has_changes(question: Question, path: list[Levels]) -> bool:
-    """Returns true if there are moments for the changes of a counterexample."""
+    """Returns true if the levels can change as a counterexample requires, within the limits."""
     return earliest_changes(steps_of(question, path)[0], question.limits) is not None
 
 
 def replay_steps(question: Question, path: list[Levels]) -> tuple[list[str], str]:
-    """Returns the session lines that replay a counterexample up to the cycle in which the property fails, and a description of the error, or "" if
-    there is none. If there are no moments for the changes because of `held`, and the way is not simple, replays it without `held`."""
-    begins, cycle_count, error = steps_of(question, path)
+    """Returns the session lines that replay a counterexample up to the cycle in which the property fails. Also returns a description of the error in
+    the counterexample, or "" if it has none. If `held` makes the changes impossible, and the search is not exact for these steps, ignores `held`."""
+    step_starts, cycle_count, error = steps_of(question, path)
     lines, limits = [*itertools.chain(*question.texts()), "reset"], question.limits
     if error:
         return lines, error
-    changes = earliest_changes(begins, limits)
-    if changes is None and not is_simple(begins, limits):
+    changes = earliest_changes(step_starts, limits)
+    if changes is None and not is_search_exact(step_starts, limits):
         limits = replace(limits, held=0)
-        changes = earliest_changes(begins, limits)
+        changes = earliest_changes(step_starts, limits)
     if changes is None:
-        return lines, f"the levels at {begins} need changes that are not allowed"
+        return lines, f"the levels at {step_starts} need changes that are not allowed"
     levels_before = LEVELS_AT_POWER_ON
     shown_changes = [(moment, levels) for moment, levels in changes if moment < cycle_count]
     for (moment, levels), (next_moment, _levels) in itertools.pairwise([*shown_changes, (cycle_count, LEVELS_AT_POWER_ON)]):

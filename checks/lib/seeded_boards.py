@@ -13,7 +13,7 @@ from board4004 import Board
 
 INVALID_CODES = [*range(1, 16), 0xE3, 0xFE, 0xFF]
 JUMPS = ("JUN", "JMS", "JCN", "ISZ")
-NAMES = ("inf", "nan", "INFINITY", "infinity", "NaN", "INF", "e0", "E1", "_0E0", "x1e2")
+NUMBER_LIKE_NAMES = ("inf", "nan", "INFINITY", "infinity", "NaN", "INF", "e0", "E1", "_0E0", "x1e2")
 ORG_OFFSETS = (0x00, 0x02, 0x1E, 0x40, 0xD9, 0xDE, 0xE0, 0xE1, 0xF0, 0xF9)
 # The maximum number of bytes in the text of a board or of a program.
 MAX_TEXT_BYTES = 16384
@@ -162,7 +162,7 @@ class Program:
     def random_labels(self) -> dict[int, str]:
         """Returns labels for some of the addresses. Some of the labels look like numbers."""
         labelled_addresses = self.rng.sample(self.begins, min(len(self.begins), self.rng.choice([0, 2, 12])))
-        return {address: NAMES[i] if i < len(NAMES) else f"l{address:03X}" for i, address in enumerate(labelled_addresses)}
+        return {address: NUMBER_LIKE_NAMES[i] if i < len(NUMBER_LIKE_NAMES) else f"l{address:03X}" for i, address in enumerate(labelled_addresses)}
 
     def target(self, address: int, name: str) -> str:
         """Returns the target of a jump as a name or a number, usually that of an instruction."""
@@ -208,7 +208,7 @@ class SeededSession:
         return ["wire", *self.board_text, ".", "asm", *self.program_text, "."]
 
     def address(self) -> int:
-        """Returns an address, usually of an instruction, and often before a loop that clocks a chain, or at the end of a page."""
+        """Returns an address, usually of an instruction. Often the instruction is just ahead of a loop that clocks a chain, or at the end of a page."""
         loops = [target_address - 3 for target_address in self.program.loops.values()]
         if loops and self.rng.random() < 0.3:
             return self.rng.choice(loops)
@@ -240,11 +240,11 @@ class SeededSession:
         board_ahead, visited, written_nibbles = board.copy(), [board.pc], [self.ram_nibble()]
         board_ahead.breaks = set()
 
-        def note_address(_done: int, address: int) -> None:
+        def record_address(_done: int, address: int) -> None:
             visited.append(address)
             written_nibbles.extend([(board_ahead.dcl, board_ahead.chips.bank_src[board_ahead.dcl])] if board_ahead.rom[address] == 0xE0 else [])
 
-        board_ahead.run(300, note_address)
+        board_ahead.run(300, record_address)
         address, (bank, src) = self.rng.choice([board.pc, self.address(), *visited[-20:]]), self.rng.choice(written_nibbles)
         return self.rng.choice([f"break {address}"] * 2 + [f"unbreak {address}"] + [f"watch {bank} {src}"] * 2 + [f"unwatch {bank} {src}"])
 

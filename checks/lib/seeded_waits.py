@@ -17,7 +17,7 @@ from second_waits import search_by_steps, with_held, with_wait
 MAX_WAIT, MAX_KEYS = 40, 3
 # The largest `held`.
 MAX_HELD = 70
-# The maximum numbers of states of a search by steps, and of different cycles of a literal search.
+# The maximum number of states in a search by steps, and the maximum number of cycles from different states that a literal search runs.
 MAX_STATES, MAX_CYCLES = 1500, 12000
 # The maximum number of questions that are tried for a seed, until `wait` matters, and the maximum number of states of the searches that decide this.
 MAX_ATTEMPTS, FEW_STATES = 6, 300
@@ -42,9 +42,9 @@ def delay_phrases(rng: random.Random) -> list[str]:
 
 
 def pattern_question(rng: random.Random, wiring: KeyWiring, levels: list[int] | None = None, of_test: bool = False) -> Question:
-    """Returns a question about a program that reads an input several times. Usually each read must show the opposite of the read before it. If there
-    are `levels`, the reads must show these levels of one key, or of TEST if `of_test`. Then the program stores a number in a register, or it takes
-    some time. The property excludes this number, or this time, or this number before marks."""
+    """Returns a question about a program that reads an input several times, and continues only if the reads return certain levels. Usually each must
+    be the opposite of the one before it. If there are `levels`, one key must have these levels, or TEST if `of_test` is true. Then the program stores
+    a number in a register, or it waits. The property says that this number, this waiting time, or this number without marks cannot occur."""
     row, register, number = rng.randrange(wiring.rows), rng.randrange(8), rng.randrange(1, 16)
     program = [" FIM P7, 0", " SRC P7"]
     for bit in range(wiring.first + row + 1):
@@ -52,12 +52,12 @@ def pattern_question(rng: random.Random, wiring: KeyWiring, levels: list[int] | 
         program += [f" LDM {data}", " WRR", f" LDM {data + 1}", " WRR"]
     program += [" FIM P6, 0x10", " SRC P6", "loop: CLB", *([f" XCH R{register}"] if rng.random() < 0.8 else [])]
     level, column, reads_test, marks = rng.randrange(2), rng.randrange(len(wiring.columns)), of_test if levels else rng.random() < 0.4, []
-    # At another level, the program begins again, or it ends.
-    other = rng.choice(["loop", "loop", "end"])
+    # If a read returns the wrong level, the program starts again or ends.
+    wrong_level_target = rng.choice(["loop", "loop", "end"])
     for n in range(len(levels) if levels else rng.choice([2, 3, 3, 3, 4])):
         level = levels[n] if levels else level
-        # Some reads are repeated until the level is right.
-        target = other if rng.random() < 0.85 else f"read{n}"
+        # The program repeats some reads until they return the right level.
+        target = wrong_level_target if rng.random() < 0.85 else f"read{n}"
         if reads_test:
             program += [f"read{n}: JCN {1 if level else 9}, {target}"]
         else:
@@ -100,7 +100,7 @@ def add_marks(question: Question, rng: random.Random, wiring: KeyWiring, marks: 
         question.marks.insert(rng.randrange(len(question.marks) + 1), mark)
 
 
-def few_inputs(rng: random.Random, keys: list[Key]) -> InputLimits:
+def limits_to_few_inputs(rng: random.Random, keys: list[Key]) -> InputLimits:
     """Returns limits that allow few levels of the keys of a board."""
     if len(keys) <= MAX_KEYS and rng.random() < 0.5:
         return InputLimits(rng.choice([None, None, None, 1, 2]))
@@ -119,7 +119,7 @@ def random_spaced_question(rng: random.Random) -> Question:
         question = seeded_question(rng.randrange(100000), MAX_STATES)
         question.pause = min(question.pause, 50)
     question.max_states = MAX_STATES
-    question.limits = few_inputs(rng, all_keys(power_on(question)))
+    question.limits = limits_to_few_inputs(rng, all_keys(power_on(question)))
     return question
 
 
@@ -176,7 +176,7 @@ def random_held_question(rng: random.Random, levels: list[int]) -> Question:
     one key is down at a time, and TEST is usually constant then."""
     question = pattern_question(rng, FewKeyWiring(rng), levels) if rng.random() < 0.9 else random_spaced_question(rng)
     keys = all_keys(power_on(question))
-    question.limits = InputLimits(1, True, keys[:MAX_KEYS], rng.random() < 0.2) if rng.random() < 0.75 else few_inputs(rng, keys)
+    question.limits = InputLimits(1, True, keys[:MAX_KEYS], rng.random() < 0.2) if rng.random() < 0.75 else limits_to_few_inputs(rng, keys)
     return question
 
 

@@ -18,7 +18,7 @@ MAX_RECORD_BYTES = 8_192
 MAX_CYCLES = 4_000_000
 
 
-def number(value, count):
+def encoded_number(value, count):
     """Returns a number as `count` bytes, with the most significant byte first."""
     return value.to_bytes(count, "big")
 
@@ -122,13 +122,13 @@ class State:
     def bytes(self, version=2):
         """Returns the bytes of the state. Version 1 lacks the version byte, and the watches with their count."""
         assert version == 2 or not self.watches
-        encoded = number(self.seq, 4) + (b"\x02" if version == 2 else b"") + self.board.bytes()
+        encoded = encoded_number(self.seq, 4) + (b"\x02" if version == 2 else b"") + self.board.bytes()
         encoded += self.rom + self.ram + self.status + self.ram_ports + self.rom_ports
         encoded += bytes([self.accumulator, self.carry]) + self.registers
-        encoded += b"".join(number(address, 2) for address in [self.counter, *self.return_addresses])
+        encoded += b"".join(encoded_number(address, 2) for address in [self.counter, *self.return_addresses])
         encoded += bytes([self.bank, self.rom_source]) + self.bank_sources + bytes([self.owed])
         encoded += b"".join(self.chains) + self.keys + bytes([self.test])
-        encoded += bytes([len(self.breakpoints)]) + b"".join(number(address, 2) for address in self.breakpoints)
+        encoded += bytes([len(self.breakpoints)]) + b"".join(encoded_number(address, 2) for address in self.breakpoints)
         if version == 2:
             encoded += bytes([len(self.watches)]) + b"".join(bytes(watch) for watch in self.watches)
         return bytes(encoded)
@@ -236,7 +236,7 @@ def load(text, image):
 
 def run(cycles):
     """Returns the command for a run. A log counts all cycles of the command, even if a breakpoint stops the run."""
-    return Command(f"run {cycles}\n", bytes([5]) + number(cycles, 4), lambda state: state.run(cycles), cycles)
+    return Command(f"run {cycles}\n", bytes([5]) + encoded_number(cycles, 4), lambda state: state.run(cycles), cycles)
 
 
 def step():
@@ -269,7 +269,7 @@ def break_at(address):
     """Returns the command that sets a breakpoint."""
     def apply(state):
         state.breakpoints = sorted({*state.breakpoints, address})
-    return Command(f"break {address}\n", bytes([10]) + number(address, 2), apply)
+    return Command(f"break {address}\n", bytes([10]) + encoded_number(address, 2), apply)
 
 
 def watch(bank, source):
@@ -306,13 +306,13 @@ def file_with_snapshot(snapshot):
     """Returns a file with a snapshot in its first slot, and no records."""
     start = SLOTS[0]
     file = bytearray(FORMAT_NAME + bytes(FILE_BYTES - len(FORMAT_NAME)))
-    file[start:start + LENGTH_BYTES + len(snapshot)] = number(len(snapshot), LENGTH_BYTES) + snapshot
+    file[start:start + LENGTH_BYTES + len(snapshot)] = encoded_number(len(snapshot), LENGTH_BYTES) + snapshot
     return file
 
 
 def put_record(file, offset, record):
     """Writes a record to a log, followed by the byte that marks the end of the log."""
-    file[offset:offset + 3 + len(record) + 1] = b"\x01" + number(len(record), 2) + record + b"\x00"
+    file[offset:offset + 3 + len(record) + 1] = b"\x01" + encoded_number(len(record), 2) + record + b"\x00"
 
 
 class ExpectedSession:
@@ -334,7 +334,7 @@ class ExpectedSession:
         snapshot = self.state.bytes(version)
         start = SLOTS[slot]
         end = start + LENGTH_BYTES + len(snapshot)
-        self.file[start:end] = number(len(snapshot), LENGTH_BYTES) + snapshot
+        self.file[start:end] = encoded_number(len(snapshot), LENGTH_BYTES) + snapshot
         self.unused_ranges[slot] = (end, start + SNAPSHOT_AREA_BYTES)
         self.file[start + SNAPSHOT_AREA_BYTES] = 0
         self.slot = slot

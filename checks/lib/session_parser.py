@@ -170,20 +170,20 @@ def read_command(record, version):
     """Converts a record to the words of its session line, in which a text is a list of lines. Returns them with the number of cycles that the log
     counts for the record."""
     reader = Reader(record)
-    tag = reader.read_number(13 if version == 2 else 11)
-    if tag == 1:
+    record_kind = reader.read_number(13 if version == 2 else 11)
+    if record_kind == 1:
         words = ["wire", read_board(reader, version).text().splitlines()]
-    elif tag == 2:
+    elif record_kind == 2:
         bitmap = reader.read_bytes(512)
         addresses = [address for address in range(4096) if bitmap[address // 8] >> address % 8 & 1]
         words = ["asm", [line for address in addresses for line in (f"ORG {address}", f"DB {reader.read_number(255)}")]]
-    elif tag == 7:
+    elif record_kind == 7:
         name, *maxima = POKE_PLACES[reader.read_number(7)]
         numbers = [reader.read_number(maximum) for maximum in maxima]
         words = ["poke", name.format(*numbers[:-1]), str(numbers[-1])]
     else:
-        require(tag in NUMERIC_COMMANDS)
-        name, *maxima = NUMERIC_COMMANDS[tag]
+        require(record_kind in NUMERIC_COMMANDS)
+        name, *maxima = NUMERIC_COMMANDS[record_kind]
         words = [name, *(str(reader.read_number(maximum)) for maximum in maxima)]
     reader.expect_end()
     return words, {"run": lambda: int(words[1]), "step": lambda: 2}.get(words[0], lambda: 0)()

@@ -200,7 +200,7 @@ class WebKit(WebDriver):
     def touch(self, selector, milliseconds_down):
         self.script(TOUCH_ELEMENT, selector, milliseconds_down)
 
-    def click_secondary(self, x, y):
+    def right_click(self, x, y):
         # Dispatch the events by script, because after a press of this button the driver would type every character without Shift.
         self.script(CLICK_SECONDARY, x, y)
 

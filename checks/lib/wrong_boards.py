@@ -2,7 +2,7 @@
 
 import random
 
-from board_spellings import TEXT_ENDS, EQUALS, KINDS, RawValue, seeded_board, random_tables_text
+from board_spellings import TEXT_ENDS, EQUAL_SIGNS, KINDS, RawValue, seeded_board, random_tables_text
 
 # Invalid values for each key, besides INVALID_VALUES, which are invalid for every key.
 INVALID_VALUES_BY_KEY = {
@@ -105,7 +105,7 @@ def spoil_text(rng, text):
 def random_top_line(rng):
     """Returns a line to insert at the top of a board's text. The line is usually an error there."""
     section, value = rng.choice([*KINDS, *UNKNOWN_KEYS[:6]]), rng.choice(["1", "[1]", "[{}, 2]", "{}", "{ chip = 1 }", '"a"', "[\n]"])
-    return f"{section}{rng.choice(EQUALS)}{value}{rng.choice(TEXT_ENDS)}"
+    return f"{section}{rng.choice(EQUAL_SIGNS)}{value}{rng.choice(TEXT_ENDS)}"
 
 
 def board_with_errors(number):

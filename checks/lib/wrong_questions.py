@@ -97,7 +97,7 @@ ANSWERS: list[tuple[list[str], int, str]] = [
         ["held 1", "wait 2"], ["wait 2", "held 100000"], ["wait 3", "held 4"], ["held 4", "wait 3", "held 3"])),
     ([*EIGHT_KEYS, "wait 2", "held 1", "prove"], 0, "gave up"),
     ([*EIGHT_KEYS, "wait 2", "held 1", "together 0", "prove"], 0, "holds 2"),
-    # There may be at most 255 levels.
+    # The prover accepts at most 255 combinations of levels. Eight keys alone have 256.
     ([*EIGHT_KEYS, "wait 2", "prove"], 0, "gave up"), ([*EIGHT_KEYS, "wait 2", "together 7", "prove"], 0, "too many"),
     ([*EIGHT_KEYS, "wait 2", "together 7", "test", "prove"], 0, "gave up"), ([*EIGHT_KEYS, "wait 2", "together 0", "prove"], 0, "holds 2"),
     ([*QUESTION_LINES, "only", *1000 * ["press 255 255"], "prove"], 0, "holds 1"), ([*QUESTION_LINES, *1000 * ["together 0"], *1000 * ["only"], "prove"], 0, "holds 1"),

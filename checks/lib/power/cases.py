@@ -66,7 +66,7 @@ class Case(NamedTuple):
     """A scenario for a session on a file system. The effects of the shell commands in `setup` are synced, and those of the later shell commands in
     `before` are not. `arguments` are the program's arguments, and `file` is the name of the session file after the cut. `initial_commands` is the
     number of commands in the session at the beginning. `is_durable` is true if the session is already durable then. If `gets_all_commands` is true,
-    the trial sends it ALL_COMMANDS commands."""
+    the trial sends commands until the session has MAX_COMMAND_COUNT commands."""
     name: str
     setup: str
     before: str
@@ -82,7 +82,7 @@ CREATE_FILE_SEED = "mcs4 new seed < /dev/null > /dev/null"
 CREATE_OTHER_FILES = "for i in 1 2 3 4 5 6 7 8 9 10; do : > f$i; done"
 # The names of the session files that are copied into the machine, and the number of commands in each. The second file has version 1 of the format.
 SERVED_FILE, VERSION_1_FILE = "served.mcs", "first.mcs"
-SERVED_COMMANDS, VERSION_1_COMMANDS = 60, 30
+SERVED_COMMAND_COUNT, VERSION_1_COMMAND_COUNT = 60, 30
 
 CASES = {case.name: case for case in (
     Case("new", "", "", "new s.mcs", "s.mcs", gets_all_commands=True),
@@ -99,9 +99,9 @@ CASES = {case.name: case for case in (
     Case("long-moved", f"{CREATE_FILE_SEED}; {CREATE_OTHER_FILES}", f"mv seed {LONG_NAME}", f"open {LONG_NAME}", LONG_NAME),
     Case("folder-copied", CREATE_FILE_SEED, "mkdir d; cp seed d/s.mcs", "open d/s.mcs", "d/s.mcs"),
     Case("folder-moved", "mkdir d; mcs4 new d/s.mcs < /dev/null > /dev/null", "mv d e", "open e/s.mcs", "e/s.mcs"),
-    Case("served", f"cp /{SERVED_FILE} s.mcs", "", "open s.mcs", "s.mcs", initial_commands=SERVED_COMMANDS, is_durable=True),
-    Case("carried", f"cp /{VERSION_1_FILE} s.mcs", "", "open s.mcs", "s.mcs", initial_commands=VERSION_1_COMMANDS, is_durable=True),
-    Case("carried-copied", "", f"cp /{VERSION_1_FILE} s.mcs", "open s.mcs", "s.mcs", initial_commands=VERSION_1_COMMANDS),
+    Case("served", f"cp /{SERVED_FILE} s.mcs", "", "open s.mcs", "s.mcs", initial_commands=SERVED_COMMAND_COUNT, is_durable=True),
+    Case("carried", f"cp /{VERSION_1_FILE} s.mcs", "", "open s.mcs", "s.mcs", initial_commands=VERSION_1_COMMAND_COUNT, is_durable=True),
+    Case("carried-copied", "", f"cp /{VERSION_1_FILE} s.mcs", "open s.mcs", "s.mcs", initial_commands=VERSION_1_COMMAND_COUNT),
     # The program syncs only the file's own folder, so new folders above it can be lost.
     Case("folders", "", "mkdir -p d/e", "new d/e/s.mcs", "d/e/s.mcs"),
 )}
@@ -110,9 +110,9 @@ OPEN_CASES = ("linked", "copied", "moved", "replaced", "long-copied", "long-move
 
 # --- the trials of a run of the check
 
-# ALL_COMMANDS is the number of the last command that is sent in a case with `gets_all_commands`. MORE_COMMANDS are sent to a session that is already
-# durable or is opened again, and FEW_COMMANDS to any other session.
-ALL_COMMANDS, MORE_COMMANDS, FEW_COMMANDS = 110, 24, 12
+# The numbers of commands that a trial sends. In a case with `gets_all_commands`, MAX_COMMAND_COUNT is the number of the last command. A session that
+# is already durable or is opened again gets MORE_COMMAND_COUNT commands, and any other session gets FEW_COMMAND_COUNT.
+MAX_COMMAND_COUNT, MORE_COMMAND_COUNT, FEW_COMMAND_COUNT = 110, 24, 12
 
 
 class Trial(NamedTuple):

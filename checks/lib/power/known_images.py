@@ -12,7 +12,7 @@ OLD = bytes(SECTOR)
 
 
 def history_of(events: list[Event], atomic_blocks: bool = False, seed: int = 0, initial_commands: int = 0) -> History:
-    """Returns the history of these events, with a session that was not durable before them."""
+    """Returns the history of these events. The session was not durable before the first of them."""
     return History(events, initial_commands, False, set(), atomic_blocks, random.Random(seed))
 
 

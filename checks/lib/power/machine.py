@@ -203,8 +203,8 @@ class Machine:
         channel.close()
 
     def serve(self, seconds: float) -> None:
-        """Waits for data for at most this number of seconds, and serves it. If disks have held back answers, waits only ANSWER_DELAY, and then sends
-        one of them for each disk. Raises PowerCheckError if QEMU has ended."""
+        """Waits for data for at most this number of seconds, and serves it. If some requests to the disks are unanswered, waits only ANSWER_DELAY,
+        and then answers one for each disk. Raises PowerCheckError if QEMU has ended."""
         busy_connections = [connection for connection in self.connections if connection.unanswered]
         ready = self.selector.select(ANSWER_DELAY if busy_connections else seconds)
         for key, _ in ready:

@@ -7,7 +7,7 @@ import os
 import pathlib
 import subprocess
 
-from power.cases import VERSION_1_FILE, VERSION_1_COMMANDS, SERVED_FILE, SERVED_COMMANDS
+from power.cases import VERSION_1_FILE, VERSION_1_COMMAND_COUNT, SERVED_FILE, SERVED_COMMAND_COUNT
 from power.disk import PowerCheckError
 from session_file import LENGTH_BYTES, SLOTS, read
 
@@ -27,8 +27,8 @@ next:   SRC P0
 ."""
 # Queries about everything on a board: registers and chips, RAM, ROM.
 QUERIES = "state\nram 0\n" + "".join(f"list {256 * chip} 256\n" for chip in range(ROM_COUNT))
-# The number of short commands at the beginning. Their cycles fill the log. The later commands are long, so that their bytes fill the log.
-SHORT_COMMANDS = 48
+# The number of short commands at the beginning, whose cycles fill the log. The later commands have long texts, so that their bytes fill the log.
+SHORT_COMMAND_COUNT = 48
 # The number of lines in a long text, and the number of bytes in each of them.
 LONG_TEXT_LINES, BYTES_PER_LINE = 37, 100
 # The offset of the version in a state, and version 2. A state of version 1 has something else at this offset.
@@ -40,7 +40,7 @@ def commands(count: int) -> list[str]:
     every 20th command, when bytes have filled the log. Three in four of these later commands have a record of 4,213 bytes, which takes two blocks."""
     all_commands = [BOARD, PROGRAM]
     for number in range(len(all_commands), count):
-        if number >= SHORT_COMMANDS and number % 4:
+        if number >= SHORT_COMMAND_COUNT and number % 4:
             line = "DB " + ",".join([str(number % 10)] * BYTES_PER_LINE) + "\n"
             all_commands.append("asm\nORG 0x100\n" + line * LONG_TEXT_LINES + ".")
         elif number % 8 == 7:
@@ -105,9 +105,9 @@ class Sessions:
                 if data[8] != slot:
                     self.snapshots.add(number)
                 slot = data[8]
-                if number == SERVED_COMMANDS:
+                if number == SERVED_COMMAND_COUNT:
                     (self.folder / SERVED_FILE).write_bytes(data)
-                if number == VERSION_1_COMMANDS:
+                if number == VERSION_1_COMMAND_COUNT:
                     (self.folder / VERSION_1_FILE).write_bytes(as_version_1(data))
         file.unlink()
         if len(set(self.states)) != len(self.states):

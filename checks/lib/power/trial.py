@@ -17,7 +17,7 @@ import time
 from collections.abc import Iterator
 from typing import NamedTuple
 
-from power.cases import (ALL_COMMANDS, CASES, FEW_COMMANDS, FILE_SYSTEMS, MORE_COMMANDS, NO_BARRIER, Case, FileSystem, Trial)
+from power.cases import (MAX_COMMAND_COUNT, CASES, FEW_COMMAND_COUNT, FILE_SYSTEMS, MORE_COMMAND_COUNT, NO_BARRIER, Case, FileSystem, Trial)
 from power.disk import Disk, Event, PowerCheckError
 from power.images import ImageBuilder, History, Image, Phase
 from power.machine import Machine
@@ -37,7 +37,7 @@ ALLOWED_BEFORE_NEW = ("absent", "size 0", "blank", 0)
 # The maximum number of errors to report for each generation of a trial, and of images to store in total.
 MAX_REPORTED, MAX_STORED = 2, 6
 
-# The result of examining an image: the number of commands in its session, or a description of anything else.
+# What an image contains: the number of commands in its session, or a description if it contains no session.
 Contents = int | str
 
 
@@ -92,7 +92,7 @@ class TrialRunner:
         """Runs a trial, and returns its result."""
         file_system, case = FILE_SYSTEMS[trial.file_system], CASES[trial.case]
         self.create_file_system(file_system, trial, case)
-        last_command = ALL_COMMANDS if case.gets_all_commands else case.initial_commands + (MORE_COMMANDS if case.is_durable else FEW_COMMANDS)
+        last_command = MAX_COMMAND_COUNT if case.gets_all_commands else case.initial_commands + (MORE_COMMAND_COUNT if case.is_durable else FEW_COMMAND_COUNT)
         stage = Stage(case.arguments, case.before, case.initial_commands, last_command, case.is_durable, trial.image_count)
         outcome = Outcome()
         for generation in range(trial.generation_count + 1):
@@ -308,5 +308,5 @@ class TrialRunner:
     def next_stage(case: Case, contents: Contents, image_count: int) -> Stage:
         """Returns the stage of the next generation: the session continues, or is created if the file is blank."""
         if not isinstance(contents, int):
-            return Stage(case.arguments, "", 0, MORE_COMMANDS, False, image_count)
-        return Stage(f"open {case.file}", "", contents, contents + MORE_COMMANDS, True, image_count)
+            return Stage(case.arguments, "", 0, MORE_COMMAND_COUNT, False, image_count)
+        return Stage(f"open {case.file}", "", contents, contents + MORE_COMMAND_COUNT, True, image_count)

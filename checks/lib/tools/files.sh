@@ -83,7 +83,7 @@ for arguments in "resume $folder/two.txt $folder/session.mcs" "trace $folder/ses
 status 1" "a session in use: $arguments"
 done
 
-# Checks a session that another program has open: `resume` reports that, and prints no answers.
+# Checks that `resume` reports a session that another program has open, and prints no answers.
 echo reset | new_session held
 if command -v flock > /dev/null; then
     verdict "$(outcome flock "$folder/held.mcs" ./mcs4 resume "$folder/two.txt" "$folder/held.mcs")" \

@@ -13,7 +13,7 @@ again: IAC
 }
 make_board_with_buzzer
 ./mcs4 project split examples/a_fault_to_find.mcsp "$folder/taken_apart"
-# Functions that write a file, whose name is their argument: a project, a sound, a coverage record.
+# Functions that write a project, a sound or a coverage record to a file. Argument: the name of the file.
 write_project() { ./mcs4 project join "$folder/taken_apart" "$1"; }
 write_sound() { ./mcs4 wave --wav "$1" "$folder/buzzer.mcs" 100000 rom0.0; }
 write_record() { ./mcs4 cover --lcov "$1" $lock/board.toml $lock/lock.asm $lock/lock.test > "$folder/covered"; }
