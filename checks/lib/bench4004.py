@@ -41,7 +41,7 @@ def parse_number(word: str) -> int:
 
 
 def reader_of(place: str) -> Callable[[Board], str]:
-    """Returns a function that reads the value of a place or of a board line."""
+    """Returns a function that reads the value of a place, such as `acc`, or the level of an I/O line."""
     if re.fullmatch(r"(rom|chain)\w+\.\w+|ram\w+\.\w+\.\w+", place):
         line = line_of(place)
         return lambda board: str(board.chips.level(line))

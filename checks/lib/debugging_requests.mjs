@@ -44,8 +44,8 @@ function sessionFile(name, lines) {
 }
 
 /**
- * Sends the requests that Visual Studio Code sends up to the first stop. Resolves to the results of three of them, and to the body of the
- * event `stopped`.
+ * Sends the requests that Visual Studio Code sends up to the first stop. Resolves to the capabilities, the results of two requests that set
+ * breakpoints, and the body of the event `stopped`.
  */
 async function begin(client, command, args, { watches = [], filterOptions = [], functions = [] } = {}) {
   const capabilities = await client.request("initialize", VSCODE);

@@ -289,7 +289,7 @@ def check_drawing_by_keyboard(browser):
     verdict("the text is unchanged after Ctrl+Z", board_text(browser), text_before)
 
 
-GET_WIDTH = "return Math.round(document.querySelector('#wiring-picture svg').getBoundingClientRect().width)"
+GET_PICTURE_WIDTH = "return Math.round(document.querySelector('#wiring-picture svg').getBoundingClientRect().width)"
 GET_ZOOM_BOUNDS = "return ['picture-smaller', 'picture-larger'].map((id) => document.getElementById(id).getAttribute('aria-disabled'))"
 IS_WHOLE_PICTURE_IN_VIEW = """
 const root = document.getElementById("wiring-picture");
@@ -312,44 +312,44 @@ def check_zoom(browser):
     choose_example(browser, "lock")
     browser.script("document.getElementById('wiring-tab').click()")
     browser.scroll_to("#wiring-picture")
-    width_before = browser.script(GET_WIDTH)
+    width_before = browser.script(GET_PICTURE_WIDTH)
     browser.click("#picture-larger")
-    verdict("a button enlarges the picture", abs(browser.script(GET_WIDTH) - width_before * 1.25) <= 1, True)
+    verdict("a button enlarges the picture", abs(browser.script(GET_PICTURE_WIDTH) - width_before * 1.25) <= 1, True)
     for _ in range(30):
         browser.click("#picture-larger")
-    largest_width = browser.script(GET_WIDTH)
+    largest_width = browser.script(GET_PICTURE_WIDTH)
     browser.click("#picture-larger")
-    verdict("the picture has a maximum size", (browser.script(GET_WIDTH), largest_width > width_before * 2), (largest_width, True))
+    verdict("the picture has a maximum size", (browser.script(GET_PICTURE_WIDTH), largest_width > width_before * 2), (largest_width, True))
     verdict("the button for a larger picture is disabled", browser.script(GET_ZOOM_BOUNDS), ["false", "true"])
     browser.click("#picture-fit")
-    verdict("Fit restores the width of the picture", browser.script(GET_WIDTH), width_before)
+    verdict("Fit restores the width of the picture", browser.script(GET_PICTURE_WIDTH), width_before)
     browser.script("document.querySelector('#wiring-picture .of-rom').focus()")
     browser.type_keys("--")
-    verdict("two presses of - reduce the picture", abs(browser.script(GET_WIDTH) - width_before / 1.25 ** 2) <= 1, True)
+    verdict("two presses of - reduce the picture", abs(browser.script(GET_PICTURE_WIDTH) - width_before / 1.25 ** 2) <= 1, True)
     drag(browser, f"{pin_selector('RAM 0.0 · 4002, out 3')} circle", f"{pin_selector('Lamps · 3, alarm')} circle")
     eventually(browser, "a wire can be drawn in the smaller picture", GET_DRAWING_STATUS, "Line ram0.0.3 is wired to lamp 2.")
     browser.click("#drawing-undo")
     eventually(browser, "the wire is undone", GET_DRAWING_STATUS, "Undone.")
     browser.script("document.querySelector('#wiring-picture .of-rom').focus()")
     browser.type_keys("-" * 20, 2, 2)
-    smallest_width = browser.script(GET_WIDTH)
+    smallest_width = browser.script(GET_PICTURE_WIDTH)
     browser.type_keys("-", 2, 2)
-    verdict("the picture has a minimum size, at which the button is disabled", (browser.script(GET_WIDTH), browser.script(GET_ZOOM_BOUNDS)), (smallest_width, ["true", "false"]))
+    verdict("the picture has a minimum size, at which the button is disabled", (browser.script(GET_PICTURE_WIDTH), browser.script(GET_ZOOM_BOUNDS)), (smallest_width, ["true", "false"]))
     verdict("the smallest picture is completely visible, and readable", (browser.script(IS_WHOLE_PICTURE_IN_VIEW), smallest_width >= width_before / 3), (True, True))
     browser.script("document.getElementById('picture-smaller').focus()")
     browser.type_keys([ENTER])
-    verdict("the disabled button does not change the picture, and keeps the focus", (browser.script(GET_WIDTH), browser.script("return document.activeElement.id")),
+    verdict("the disabled button does not change the picture, and keeps the focus", (browser.script(GET_PICTURE_WIDTH), browser.script("return document.activeElement.id")),
             (smallest_width, "picture-smaller"))
     browser.script("document.querySelector('#wiring-picture .of-rom').focus()")
     browser.type_keys("+" * 20, 2, 2)
-    verdict("+ enlarges the picture to the maximum size", browser.script(GET_WIDTH), largest_width)
+    verdict("+ enlarges the picture to the maximum size", browser.script(GET_PICTURE_WIDTH), largest_width)
     browser.type_keys("0")
-    verdict("0 restores the width of the picture", browser.script(GET_WIDTH), width_before)
+    verdict("0 restores the width of the picture", browser.script(GET_PICTURE_WIDTH), width_before)
     browser.script("document.getElementById('picture-fit').click()")
     part_under_pointer = browser.script(GET_PART_AT_POINT, 50, 40)
     verdict("the wheel scrolls the page", browser.script(TURN_WHEEL, -100, False), True)
     verdict("Ctrl and the wheel do not zoom the page", browser.script(TURN_WHEEL, -100, True), False)
-    verdict("Ctrl and the wheel zoom the picture at the pointer", (browser.script(GET_WIDTH) > width_before, browser.script(GET_PART_AT_POINT, 50, 40)), (True, part_under_pointer))
+    verdict("Ctrl and the wheel zoom the picture at the pointer", (browser.script(GET_PICTURE_WIDTH) > width_before, browser.script(GET_PART_AT_POINT, 50, 40)), (True, part_under_pointer))
     browser.click("#picture-fit")
 
 
@@ -480,8 +480,8 @@ def check_scan(browser):
 
 
 def check_text_with_errors(browser):
-    """Checks that the picture reports errors in the board's text, and that the report is gone when they are corrected. A title that is typed in the
-    text must appear in the picture."""
+    """Checks that the picture reports errors in the board's text, and that the report disappears when the errors are corrected. A title that is typed
+    in the text must appear in the picture."""
     text = board_text(browser)
     browser.script(PUT_INTO_EDITOR, BOARD_EDITOR, f"{text}\n[[lamp]]\n")
     eventually(browser, "the picture reports that the bench rejects the text", GET_DRAWING_STATE, re.compile("^The bench rejects the board's text"))

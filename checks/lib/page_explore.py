@@ -24,7 +24,7 @@ from web_driver import Chromium
 EDITOR = "#properties-editor"
 GET_PROPERTIES_STATUS = "return document.querySelector('#properties-editor .status-text').textContent"
 GET_BUTTON_LABEL = "return document.getElementById('explore').textContent"
-GET_ROWS = """return [...document.querySelectorAll('#property-list > li')].map((node) => [...node.querySelector('p').children]
+GET_PROPERTY_ROWS = """return [...document.querySelectorAll('#property-list > li')].map((node) => [...node.querySelector('p').children]
   .map((child) => child.textContent).filter(Boolean).join(' | '))"""
 GET_MARK = "return document.querySelector('#properties-tab .mark').textContent"
 GET_ERRORS = GET_TESTS_FAULTS.replace("tests", "properties")
@@ -94,7 +94,7 @@ def check_counterexample(browser, folder, mcs4):
     verdict("the status reports the broken property after the search", browser.script(GET_PROPERTIES_STATUS), "1 property is broken.")
     tool = start_explore_tool(folder, program, mcs4)
     output, _ = tool.communicate()
-    rows = browser.script(GET_ROWS)
+    rows = browser.script(GET_PROPERTY_ROWS)
     verdict("the number of rows, one for each property", len(rows), 8)
     verdict("the row shows how the property is broken", rows[0], re.compile(r"^not ok \| lamp open on only after press 4, .* \| broken by \d+ steps?, [\d,]+ cycles"))
     verdict("the other properties are not broken", rows[1:3], ["ok | never lamp open on and lamp locked on", "ok | never lamp open on and lamp alarm on"])
@@ -145,7 +145,7 @@ def check_counterexample_opened(browser):
     browser.wait_until("return document.getElementById('sessions').open", True)
     browser.click("#kept button[aria-label='open lock']")
     eventually(browser, "the old session is open again", GET_NAME, "lock")
-    eventually(browser, "the old session still shows its results", GET_ROWS, re.compile("^.'not ok . lamp open on only after"))
+    eventually(browser, "the old session still shows its results", GET_PROPERTY_ROWS, re.compile("^.'not ok . lamp open on only after"))
 
 
 def check_stop_button(browser):
@@ -195,7 +195,7 @@ def check_errors(browser):
     browser.click("#first-properties")
     start_search(browser, 3)
     eventually(browser, "the search reaches the goals of the sample text", GET_PROPERTIES_STATUS, "Nothing was found that breaks a property.", 20)
-    verdict("the row of a goal shows how it is reached", browser.script(GET_ROWS)[0], re.compile(r"^ok \| reach lamp locked on \| reached by \d+ steps?, "))
+    verdict("the row of a goal shows how it is reached", browser.script(GET_PROPERTY_ROWS)[0], re.compile(r"^ok \| reach lamp locked on \| reached by \d+ steps?, "))
 
 
 BOARD = 'lamp = [{ line = "ram0.0.0" }, { line = "ram0.0.1" }]\n[[rom]]\nchip = 0\nport = "0000"\n[[ram]]\nbank = 0\nchips = 1\n'
@@ -212,7 +212,7 @@ def check_small_program_proved(browser):
     set_text(browser, "properties", "test\nwait 1 to 20\nnever lamp 1 on\nnever lamp 0 on\nreach lamp 1 on\n")
     start_search(browser, 5)
     eventually(browser, "the search ends when all properties are decided", GET_PROPERTIES_STATUS, "1 property is broken. 1 goal was not reached.", 20)
-    verdict("the rows report the proved properties", [row for row in browser.script(GET_ROWS) if "states" in row][:2],
+    verdict("the rows report the proved properties", [row for row in browser.script(GET_PROPERTY_ROWS) if "states" in row][:2],
             ["ok | never lamp 1 on | proved for all inputs (2 states)", "not ok | reach lamp 1 on | never reached, for all inputs (2 states)"])
 
 
@@ -237,7 +237,7 @@ def check_search_on_phone(browser):
     verdict("the page does not scroll sideways on a phone", browser.script(MEASURE_OVERFLOW), 0)
     start_search(browser, 5)
     eventually(browser, "the search ends on a phone", GET_BUTTON_LABEL, "Search", 20)
-    eventually(browser, "the results on a phone", GET_ROWS, re.compile("never lamp 0 on"))
+    eventually(browser, "the results on a phone", GET_PROPERTY_ROWS, re.compile("never lamp 0 on"))
     verdict("the number of elements outside the phone's width", browser.script("""return [...document.querySelectorAll('#explore-results *')]
       .filter((each) => isShown(each) && each.getBoundingClientRect().right > innerWidth).length"""), 0)
     verdict("the results do not make the page scroll sideways", browser.script(MEASURE_OVERFLOW), 0)

@@ -102,7 +102,7 @@ def check_worker_restart(browser):
 
 
 # Puts 20,000,000 bytes of slow lines into the console's field. After a cancellation, the session must be as if none of them had been executed. The
-# field is hidden, because a browser would need minutes for its layout. `longest` becomes the longest time in milliseconds for which the page was
+# field is hidden, because a browser would need minutes for its layout. `longest` is the longest time so far, in milliseconds, for which the page was
 # blocked.
 START_LONG_WORK = """
 document.getElementById("lines").style.display = "none";
@@ -135,7 +135,7 @@ REMOVE_FLAGS = "for (const key of Object.keys(localStorage)) if (key.startsWith(
 UNFINISHED_NOTICE = 'The session "die" was not opened automatically: the last time, opening it did not finish.'
 GET_LAST_LOG_ENTRY = "return document.getElementById('log').lastElementChild.textContent"
 HAS_PROGRESS = "return document.querySelector('#work progress').value > 0"
-GET_LONGEST_BLOCK = "clearInterval(window.ticking); return window.longest"
+GET_LONGEST_BLOCKED_TIME = "clearInterval(window.ticking); return window.longest"
 
 
 def check_long_work(browser, page):
@@ -151,7 +151,7 @@ def check_long_work(browser, page):
     eventually(browser, "long work shows its progress", HAS_PROGRESS, True, 60)
     browser.click("#cancel")
     eventually(browser, "long work can be cancelled", GET_NOTICE, re.compile("It was cancelled. The session is as it was before."), 30)
-    print(f"during long work the page answers at least every {browser.script(GET_LONGEST_BLOCK):.0f} ms in {browser.name}")
+    print(f"during long work the page answers at least every {browser.script(GET_LONGEST_BLOCKED_TIME):.0f} ms in {browser.name}")
     browser.script("const area = document.getElementById('lines'); area.value = ''; area.style.display = ''")
     verdict("cancelled work has no effect", send_lines(browser, "seq"), answer_before)
     dismiss_notice(browser)

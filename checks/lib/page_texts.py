@@ -22,9 +22,9 @@ document.body.dispatchEvent(event);
 return event.defaultPrevented"""
 GET_TEXTS = "return ['board', 'program'].map((name) => document.querySelector(`#${name}-editor .cm-editor`).lineEditor.getValue())"
 GET_PROGRAM_TEXT = "return document.querySelector('#program-editor .cm-editor').lineEditor.getValue()"
-GET_LINES = "return document.getElementById('lines').value"
+GET_CONSOLE_FIELD = "return document.getElementById('lines').value"
 GET_QUESTION = "return document.getElementById('ask').open ? document.getElementById('ask-title').textContent : ''"
-COUNT_SAVED = "return document.querySelectorAll('#kept li').length"
+COUNT_LISTED_SESSIONS = "return document.querySelectorAll('#kept li').length"
 UNDO_BUTTON = "#notice button:not(.dismiss)"
 
 # A board and a program with comments, names and non-ASCII letters, which are lost unless the page saves the texts themselves.
@@ -133,7 +133,7 @@ def count_saved_sessions(browser):
     """Returns the number of sessions in the dialog, and leaves the dialog open."""
     browser.click("#sessions-button")
     browser.wait_until("return document.getElementById('sessions').open", True)
-    return browser.script(COUNT_SAVED)
+    return browser.script(COUNT_LISTED_SESSIONS)
 
 
 def check_example_saved_later(browser):
@@ -152,12 +152,12 @@ def check_example_saved_later(browser):
     rename_session(browser, "my die")
     verdict("the title of the browser tab has the new name", browser.script("return document.title"), "my die - Fethsaim")
     choose_example(browser, "lamps")
-    verdict("the example's lines are in the console's field", browser.script(GET_LINES) != "", True)
+    verdict("the example's lines are in the console's field", browser.script(GET_CONSOLE_FIELD) != "", True)
     choose_example(browser, "die")
-    verdict("another example removes these lines", browser.script(GET_LINES), "")
+    verdict("another example removes these lines", browser.script(GET_CONSOLE_FIELD), "")
     browser.script("document.getElementById('lines').value = 'poke r5 9'")
     choose_example(browser, "traffic light")
-    verdict("another example keeps typed lines", browser.script(GET_LINES), "poke r5 9")
+    verdict("another example keeps typed lines", browser.script(GET_CONSOLE_FIELD), "poke r5 9")
     browser.script("document.getElementById('lines').value = ''")
     return count_before + 1
 
@@ -167,15 +167,15 @@ def check_deleting(browser, count):
     verdict("the number of saved sessions after more examples were opened", count_saved_sessions(browser), count)
     browser.click("#choose-all")
     browser.click("#delete-chosen")
-    eventually(browser, "all chosen sessions are deleted", COUNT_SAVED, 0)
+    eventually(browser, "all chosen sessions are deleted", COUNT_LISTED_SESSIONS, 0)
     verdict("the focus stays in the dialog", browser.script("return document.activeElement.closest('#sessions') !== null"), True)
     browser.click(UNDO_BUTTON)
-    eventually(browser, "Undo restores the sessions", COUNT_SAVED, count)
+    eventually(browser, "Undo restores the sessions", COUNT_LISTED_SESSIONS, count)
     browser.click("#kept li button[aria-label^='delete']")
-    eventually(browser, "the number of sessions after one was deleted", COUNT_SAVED, count - 1)
+    eventually(browser, "the number of sessions after one was deleted", COUNT_LISTED_SESSIONS, count - 1)
     browser.click("#notice .dismiss")
     browser.click("#deleted button")
-    eventually(browser, "the list of deleted sessions restores the session", COUNT_SAVED, count)
+    eventually(browser, "the list of deleted sessions restores the session", COUNT_LISTED_SESSIONS, count)
     browser.click("#close-sessions")
 
 

@@ -397,7 +397,7 @@ def check_layout_shifts(browser, page, set_size):
 
 
 def check_touch_targets(browser, set_size):
-    """Checks that on a phone and on a tablet every visible control has at least 44 pixels, with the board and with the wiring."""
+    """Checks that on a phone and on a tablet every visible control is at least 44 pixels wide and high, in the board view and in the wiring view."""
     browser.send_command("Emulation.setTouchEmulationEnabled", enabled=True)
     for width, height in ((390, 844), (820, 1180)):
         set_size(browser, width, height, True)

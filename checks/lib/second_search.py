@@ -61,7 +61,7 @@ class InputLimits:
                 *(f"press {row} {column}" for row, column in self.keys), *(["test"] if self.test else []),
                 *([f"wait {self.wait}"] if self.wait else []), *([f"held {self.held}"] if self.held else [])]
 
-    def allow(self, levels: Levels) -> bool:
+    def allows(self, levels: Levels) -> bool:
         """Returns true if the limits allow these levels of keys and TEST."""
         if self.together is not None and len(levels[0]) > self.together:
             return False
@@ -203,7 +203,7 @@ class QuestionBoard(Board):
         self.mark_sequence: MarkSequence | None = None
 
 
-def value_with(board: QuestionBoard, keys_down: Iterable[Key]) -> int:
+def value_with_keys(board: QuestionBoard, keys_down: Iterable[Key]) -> int:
     """Returns the value of the selected port with these keys down."""
     chips = board.chips
     previous_keys, chips.pressed_keys = chips.pressed_keys, set(keys_down)
@@ -228,7 +228,7 @@ def is_mark_shown(board: QuestionBoard, mark: Mark) -> bool:
     if kind != "rom" or chip != chips.rom_src >> 4:
         return False
     line_levels = [value >> line & 1 for value in (
-        chips.read_port(chip), value_with(board, [key]), value_with(board, [other_key for other_key in all_keys(board) if other_key != key]))]
+        chips.read_port(chip), value_with_keys(board, [key]), value_with_keys(board, [other_key for other_key in all_keys(board) if other_key != key]))]
     return line_levels[0] == 1 and line_levels[2] == 0 if level == "down" else line_levels[0] == 0 and line_levels[1] == 1
 
 
@@ -372,14 +372,14 @@ def is_reading(board: QuestionBoard) -> bool:
 
 def port_values(board: QuestionBoard) -> dict[int, Levels]:
     """Returns the values that RDR can read, each with allowed levels that produce it. Tries all sets of allowed keys up to the maximum number of
-    keys. Keys that pull the same lines are interchangeable, so the sets contain one of them. Keys that pull no line are omitted."""
-    test, value_without_keys = allowed_test_levels(board)[-1], value_with(board, [])
-    keys_by_value = {value_with(board, [key]): key for key in allowed_keys(board)}
+    keys. Keys that pull the same lines to 1 are interchangeable, so the sets contain only one of them. Keys that pull no line are omitted."""
+    test, value_without_keys = allowed_test_levels(board)[-1], value_with_keys(board, [])
+    keys_by_value = {value_with_keys(board, [key]): key for key in allowed_keys(board)}
     keys = [key for value, key in keys_by_value.items() if value != value_without_keys]
     values: dict[int, Levels] = {}
     for count in range(min(len(keys), max_keys_down(board)) + 1):
         for keys_down in itertools.combinations(keys, count):
-            values.setdefault(value_with(board, keys_down), (frozenset(keys_down), test))
+            values.setdefault(value_with_keys(board, keys_down), (frozenset(keys_down), test))
     return values
 
 
@@ -399,9 +399,9 @@ def values_by_enumeration(board: QuestionBoard, max_keys: int) -> set[int] | Non
     if len(keys) > max_keys:
         return None
     all_levels = [(frozenset(itertools.compress(keys, pattern)), test) for pattern in itertools.product((0, 1), repeat=len(keys)) for test in (0, 1)]
-    allowed = [levels for levels in all_levels if board.limits.allow(levels)]
+    allowed = [levels for levels in all_levels if board.limits.allows(levels)]
     if name == "RDR":
-        return {value_with(board, keys_down) for keys_down, _test in allowed}
+        return {value_with_keys(board, keys_down) for keys_down, _test in allowed}
     return {test for _keys_down, test in allowed} if name == "JCN" and low % 2 == 1 else {0}
 
 
@@ -514,7 +514,7 @@ def is_met_when_driven(question: Question, rng: random.Random, cycles: int) -> b
 
 # ---- replaying a counterexample
 
-def commands(levels: Levels, previous: Levels) -> list[str]:
+def level_commands(levels: Levels, previous: Levels) -> list[str]:
     """Returns the session lines that change keys and TEST from the previous levels to new ones."""
     lines = [f"release {row} {column}" for row, column in sorted(previous[0] - levels[0])]
     lines += [f"press {row} {column}" for row, column in sorted(levels[0] - previous[0])]
@@ -532,7 +532,7 @@ def replay_lines(question: Question, path: list[int]) -> tuple[list[str], str]:
             return lines, f"value {index + 1} of the way {path}: " + ("it is met before" if has_failed else f"only {sorted(readable_values)} can be read at {board.pc:03X}")
         levels = readable_values[value]
         cycles, has_failed = run_to_next_state(board, levels, is_failure, question.pause)
-        lines += commands(levels, levels_before) + [f"run {part}" for part in run_lengths(cycles)]
+        lines += level_commands(levels, levels_before) + [f"run {part}" for part in run_lengths(cycles)]
         levels_before = levels
     return lines, "" if has_failed else f"nothing is met on the way {path}"
 
@@ -548,7 +548,7 @@ def excluded_input(limits: InputLimits, lines: list[str]) -> str:
             keys_down = keys_down | {key} if command == "press" else keys_down - {key}
         elif command == "test":
             test = int(words[0])
-        elif command == "run" and not limits.allow((keys_down, test)):
+        elif command == "run" and not limits.allows((keys_down, test)):
             return f"the limits exclude the keys {sorted(keys_down)} with TEST at {test}"
     return ""
 

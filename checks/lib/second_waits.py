@@ -31,7 +31,7 @@ from dataclasses import dataclass, field, replace
 from typing import NamedTuple
 
 from second_search import (
-    LEVELS_AT_POWER_ON, InputLimits, Levels, Question, QuestionBoard, all_keys, allowed_keys, allowed_test_levels, commands, failure_condition, load_state,
+    LEVELS_AT_POWER_ON, InputLimits, Levels, Question, QuestionBoard, all_keys, allowed_keys, allowed_test_levels, level_commands, failure_condition, load_state,
     max_keys_down, power_on, run_cycle, run_lengths, run_to_next_state, set_levels, state_of)
 
 # The maximum number of combinations of levels that the program tries. The program gives up if there are more.
@@ -114,8 +114,8 @@ class LiteralSearch:
         return tuple(time + 1 if key in keys_down else 0 for key, time in zip(self.limited_keys, times, strict=True))
 
     def ages_after(self, ages: int, times: DownTimes) -> int:
-        """Returns the ages after one cycle, with these times after it. Each change is one cycle older, and all ages from `wait` on are the same. Omits
-        the ages that allow no inputs for all later cycles. There are such inputs if the next change can release all keys in time."""
+        """Returns the ages after one cycle. `times` has the times for which keys have been down after this cycle. Each age grows by one cycle, up to
+        `wait`. Omits the ages at which the next change would be too late to release a key that is down."""
         older_ages = ages << 1
         older_ages = older_ages & (1 << self.wait + 1) - 1 | (older_ages >> self.wait + 1) << self.wait
         lowest_age = self.wait - self.held + max(times) if any(times) else 0
@@ -155,9 +155,9 @@ def literal_verdict(question: Question, max_cycles: int) -> str:
 # ---- the search by steps
 
 class Spacing(NamedTuple):
-    """The levels at which the last step began, or None before the first step, and two numbers. The age is `wait` at the first moment at which the
-    levels can change again. It is never above twice `wait`. `down` is the number of cycles, at most `held`, for which a key has certainly been down
-    if the keys have the same levels when the next step begins. It is 0 if no key is down at these levels."""
+    """What the search remembers of earlier changes. `last` is the levels at which the last step began, or None before the first step. `age` is at
+    most twice `wait`; as soon as it is `wait`, the levels can change again. `down` is at most `held`. If the keys are unchanged when the next step
+    begins, a key has been down for at least this number of cycles. `down` is 0 if no key is down at these levels."""
 
     last: Levels | None
     age: int
@@ -170,7 +170,7 @@ def can_begin_at(wait: int, spacing: Spacing, levels: Levels) -> bool:
 
 
 def age_at_begin(wait: int, spacing: Spacing, levels: Levels) -> int:
-    """Returns the age at the beginning of a step at these levels. The next change is later, so that the age is below `wait`."""
+    """Returns the age at the beginning of a step at these levels. It is below `wait`, because the next change is after the beginning of the step."""
     if spacing.last is None:
         return wait - 1
     return min(spacing.age if levels == spacing.last else spacing.age - wait, wait - 1)
@@ -230,8 +230,8 @@ class StepSearch:
         return self.steps[machine, levels]
 
     def next_states(self, machine: tuple, spacing: Spacing) -> Iterator[tuple[Levels, tuple | None, Spacing]]:
-        """Yields the levels at which the next step can begin, each with the next state. Its machine is None if the property fails. A step that reads
-        no input also begins at levels that the search chooses, as in the program."""
+        """Yields the levels at which the next step can begin, each with the machine and the spacing after the step. The machine is None if the
+        property fails. As in the program, the search also chooses levels for a step that reads no input."""
         for levels in self.levels:
             if can_begin_at(self.limits.wait, spacing, levels) and not is_held_too_long(self.limits.held, spacing, levels):
                 following, cycles = self.step(machine, levels)
@@ -243,7 +243,7 @@ class StepSearch:
         return Spacing(levels, age, down_after(self.limits, down_at_begin(spacing, levels), levels, cycles))
 
     def result(self) -> StepsResult:
-        """Searches, and returns the result."""
+        """Runs the search, and returns its result."""
         if self.is_failure(self.board):
             return StepsResult("may fail", 1)
         if len(self.levels) > MAX_LEVELS:
@@ -292,7 +292,7 @@ def steps_of(question: Question, path: list[Levels]) -> tuple[list[Change], int,
     board, is_failure, moment, step_starts = power_on(question), failure_condition(question), 0, []
     has_failed = is_failure(board)
     for index, levels in enumerate(path):
-        if has_failed or not question.limits.allow(levels) or not levels[0] <= set(all_keys(board)):
+        if has_failed or not question.limits.allows(levels) or not levels[0] <= set(all_keys(board)):
             return step_starts, moment, f"step {index + 1}: " + ("the property fails before" if has_failed else f"{levels} is not allowed")
         step_starts.append((moment, levels))
         cycles, has_failed = run_to_next_state(board, levels, is_failure, question.pause, counts_idle_cycles=True)
@@ -340,15 +340,15 @@ def earliest_changes(step_starts: list[Change], limits: InputLimits) -> list[Cha
     # Each constraint (i, j, cycles) means: change `i` happens at least `cycles` cycles after change `j`.
     constraints = [(index, index - 1, limits.wait) for index in range(2, len(changes))]
     constraints += [(pressed, released, -limits.held) for pressed, released in presses_of(changes) if limits.held]
-    moments = [moment for moment, _levels in changes]
+    change_cycles = [moment for moment, _levels in changes]
     previous_moments: list[int] = []
-    while moments != previous_moments:
-        previous_moments = [*moments]
+    while change_cycles != previous_moments:
+        previous_moments = [*change_cycles]
         for index, other, cycles in constraints:
-            moments[index] = max(moments[index], moments[other] + cycles)
-        if any(moment > last for moment, last in zip(moments, latest, strict=True)):
+            change_cycles[index] = max(change_cycles[index], change_cycles[other] + cycles)
+        if any(moment > last for moment, last in zip(change_cycles, latest, strict=True)):
             return None
-    return [(moment, levels) for moment, (_earliest, levels) in zip(moments, changes, strict=True)]
+    return [(moment, levels) for moment, (_earliest, levels) in zip(change_cycles, changes, strict=True)]
 
 
 def limit_error(limits: InputLimits, changes: list[Change]) -> str:
@@ -357,7 +357,7 @@ def limit_error(limits: InputLimits, changes: list[Change]) -> str:
     moments = [moment for moment, _levels in changes[1:]]
     if any(earlier + limits.wait > later for earlier, later in itertools.combinations(moments, 2)):
         return f"the changes at {moments} are less than {limits.wait} cycles apart"
-    if excluded := [levels for _moment, levels in changes if not limits.allow(levels)]:
+    if excluded := [levels for _moment, levels in changes if not limits.allows(levels)]:
         return f"{excluded} is not allowed"
     if limits.held and (changes and changes[-1][1][0] or any(
             changes[released][0] - changes[pressed][0] > limits.held for pressed, released in presses_of(changes))):
@@ -400,7 +400,7 @@ def replay_steps(question: Question, path: list[Levels]) -> tuple[list[str], str
     levels_before = LEVELS_AT_POWER_ON
     shown_changes = [(moment, levels) for moment, levels in changes if moment < cycle_count]
     for (moment, levels), (next_moment, _levels) in itertools.pairwise([*shown_changes, (cycle_count, LEVELS_AT_POWER_ON)]):
-        lines += commands(levels, levels_before) + [f"run {part}" for part in run_lengths(next_moment - moment)]
+        lines += level_commands(levels, levels_before) + [f"run {part}" for part in run_lengths(next_moment - moment)]
         levels_before = levels
     return lines, limit_error(limits, changes) or change_error(question, changes, cycle_count)
 

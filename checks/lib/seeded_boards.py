@@ -48,7 +48,7 @@ class Wiring:
         self.lamps = rng.choices(self.lines, k=rng.choice([0, 3, 8, 20])) if self.lines else []
 
     def chain(self) -> tuple[str, str, int]:
-        """Returns the clock and the data of a chain, usually on the same port, and its number of chips."""
+        """Returns the clock line and the data line of a chain, usually on the same port, and the number of chips in the chain."""
         lines = self.rng.choice(self.outputs)
         data_lines = lines if self.rng.random() < 0.8 else self.rng.choice(self.outputs)
         return self.rng.choice(lines), self.rng.choice(data_lines), self.rng.choice([1, 2, 3, 8, 8])
@@ -165,7 +165,7 @@ class Program:
         return {address: NUMBER_LIKE_NAMES[i] if i < len(NUMBER_LIKE_NAMES) else f"l{address:03X}" for i, address in enumerate(labelled_addresses)}
 
     def target(self, address: int, name: str) -> str:
-        """Returns the target of a jump as a name or a number, usually that of an instruction."""
+        """Returns the target of a jump as a name or a number. Usually an instruction is at the target."""
         if address in self.loops:
             return self.names.get(self.loops[address], f"0x{self.loops[address]:03X}")
         page = (address + 2) % ADDRESS_COUNT >> 8 if name in ("JCN", "ISZ") else self.rng.choice(self.wiring.pages)
@@ -208,7 +208,7 @@ class SeededSession:
         return ["wire", *self.board_text, ".", "asm", *self.program_text, "."]
 
     def address(self) -> int:
-        """Returns an address, usually of an instruction. Often the instruction is just ahead of a loop that clocks a chain, or at the end of a page."""
+        """Returns an address, usually of an instruction. Often, a loop that clocks a chain follows it, or it is at the end of a page."""
         loops = [target_address - 3 for target_address in self.program.loops.values()]
         if loops and self.rng.random() < 0.3:
             return self.rng.choice(loops)

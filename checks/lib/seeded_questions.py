@@ -67,9 +67,9 @@ class ReadingProgram(Program):
         register = rng.choice(self.registers)
         kind = rng.random()
         if kind < 0.30:
-            return self.selection_phrases(rng.randrange(8)) + ["RDR"] + self.use_phrases(register)
+            return self.selection_phrases(rng.randrange(8)) + ["RDR"] + self.phrases_that_use(register)
         if kind < 0.55:
-            return [f"JCN {rng.choice([1, 1, 9, 9, 3, 5, 7, 11, 13, 15])}", *self.use_phrases(register)]
+            return [f"JCN {rng.choice([1, 1, 9, 9, 3, 5, 7, 11, 13, 15])}", *self.phrases_that_use(register)]
         if kind < 0.65:
             return [f"INC R{register}"] if rng.random() < 0.5 else [f"ISZ R{register}"]
         if kind < 0.75:
@@ -77,10 +77,10 @@ class ReadingProgram(Program):
         if kind < 0.80:
             return [rng.choice(["JMS", "BBL 1", f"LDM {rng.randrange(16)}", "JUN"])]
         if kind < 0.88:
-            return [rng.choice(["RDM", "ADM", "SBM", "RD0", "RD1"]), *self.use_phrases(register)]
+            return [rng.choice(["RDM", "ADM", "SBM", "RD0", "RD1"]), *self.phrases_that_use(register)]
         return [self.any_instruction(register, register // 2)] if rng.random() < 0.3 else [rng.choice(CHIPLESS_INSTRUCTIONS)]
 
-    def use_phrases(self, register: int) -> list[str]:
+    def phrases_that_use(self, register: int) -> list[str]:
         """Returns instructions that use a value that was read."""
         rng = self.rng
         written = [name for name in CODES_WITHOUT_OPERAND if name.startswith("W") and name != "WPM"]
@@ -113,7 +113,7 @@ class KeyReadingProgram(ReadingProgram):
     def loop_phrases(self) -> list[str]:
         """Returns instructions for the loop, which usually read the columns and use the value."""
         if self.rng.random() < 0.6:
-            return self.selection_phrases(self.rng.randrange(8)) + ["RDR"] + self.use_phrases(self.rng.choice(self.registers))
+            return self.selection_phrases(self.rng.randrange(8)) + ["RDR"] + self.phrases_that_use(self.rng.choice(self.registers))
         return super().loop_phrases()
 
 

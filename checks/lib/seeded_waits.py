@@ -68,7 +68,7 @@ def pattern_question(rng: random.Random, wiring: KeyWiring, levels: list[int] | 
         level = 1 - level if rng.random() < 0.9 else level
         column, reads_test = (rng.randrange(len(wiring.columns)), rng.random() < 0.4) if rng.random() < 0.3 and not levels else (column, reads_test)
     question = Question(wiring.text(), program)
-    # Time limits and marks are rarer if there are levels: then the property often fails without them.
+    # If `levels` are given, time limits and marks are rarer, because the property then often fails without them.
     kind = rng.random() * (3 if levels else 1)
     if kind < 0.2:
         question.program += ["late:", *rng.randrange(20, 60) * [" NOP"]]
@@ -101,7 +101,7 @@ def add_marks(question: Question, rng: random.Random, wiring: KeyWiring, marks: 
 
 
 def limits_to_few_inputs(rng: random.Random, keys: list[Key]) -> InputLimits:
-    """Returns limits that allow few levels of the keys of a board."""
+    """Returns limits that allow only a few combinations of key and TEST levels."""
     if len(keys) <= MAX_KEYS and rng.random() < 0.5:
         return InputLimits(rng.choice([None, None, None, 1, 2]))
     return InputLimits(rng.choice([None, None, None, 1, 2]), True, rng.sample(keys, rng.randrange(min(len(keys), MAX_KEYS) + 1)), rng.random() < 0.7)
@@ -185,7 +185,7 @@ def question_at_smallest_held(rng: random.Random) -> tuple[Question, bool]:
     this is more than `wait`."""
     question = with_wait(random_held_question(rng, levels_of_presses(rng)), rng.randrange(2, MAX_WAIT // 3))
     if rng.random() < 0.75:
-        # The levels cannot change twice during a step.
+        # With such a pause, every step is shorter than `wait`, so the levels cannot change twice during a step.
         question.pause = min(question.pause, question.limits.wait - 1)
     question.max_states = MAX_STATES
     smallest = smallest_failing_held(question)

@@ -41,7 +41,7 @@ def chain_line(chain, bit):
 
 
 def name_of(line):
-    """Returns the name of a line in a board's text, for example rom0.3."""
+    """Returns the name of an I/O line in a board's text, for example rom0.3."""
     kind, *numbers = line
     return ("rom{}.{}", "ram{}.{}.{}", "chain{}.{}")[kind].format(*numbers)
 
@@ -144,10 +144,10 @@ class State:
             self.owed = 0
             return
         code = self.rom[self.counter]
-        second = self.rom[(self.counter + 1) % 4096]
+        second_byte = self.rom[(self.counter + 1) % 4096]
         self.counter = (self.counter + 1) % 4096
         if code >> 4 == 0x4:
-            self.counter = (code & 15) * 256 + second
+            self.counter = (code & 15) * 256 + second_byte
             self.owed = 1
         elif code >> 4 == 0x6:
             self.registers[code & 15] = (self.registers[code & 15] + 1) % 16

@@ -61,7 +61,7 @@ class Reader:
 # --- boards
 
 def has_line(board, line):
-    """Returns true if a board has a line. The numbers that this kind of line does not use must be 0."""
+    """Returns true if a board has an I/O line. `line` must have 0 for each number that this kind of line does not use."""
     kind, number, second, third = line
     if kind == 0:
         return number in board.roms and second < 4 and third == 0
@@ -71,7 +71,7 @@ def has_line(board, line):
 
 
 def is_input(board, line):
-    """Returns true if a line is an input. The first character of a port is its line 3."""
+    """Returns true if an I/O line is an input. The first character of a port's text is the port's line 3."""
     return has_line(board, line) and line[0] == 0 and board.roms[line[1]][3 - line[2]] == "i"
 
 

@@ -12,7 +12,7 @@ import time
 import urllib.error
 import urllib.request
 
-from browser_driver import BEFORE_SCRIPTS, ELEMENT_KEY, BrowserDriver, DriverError
+from browser_driver import SCRIPT_PRELUDE, ELEMENT_KEY, BrowserDriver, DriverError
 
 # Scripts that dispatch the events of a touch, and of a click with the secondary mouse button, for drivers that cannot perform these actions.
 TOUCH_ELEMENT = """
@@ -69,7 +69,7 @@ class WebDriver(BrowserDriver):
 
     def script(self, code, *arguments):
         """Runs a script in the page, and returns its result."""
-        return self._request_session("POST", "/execute/sync", {"script": BEFORE_SCRIPTS + code, "args": list(arguments)})
+        return self._request_session("POST", "/execute/sync", {"script": SCRIPT_PRELUDE + code, "args": list(arguments)})
 
     def find(self, selector):
         """Returns the id of the first element that a selector matches."""

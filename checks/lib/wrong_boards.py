@@ -16,7 +16,7 @@ CHARACTERS = "\"'[]{}=.,#\\ \t0123456789abcdeiorxINF_-+:"
 
 
 def random_line_name(rng, tables):
-    """Returns the name of a line, usually one of a part that the board has."""
+    """Returns the name of an I/O line. Usually the board has the chip or the chain of this line."""
     present_chips = [table.get("chip") for table in tables["rom"]] if rng.random() < 0.7 else []
     chip = rng.choice([*present_chips, rng.randrange(16)])
     return rng.choice([f"rom{chip}.{rng.randrange(4)}", f"rom{chip}.{rng.randrange(4)}", f"chain0.{rng.randrange(20)}",

@@ -131,16 +131,16 @@ class History:
         return "beginning" if event_number < first_answer + BEGINNING_EVENTS else "serving"
 
     def selections_after(self, event: Event, pending: list[int]) -> list[tuple[str, dict[int, Part]]]:
-        """Returns some of the states in which the pending writes can be on the disk after an event. Each has a name, and the part of each write that
-        is on the disk."""
+        """Returns some of the ways in which the pending writes can have reached the disk after an event. Each has a name (none, all or some), and the
+        parts of the writes that are on the disk."""
         selections: list[tuple[str, dict[int, Part]]] = [("none", {}), ("all", dict.fromkeys(pending))]
         if event.kind in ("write", "flushed"):
             selections += [("some", self.random_parts(pending)) for _ in range(IMAGES_PER_WRITE * min(len(pending), MAX_PENDING))]
         return selections
 
     def random_parts(self, pending: list[int]) -> dict[int, Part]:
-        """Returns random parts of these writes: all, none, or some of the sectors or blocks of each one. Omits the writes that did not reach the disk
-        at all."""
+        """Chooses at random how much of each pending write is on the disk: nothing, everything, or some of its sectors or blocks. Omits the writes
+        that did not reach the disk at all."""
         unit = BLOCK if self.needs_atomic_blocks else self.rng.choice((SECTOR, BLOCK))
         parts: dict[int, Part] = {}
         for write in pending:
@@ -151,7 +151,7 @@ class History:
                 parts[write] = unit, self.rng.getrandbits(-(-len(self.writes[write].data) // unit))
         return parts
 
-    def draw(self, images: list[Image], count: int) -> list[Image]:
+    def choose_images(self, images: list[Image], count: int) -> list[Image]:
         """Returns at most `count` of these images, in chronological order. Takes the same number of images from each phase, and more if another phase
         has too few."""
         groups = sorted(([image for image in images if image.phase == phase] for phase in PHASES), key=len)

@@ -126,9 +126,9 @@ class Sessions:
         first_answer, _, state = answers.removesuffix(end[1:]).partition(b"\n")
         return first_answer.decode().split(" ")[0], digest(state)
 
-    def commands_in(self, data: bytes) -> int | str:
-        """Returns the number of commands in a session file if the file has the state after these commands, otherwise a description, as `open_file`
-        does."""
+    def state_in_file(self, data: bytes) -> int | str:
+        """Returns the number of commands in a session file if the file has the state after these commands. Otherwise returns a description, as
+        `open_file` does."""
         key = hashlib.sha256(data).digest()
         if key not in self.known_contents:
             self.known_contents[key] = self.open_file(data)

@@ -99,7 +99,7 @@ class TrialRunner:
             start_time = time.monotonic()
             history = self.record(file_system, trial, case, stage)
             builder = ImageBuilder(self.disk, history)
-            images = history.draw(history.all_images(), stage.image_count)
+            images = history.choose_images(history.all_images(), stage.image_count)
             with self.examining():
                 examined_images = [self.examine(builder, file_system, trial, case, image) for image in images]
             results = self.report_results(trial, generation, history, examined_images, builder, time.monotonic() - start_time)
@@ -190,7 +190,7 @@ class TrialRunner:
         answer = self.machine.receive(self.machine.shell)
         if answer != f"size {FILE_BYTES}":
             return answer
-        return self.sessions.commands_in(bytes(self.output_disk.bytes[:FILE_BYTES]))
+        return self.sessions.state_in_file(bytes(self.output_disk.bytes[:FILE_BYTES]))
 
     @contextlib.contextmanager
     def examining(self) -> Iterator[None]:

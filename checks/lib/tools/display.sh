@@ -75,7 +75,7 @@ check_rejected 1 "display: $lock/board.toml has no display: a comment \`# displa
 printf '# display 0: four digits\n' > "$folder/board.toml"
 check_rejected 1 "display: $folder/board.toml: line 1: not a display: write \`# display 3: 8 digits\`, if needed with \`of 7 segments\`, \`with points\`, \`scanned by 7\`" \
     ./mcs4 display "$folder/board.toml" < "$folder/answers"
-# Checks that comments that name parts that the board lacks are rejected, as `test` rejects them.
+# Checks that `display` rejects comments about parts that the board lacks, with the same messages as `test`.
 board_of 8 '# display 0: 2 digits\n# printer rom0.1: ram0.0 0 1 feed\n' > "$folder/board.toml"
 echo "start: JUN start" > "$folder/idle.asm"
 printf 'test: dark\nexpect display 00\n' > "$folder/idle.test"
