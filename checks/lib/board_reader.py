@@ -74,8 +74,8 @@ class ParsedBoard:
         self.tables = list(tables_of(document))
 
     def first_error(self):
-        """Returns the first error: its number, the section, the number of the table, and the key. Where they do not apply, the section is "", the
-        number of the table 0, and the key None. Returns None if the board is valid."""
+        """Returns the first error: its number, the section, the number of the table, and the key. Uses "" for no section, 0 for no table, and None
+        for no key. Returns None if the board is valid."""
         for find_errors in (self.unknown_key_errors, self.missing_key_errors, self.value_errors, self.excess_errors, self.repetition_errors):
             for part in find_errors():
                 return part
@@ -161,7 +161,7 @@ class ParsedBoard:
                 yield from self.errors_of_lines(section, index, "line", [table["line"]], "ob")
 
     def errors_of_lines(self, section, index, key, names, allowed):
-        """Yields the errors of the lines that a key names. `allowed` contains the directions that the lines can have."""
+        """Yields the errors of the I/O lines that a TOML key names. `allowed` contains the directions that these lines can have."""
         directions = [self.direction(name) for name in names]
         if None in directions:
             yield 25, section, index, key

@@ -296,7 +296,7 @@ async function trySpeed() {
   await client.request("setFunctionBreakpoints", { breakpoints: [{ name: "far" }] });
   const start = performance.now();
   const stop = await client.runUntilStop("continue");
-  const time = (performance.now() - start) / 1000;
+  const seconds = (performance.now() - start) / 1000;
   const stepBackTimes = await measureTimes(20, () => client.runUntilStop("stepBack"));
   console.log(`speed: a step back after millions of cycles is reported in ${describeTimes(stepBackTimes)}`);
   for (const breakpoint of [{ name: "count3" }, { name: "turn", condition: "r1 = 0 and r0 = 0" }]) {
@@ -307,7 +307,7 @@ async function trySpeed() {
   }
   const { result } = await client.request("evaluate", { expression: "count 1", context: "repl" });
   verdict([stop.reason, /^count/.test(result)], ["function breakpoint", true], "a distant breakpoint");
-  console.log(`speed: ${(CYCLES_TO_BREAKPOINT / 1e6).toFixed(1)} million cycles to a breakpoint in ${time.toFixed(2)} s`);
+  console.log(`speed: ${(CYCLES_TO_BREAKPOINT / 1e6).toFixed(1)} million cycles to a breakpoint in ${seconds.toFixed(2)} s`);
   await client.endSession();
 }
 

@@ -63,10 +63,10 @@ async function begin(client, command, args, { watches = [], filterOptions = [], 
 /** Sends the requests that Visual Studio Code sends at each stop. Resolves to their results. */
 async function readStop(client) {
   await client.request("threads");
-  const top = await client.request("stackTrace", { threadId: 1, startFrame: 0, levels: 1 });
-  const rest = await client.request("stackTrace", { threadId: 1, startFrame: 1, levels: 19 });
-  const frames = [...top.stackFrames, ...rest.stackFrames];
-  verdict(frames.length, top.totalFrames, "the frames arrive in two parts");
+  const firstPart = await client.request("stackTrace", { threadId: 1, startFrame: 0, levels: 1 });
+  const secondPart = await client.request("stackTrace", { threadId: 1, startFrame: 1, levels: 19 });
+  const frames = [...firstPart.stackFrames, ...secondPart.stackFrames];
+  verdict(frames.length, firstPart.totalFrames, "the frames arrive in two parts");
   const { scopes } = await client.request("scopes", { frameId: frames[0].id });
   return { frames, scopes };
 }

@@ -180,11 +180,11 @@ async function checkGrammar(display, file) {
 async function main() {
   mkdirSync(`${folder}/run`, { mode: 0o700 });
   try {
-    const name = await startDisplay();
-    await checkProgram(name);
+    const displayName = await startDisplay();
+    await checkProgram(displayName);
     cpSync(new URL("../../editors/kate", import.meta.url), `${folder}/home/.local/share/org.kde.syntax-highlighting/syntax`, { recursive: true });
-    await checkGrammar(name, "lock.asm");
-    await checkGrammar(name, "board.toml");
+    await checkGrammar(displayName, "lock.asm");
+    await checkGrammar(displayName, "board.toml");
     printLine("end");
   } catch (error) {
     printLine(`the check failed: ${error.message}`);

@@ -27,11 +27,11 @@ def edit_phrases():
 
 def sweep_phrases():
     """Yields the table rows with the number of cases that each check tries in ./test and in ./test long."""
-    arguments_of = {check.name: (check.arguments.split(), check.long.split()) for check in CHECKS if check.long}
+    arguments_by_check = {check.name: (check.arguments.split(), check.long.split()) for check in CHECKS if check.long}
     for name, index, unit in (("locks", 0, "rounds"), ("assembler", 0, "seeded programs"), ("time", 0, "seeded boards and programs"),
                                ("time", 1, "sessions of tools"), ("prove", 0, "seeded questions"), ("calculator", 0, "seeded chains"),
                                ("explore", 0, "seconds"), ("page", 3, "seeded scripts")):
-        short_count, long_count = (f"{int(arguments[index]):,}" for arguments in arguments_of[name])
+        short_count, long_count = (f"{int(arguments[index]):,}" for arguments in arguments_by_check[name])
         yield f"| `{name}` | {unit} | {short_count} | {long_count} |"
 
 

@@ -66,7 +66,7 @@ def write_latch_with(is_edge: Callable[[int, int], bool], uses_new_data: bool) -
 
 
 def stop_at_first_instruction(board: Board, cycles: int, max_cycles: int, is_watch_hit: bool) -> str:
-    """Stops a run also at a breakpoint at its first instruction."""
+    """Also stops a run at a breakpoint at the run's first instruction."""
     return "break" if not board.owed and not board.is_at_invalid_code() and board.pc in board.breaks else CORRECT_STOP_REASON(board, cycles, max_cycles, is_watch_hit)
 
 
@@ -76,7 +76,7 @@ def stop_inside_instruction(board: Board, cycles: int, max_cycles: int, is_watch
 
 
 def end_before_other_reasons(board: Board, cycles: int, max_cycles: int, is_watch_hit: bool) -> str:
-    """Reports the end of a run even if a reason to stop that has precedence occurs in the same cycle."""
+    """Reports the end of a run even if the run has another reason to stop in the same cycle, which has precedence."""
     return "end" if cycles == max_cycles else CORRECT_STOP_REASON(board, cycles, max_cycles, is_watch_hit)
 
 
@@ -327,7 +327,8 @@ def age_of_free_change(wait: int, spacing: Spacing, levels: Levels) -> int:
 
 
 def age_without_maximum(is_same: bool) -> Callable[[int, Spacing, Levels], int]:
-    """Allows a next change before the beginning of the step, after a step at the same levels or at other ones."""
+    """Does not limit the age at the beginning of a step to `wait` - 1, so that the next change can be too early. If `is_same` is true, this happens
+    only if the last step had the same levels, otherwise only if it had other levels."""
     def age(wait: int, spacing: Spacing, levels: Levels) -> int:
         if spacing.last is None or is_same != (spacing.last == levels):
             return CORRECT_AGE_AT_BEGIN(wait, spacing, levels)

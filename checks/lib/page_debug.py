@@ -262,10 +262,10 @@ def check_replaced_source(browser, folder):
     browser.wait_until(GET_LINES_IN_MARGIN, margin_lines)
     list_before = browser.script(GET_BREAKPOINTS), browser.script(GET_BREAKPOINT_DETAILS)
     for length, text in (("short", "; a\n NOP\n"), ("long", "; a\n" + " NOP\n" * 40)):
-        other = folder / f"{length}.asm"
-        other.write_text(text)
+        replacement_file = folder / f"{length}.asm"
+        replacement_file.write_text(text)
         for action, undo in (("Undo", lambda: browser.click(UNDO_BUTTON)), ("Ctrl+Z", lambda: browser.script(UNDO_EDIT))):
-            browser.type_into("#file", str(other))
+            browser.type_into("#file", str(replacement_file))
             browser.wait_until(GET_NOTICE, re.compile(f"{length}.asm"))
             eventually(browser, f"a {length} source has none of the breakpoints of the source before it", GET_LINES_IN_MARGIN, "")
             undo()

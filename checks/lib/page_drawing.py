@@ -18,7 +18,7 @@ COUNT_HIGH_LINES = "return document.querySelectorAll('#wiring-picture .high').le
 # The label of the buzzer's sound button, or "" if there is none.
 GET_SOUND_LABEL = "return document.getElementById('sound').hidden ? '' : document.getElementById('sound-button').textContent"
 GET_FOCUSED_LABEL = "return document.activeElement.getAttribute('aria-label')"
-GET_TITLE = "return document.querySelector('#chosen > b').textContent"
+GET_SELECTED_PART_TITLE = "return document.querySelector('#chosen > b').textContent"
 GET_OFFERED_PINS = "return [...document.querySelectorAll('#wiring-picture .can-end')].map((node) => node.getAttribute('aria-label'))"
 INSERT_SCAN_LABEL = "Insert code that scans these keys"
 GET_PIN_NUMBERS = "return [...document.querySelectorAll('#wiring-picture [aria-label^=\"ROM 0\"] .number')].map((node) => node.textContent).join(' ')"
@@ -460,7 +460,7 @@ def check_scan(browser):
     choose_example(browser, "empty bench")
     show_text(browser, "wiring")
     browser.click("#shelf-keys")
-    eventually(browser, "the new keys are selected", GET_TITLE, re.compile("^Keys"))
+    eventually(browser, "the new keys are selected", GET_SELECTED_PART_TITLE, re.compile("^Keys"))
     verdict("the pin numbers of the chips", browser.script(GET_PIN_NUMBERS), "16 15 14 13")
     browser.click("#drawing-wire")
     eventually(browser, "the number of keys on the front panel", COUNT_KEYS, 4)

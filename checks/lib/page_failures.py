@@ -175,8 +175,8 @@ def page_without_feature(page, folder, code):
 
 
 def notice_after_reopening(browser, page, code=GET_NOTICE, expected=re.compile(".")):
-    """Opens a blank page and then the page. Waits until the script `code`, by default for the notice, returns an expected result. Returns this
-    result."""
+    """Opens a blank page and then the page. Waits until the script `code` returns an expected result, and returns this result. By default, the
+    script returns the notice."""
     browser.open("about:blank")
     browser.open(page.as_uri())
     return browser.wait_until(code, expected)

@@ -78,7 +78,8 @@ class LiteralSearch:
         self.wait, self.held = question.limits.wait, question.limits.held
         self.levels = all_levels(self.board)
         self.limited_keys = all_keys(self.board) if self.held else []
-        # The states of the machine that were seen, with a number for each, and the next one for each machine and levels (-1 if the property fails).
+        # The states of the machine that were seen, and the number of each. `successors` has the number of the next state, by the number of the state
+        # and the index of the levels (-1 if the property fails).
         self.machines: list[tuple] = []
         self.numbers: dict[tuple, int] = {}
         self.successors: dict[tuple[int, int], int] = {}

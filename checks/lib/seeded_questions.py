@@ -182,7 +182,7 @@ def add_stopwatch(question: Question, rng: random.Random, wiring: Wiring, boards
         question.begins = [[random_comparison(rng, wiring, boards)] for _row in range(rng.choice([1, 2]))]
         question.ends = [[random_comparison(rng, wiring, boards), *([("mistake", *MISTAKES)] if rng.random() < 0.2 else [])] for _row in range(rng.choice([1, 2]))]
     if rng.random() < 0.15:
-        # Compare the lowest byte of the number that the stopwatch shows.
+        # Adds a comparison of the lowest byte of the number that the stopwatch shows.
         question.ends.append([("in", "counter", 16, "whole", rng.randrange(1, 6), 255)])
     question.within = max(0, longest_time(question, rng) + rng.choice([-1, 0, 0, 0, 1, 3]))
 
@@ -204,8 +204,8 @@ def longest_time(question: Question, rng: random.Random) -> int:
 
 
 def add_marks(question: Question, rng: random.Random, wiring: Wiring) -> None:
-    """Adds marks that must be seen before a cell has a certain value. On a random walk, the cell gets this value for the first time after reads that
-    usually show these marks."""
+    """Adds marks that must be seen before a cell has a certain value. The cell gets this value for the first time during a random walk. Usually, the
+    earlier reads of the walk show these marks."""
     if rng.random() < 0.5:
         question.nevers = []
     cells, walk = cells_of(wiring), marks_on_walk(question, rng)
@@ -222,7 +222,7 @@ def add_marks(question: Question, rng: random.Random, wiring: Wiring) -> None:
     chosen_indexes = sorted(rng.sample(range(len(shown)), min(len(shown), rng.choice([1, 1, 1, 2, 2, 3]))))
     question.marks = [shown[index_of_mark] for index_of_mark in chosen_indexes] or [("up", 0, 0), ("down", 0, 0)][:rng.choice([1, 2])]
     if rng.random() < 0.15:
-        # Compare the number of marks that were seen.
+        # Adds a comparison of the number of marks that were seen.
         question.nevers.append([("in", "counter", 17, "whole", rng.randrange(1, len(question.marks) + 2), 255)])
 
 

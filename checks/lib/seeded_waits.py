@@ -19,7 +19,7 @@ MAX_WAIT, MAX_KEYS = 40, 3
 MAX_HELD = 70
 # The maximum number of states in a search by steps, and the maximum number of cycles from different states that a literal search runs.
 MAX_STATES, MAX_CYCLES = 1500, 12000
-# The maximum number of questions that are tried for a seed, until `wait` matters, and the maximum number of states of the searches that decide this.
+# For a seed, questions are tried until the answer to one depends on `wait`. The maximum number of tries, and of states in a search that decides this.
 MAX_ATTEMPTS, FEW_STATES = 6, 300
 
 
@@ -87,13 +87,13 @@ def pattern_question(rng: random.Random, wiring: KeyWiring, levels: list[int] | 
 def add_time_limit(question: Question, rng: random.Random) -> None:
     """Adds a stopwatch that measures the time of a pass through the program's loop. Its limit is below the time of a pass that sees all levels."""
     names = assemble(question.program)[2]
-    begin = comparisons_at_address({("counter", 4): names["loop"] >> 8, ("counter", 5): names["loop"] & 255})
-    question.begins, question.ends = [begin], [begin]
+    loop_start = comparisons_at_address({("counter", 4): names["loop"] >> 8, ("counter", 5): names["loop"] & 255})
+    question.begins, question.ends = [loop_start], [loop_start]
     question.within = names["late"] - names["loop"] + rng.randrange(10, 60)
 
 
 def add_marks(question: Question, rng: random.Random, wiring: KeyWiring, marks: list[Mark]) -> None:
-    """Adds marks: some of those that the program waits for, and usually another one, which it does not wait for."""
+    """Adds some of `marks`, which the program waits for. Usually also adds a mark that the program does not wait for."""
     question.marks = [mark for mark in marks if rng.random() < 0.8]
     if rng.random() < 0.7 or not question.marks:
         mark = rng.choice(["up", "down"]), rng.randrange(wiring.rows), rng.randrange(len(wiring.columns))

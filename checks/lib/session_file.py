@@ -26,12 +26,12 @@ def encoded_number(value, count):
 # --- boards and states
 
 def rom_line(chip, line):
-    """Returns the bytes that encode a line of a ROM chip's port."""
+    """Returns the bytes that encode an I/O line of a ROM chip's port."""
     return bytes([0, chip, line, 0])
 
 
 def ram_line(bank, chip, line):
-    """Returns the bytes that encode a line of a RAM chip's port."""
+    """Returns the bytes that encode an I/O line of a RAM chip's port."""
     return bytes([1, bank, chip, line])
 
 
@@ -48,8 +48,8 @@ def name_of(line):
 
 @dataclasses.dataclass
 class Board:
-    """A board: the ports by the ROM's number, the numbers of RAM chips by bank, chains as (clock, data, chips), keys as (chain, first, rows,
-    columns), and lamps as lines."""
+    """A board. `roms` has the port of each ROM, and `banks` the number of RAM chips in each bank. A chain is (clock, data, chips), and the keys are
+    (chain, first, rows, columns). `lamps` has the I/O lines of the lamps."""
     roms: dict = dataclasses.field(default_factory=dict)
     banks: dict = dataclasses.field(default_factory=dict)
     chains: list = dataclasses.field(default_factory=list)
@@ -160,20 +160,20 @@ class State:
 
     def run(self, cycles):
         """Runs a number of cycles, or up to a breakpoint. Returns the part of the answer with the number of cycles and the reason for the stop."""
-        start = self.loop_key()
+        start = self.changeable_state()
         done_cycles = skipped = 0
         while done_cycles + skipped < cycles:
             self.cycle()
             done_cycles += 1
             if not self.owed and self.counter in self.breakpoints:
                 return f" ran {done_cycles} break"
-            if self.loop_key() == start and skipped == 0:
+            if self.changeable_state() == start and skipped == 0:
                 # The program loops, so whole iterations are skipped.
                 skipped = (cycles - done_cycles) // done_cycles * done_cycles
         return f" ran {cycles} end"
 
-    def loop_key(self):
-        """Returns the parts of the state that the instructions of the checks can change."""
+    def changeable_state(self):
+        """Returns all parts of the state that the instructions in `cycle` can change. If they repeat, the program loops."""
         return self.counter, self.owed, self.accumulator, self.carry, bytes(self.registers)
 
     def step(self):

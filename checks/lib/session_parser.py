@@ -30,7 +30,7 @@ def require(condition):
 
 
 class Reader:
-    """A reader of numbers and bytes from data, in order. It rejects the file if they are missing or too large."""
+    """Reads numbers and bytes from data, one after another. Rejects the file if the data ends too early, or if a number is too large."""
 
     def __init__(self, data):
         self.data, self.offset = bytes(data), 0

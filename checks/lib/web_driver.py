@@ -14,7 +14,7 @@ import urllib.request
 
 from browser_driver import SCRIPT_PRELUDE, ELEMENT_KEY, BrowserDriver, DriverError
 
-# Scripts that dispatch the events of a touch, and of a click with the secondary mouse button, for drivers that cannot perform these actions.
+# Scripts that dispatch the events of a touch, and of a click with the right mouse button, for drivers that cannot perform these actions.
 TOUCH_ELEMENT = """
 const [selector, time] = arguments;
 const node = document.querySelector(selector);

@@ -4,7 +4,7 @@ import random
 
 from board_spellings import TEXT_ENDS, EQUAL_SIGNS, KINDS, RawValue, seeded_board, random_tables_text
 
-# Invalid values for each key, besides INVALID_VALUES, which are invalid for every key.
+# Invalid values for each TOML key. (The values in INVALID_VALUES are invalid for every key.)
 INVALID_VALUES_BY_KEY = {
     "chip": [16, -1, 99], "port": ["000", "00000", "iii2", "IIII", "o000"], "bank": [8, -1], "chips": [0, 9, 5], "clock": ["chain0.0", "rom00.1"],
     "data": ["ram0.4.0", "rom0"], "chain": [4, -1], "first": [80, -1], "rows": [0, 11], "line": ["rom16.0", "chain4.0", "ram8.0.0", "led"],

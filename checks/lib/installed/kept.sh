@@ -101,10 +101,10 @@ while [ "$stop_count" -gt 0 ]; do
     signal=TERM
     if [ "$stop_count" -lt 6 ]; then signal=KILL; fi
     ./install --prefix "$prefix" > "$folder/output" 2>&1 &
-    stopped=$!
+    install_process=$!
     sleep "$(awk -v n="$stop_count" 'BEGIN { print 0.1 + n % 6 * 0.3 }')"
-    kill -s "$signal" "$stopped" 2> /dev/null || :
-    wait "$stopped" 2> /dev/null || :
+    kill -s "$signal" "$install_process" 2> /dev/null || :
+    wait "$install_process" 2> /dev/null || :
     if [ "$signal" = TERM ]; then verdict "$(ls -A "$prefix/lib")" fethsaim "nothing is left after a TERM"; fi
     if [ -e "$library_folder" ]; then verdict "$("$prefix/bin/mcs4" version | sed -n 2p)" "program: $library_folder/shipped/mcs4" "mcs4 after a run that was stopped"; fi
 done

@@ -26,37 +26,37 @@ class FileSystem(NamedTuple):
     shows_stale_data: bool = False
 
 
-MAKE_EXT = ("mkfs.ext4", "-q", "-F", "-N", "1024", "-E", "nodiscard,lazy_itable_init=0,lazy_journal_init=0")
+MAKE_EXT4 = ("mkfs.ext4", "-q", "-F", "-N", "1024", "-E", "nodiscard,lazy_itable_init=0,lazy_journal_init=0")
 MAKE_XFS = ("mkfs.xfs", "-q", "-f", "-K")
 MAKE_BTRFS = ("mkfs.btrfs", "-q", "-f", "-K")
 
 
-def ext(name: str, options: str = "", *arguments: str) -> FileSystem:
+def ext4_file_system(name: str, options: str = "", *arguments: str) -> FileSystem:
     """Returns an ext4 file system with this name and these mount options. `arguments` are further arguments of mkfs.ext4."""
-    return FileSystem(name, 64, (*MAKE_EXT, *arguments), "e2fsprogs", "ext4", options, "commit=1", ("ext4",))
+    return FileSystem(name, 64, (*MAKE_EXT4, *arguments), "e2fsprogs", "ext4", options, "commit=1", ("ext4",))
 
 
-def btrfs(name: str, options: str = "") -> FileSystem:
+def btrfs_file_system(name: str, options: str = "") -> FileSystem:
     """Returns a btrfs file system with this name and these mount options."""
     return FileSystem(name, 128, MAKE_BTRFS, "btrfs-progs", "btrfs", options, "commit=1", ("btrfs",), needs_atomic_blocks=True)
 
 
 FILE_SYSTEMS = {file_system.name: file_system for file_system in (
-    ext("ext4"),
-    ext("ext4-writeback", "data=writeback"),
-    ext("ext4-journal", "data=journal"),
-    ext("ext4-fast", "", "-O", "fast_commit"),
-    ext("ext4-async", "journal_async_commit,data=writeback"),
-    ext("ext4-1k", "", "-b", "1024"),
+    ext4_file_system("ext4"),
+    ext4_file_system("ext4-writeback", "data=writeback"),
+    ext4_file_system("ext4-journal", "data=journal"),
+    ext4_file_system("ext4-fast", "", "-O", "fast_commit"),
+    ext4_file_system("ext4-async", "journal_async_commit,data=writeback"),
+    ext4_file_system("ext4-1k", "", "-b", "1024"),
     FileSystem("xfs", 300, MAKE_XFS, "xfsprogs", "xfs", "", "", ("xfs",)),
-    btrfs("btrfs"),
-    btrfs("btrfs-nocow", "nodatacow"),
+    btrfs_file_system("btrfs"),
+    btrfs_file_system("btrfs-nocow", "nodatacow"),
     FileSystem("vfat", 32, ("mkfs.vfat",), "dosfstools", "vfat", "", "", ("vfat", "nls_cp437", "nls_ascii"), shows_stale_data=True),
     FileSystem("exfat", 32, ("mkfs.exfat",), "exfatprogs", "exfat", "", "", ("exfat", "nls_utf8"), shows_stale_data=True),
     # Linux before 6.5 does not always flush the disk when a file on this file system is synced.
-    ext("ext4-nojournal", "", "-O", "^has_journal")._replace(frequent_commit_options="", shows_stale_data=True),
+    ext4_file_system("ext4-nojournal", "", "-O", "^has_journal")._replace(frequent_commit_options="", shows_stale_data=True),
     # Without barriers the file system loses acknowledged data, which the check must detect.
-    ext("ext4-nobarrier", "nobarrier"),
+    ext4_file_system("ext4-nobarrier", "nobarrier"),
 )}
 
 # --- cases

@@ -19,7 +19,7 @@ from power.disk import Disk, Event
 SECTOR, BLOCK = 512, 4096
 # After each write and each flush, IMAGES_PER_WRITE random images are drawn for each pending write, for at most MAX_PENDING pending writes.
 IMAGES_PER_WRITE, MAX_PENDING = 12, 4
-# The number of events in the phase "beginning", which starts with the first answer.
+# The phase "beginning" of a session starts with its first answer, and has this number of events.
 BEGINNING_EVENTS = 20
 
 # The phase of a cut: before the program's first answer, soon after it, while a snapshot is written, or at any other time.

@@ -103,10 +103,10 @@ def check_permanent_images() -> bool:
     return is_old and disk.bytes[:SECTOR] == B and disk.undo_log is None
 
 
-CHECKS = (check_durable_after_flush, check_new_or_old_sectors, check_atomic_blocks, check_writes_to_one_sector, check_command_bounds,
+TESTS = (check_durable_after_flush, check_new_or_old_sectors, check_atomic_blocks, check_writes_to_one_sector, check_command_bounds,
           check_command_bounds_of_copy, check_permanent_images)
 
 
 def error_messages() -> list[str]:
-    """Returns a message for each result of images.py that differs from the known result."""
-    return [f"{check.__name__}: {check.__doc__}" for check in CHECKS if not check()]
+    """Runs the tests. Returns a message for each that fails."""
+    return [f"{check.__name__}: {check.__doc__}" for check in TESTS if not check()]

@@ -185,7 +185,7 @@ class Machine:
         return "\n".join("    " + line for line in output.decode(errors="replace").splitlines()[-12:])
 
     def accept_connection(self, name: str, listener: socket.socket) -> None:
-        """Accepts QEMU's connection to a line or a disk."""
+        """Accepts QEMU's connection to a serial line or to a disk."""
         channel, _ = listener.accept()
         if name == "disk":
             connection = Connection(self.disks, channel, self.end_connection)

@@ -1,4 +1,4 @@
-"""The sessions that checks/power serves: their commands, the state after each command, and the number of commands in a file that is found."""
+"""The sessions that checks/power serves: their commands, and the state after each command. Also finds how many commands a session file contains."""
 
 from __future__ import annotations
 

@@ -81,7 +81,7 @@ while read -r expected is_shown arguments; do
     ./mcs4 $arguments < "$answers" > "$folder/output" 2> "$folder/errors" || status=$?
     verdict "$status; $(LC_ALL=C grep -ac "$control_pattern" "$folder/errors")" "$expected; 0" "standard error of $arguments"
     case $tool in
-    # Output that is not for a terminal must contain the original bytes.
+    # If the output is not a terminal, it must contain the original bytes.
     import | listing) if [ "$expected" -eq 0 ]; then verdict "$(LC_ALL=C grep -acF "$control_characters" "$folder/output")" 1 "a file of $arguments"; fi ;;
     *) verdict "$(LC_ALL=C grep -ac "$control_pattern" "$folder/output")" 0 "standard output of $arguments" ;;
     esac
