@@ -262,7 +262,7 @@ def poke(board: Board, place: str, value_text: str) -> str:
 
 
 def run_answer(cycles_and_stop: tuple[int, str]) -> str:
-    """Returns the words after `ok N` for a run or a step, from its number of cycles and its reason for the stop."""
+    """Returns the words that follow `ok N` in the answer to a run or a step. Gets the number of cycles, and the reason for the stop."""
     return " ran {} {}".format(*cycles_and_stop)
 
 

@@ -35,13 +35,13 @@ CODES = operations_by_code()
 
 
 def line_of(name: str) -> Line:
-    """Parses the name of a line: `rom0.1`, `ram0.1.3`, `chain0.79`."""
-    numbers = name.lstrip("abcdefghijklmnopqrstuvwxyz")
-    return name.removesuffix(numbers), tuple(int(number) for number in numbers.split("."))
+    """Parses the name of an I/O line: `rom0.1`, `ram0.1.3`, `chain0.79`."""
+    number_text = name.lstrip("abcdefghijklmnopqrstuvwxyz")
+    return name.removesuffix(number_text), tuple(int(number) for number in number_text.split("."))
 
 
 class Chips:
-    """The chips, keys and lamps that a board's text describes."""
+    """The chips, keys and lamps of a board, which a board text describes."""
 
     def __init__(self, text: str = "") -> None:
         wiring = tomllib.loads(text)

@@ -18,7 +18,7 @@ def is_within(first, last):
 
 
 def numbers_of(name):
-    """Returns the kind and numbers in a line's name, or None if `name` is not a line's name."""
+    """Returns the kind and the numbers in the name of an I/O line, or None if `name` is not such a name."""
     if not isinstance(name, str):
         return None
     match = re.fullmatch(r"(rom|ram|chain)(0|[1-9]\d?)\.(0|[1-9]\d?)(?:\.(0|[1-9]))?", name, re.ASCII)
@@ -145,7 +145,7 @@ class ParsedBoard:
         return None
 
     def line_errors(self):
-        """Yields errors 25 and 26: missing lines, and lines with the wrong direction."""
+        """Yields errors 25 and 26: I/O lines that the board lacks, and I/O lines with the wrong direction."""
         chips = [table["chips"] for section, _index, table in self.tables if section == "chain"]
         for section, index, table in self.tables:
             if section == "chain":

@@ -7,7 +7,7 @@ import { Client } from "./dap_client.mjs";
 const TOP = new URL("../..", import.meta.url).pathname;
 const MCS4 = `${TOP}mcs4`;
 const [folder] = process.argv.slice(2);
-const STEPS = 200;
+const STEP_COUNT = 200;
 /** The number of cycles up to the breakpoint in the program of the speed measurement. */
 const CYCLES_TO_BREAKPOINT = [1, 2, 3, 4, 5].reduce((sum, register) => sum + 2 * 12 * 16 ** (5 - register), 3 * 12 * 16 ** 5);
 
@@ -70,18 +70,18 @@ const comparableState = ({ acc, cy, pc, dcl, test, r }) => ({ acc, cy, pc, dcl, 
 /** Compares steps of the adapter in an example, forward and back, with the steps of the native program. */
 async function trySteps(name) {
   const { lineAt, file } = createSession(name);
-  const expected = runProgram("open", file, "state\nstep\n".repeat(STEPS)).filter((line) => line.startsWith("state ")).map(valuesOf);
+  const expected = runProgram("open", file, "state\nstep\n".repeat(STEP_COUNT)).filter((line) => line.startsWith("state ")).map(valuesOf);
   const client = new Client(MCS4);
   await client.beginSession({ project: example(name).project });
   const events = [await client.waitForEvent("stopped")];
   const states = [];
   const lines = [];
-  for (let step = 0; step < STEPS; step++) {
+  for (let step = 0; step < STEP_COUNT; step++) {
     states.push(await machineState(client));
     lines.push((await client.fetchFrames())[0].line);
     events.push(await client.runUntilStop("stepIn"));
   }
-  verdict(states, expected.map(comparableState), `${name}: ${STEPS} steps`);
+  verdict(states, expected.map(comparableState), `${name}: ${STEP_COUNT} steps`);
   verdict(lines, expected.map(({ pc }) => lineAt.get(parseInt(pc, 16)) || 0), `${name}: the lines of the steps`);
   const backwardStates = [];
   for (let step = 0; step < 40; step++) {

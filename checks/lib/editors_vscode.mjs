@@ -77,7 +77,7 @@ async function sendShowRequests(client) {
 }
 
 /** Sends an edit and the requests that follow it, and a request that is cancelled. */
-async function change(client, { colours, resultId }) {
+async function changeDocument(client, { colours, resultId }) {
   const range = { start: { line: 38, character: 8 }, end: { line: 38, character: 11 } };
   client.notify("textDocument/didChange", { textDocument: { uri, version: 2 }, contentChanges: [{ range, rangeLength: 3, text: "JMP" }] });
   const [delta, report] = await Promise.all([
@@ -178,7 +178,7 @@ async function measureSpeed(client) {
 makeProject();
 const client = new Client(MCS4);
 await begin(client);
-await change(client, await sendShowRequests(client));
+await changeDocument(client, await sendShowRequests(client));
 await openOthers(client);
 await openDevices(client);
 await measureSpeed(client);

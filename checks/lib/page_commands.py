@@ -11,7 +11,7 @@ from web_driver import Chromium
 
 CONTROL, SHIFT, UP = "\ue009", "\ue008", "\ue013"
 F1, F5, F8, F9, F10, F11 = "\ue031", "\ue035", "\ue038", "\ue039", "\ue03a", "\ue03b"
-# The messages after stepping over and out. F5 can pause time inside a subroutine or before a call, so each message has two forms.
+# The messages after a step over and after a step out. F5 can pause time inside a subroutine or before a call, so each message has two forms.
 STEPPED_OVER_MESSAGE = re.compile(f"{STEPPED_MESSAGE.pattern}|^Returned to [0-9A-F]{{3}}, after ")
 STEPPED_OUT_MESSAGE = re.compile("^Returned to |no call is open here")
 IS_PALETTE_OPEN = "const palette = document.getElementById('palette'); return palette !== null && palette.open"

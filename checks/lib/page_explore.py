@@ -26,7 +26,7 @@ GET_PROPERTIES_STATUS = "return document.querySelector('#properties-editor .stat
 GET_BUTTON_LABEL = "return document.getElementById('explore').textContent"
 GET_PROPERTY_ROWS = """return [...document.querySelectorAll('#property-list > li')].map((node) => [...node.querySelector('p').children]
   .map((child) => child.textContent).filter(Boolean).join(' | '))"""
-GET_MARK = "return document.querySelector('#properties-tab .mark').textContent"
+GET_TAB_MARK = "return document.querySelector('#properties-tab .mark').textContent"
 GET_ERRORS = GET_TESTS_FAULTS.replace("tests", "properties")
 GET_FIGURES = "return document.getElementById('explore-figures').textContent"
 GET_CYCLES = "return Number(document.getElementById('cycles').textContent.match(/[\\d,]+/)[0].replace(/,/g, ''))"
@@ -88,7 +88,7 @@ def check_counterexample(browser, folder, mcs4):
     eventually(browser, "the search reports its steps", GET_FIGURES, re.compile("^[1-9][0-9,]* steps"))
     cycles_before = browser.script(GET_CYCLES)
     eventually(browser, "the status reports the broken property during the search", GET_PROPERTIES_STATUS, "1 property is broken so far.")
-    verdict("the tab reports the broken property", browser.script(GET_MARK), "1 broken")
+    verdict("the tab reports the broken property", browser.script(GET_TAB_MARK), "1 broken")
     eventually(browser, "the session continues during the search", f"{GET_CYCLES.replace('return ', 'return (')}) > {cycles_before}", True)
     eventually(browser, "the search ends", GET_BUTTON_LABEL, "Search", SEARCH_SECONDS + 30)
     verdict("the status reports the broken property after the search", browser.script(GET_PROPERTIES_STATUS), "1 property is broken.")
@@ -179,7 +179,7 @@ def check_errors(browser):
                ["line 1: write `wait TIME to TIME`, from 1 cycle to 100,000 (1.08 s), as in: wait 1 ms to 20 ms",
                 "line 2: the board has no lamp purple; it has: locked open alarm (column 7)",
                 "line 3: the board has no key A; it has: 1 2 3 4 5 6 7 8 9 * 0 #"])
-    verdict("the tab shows the number of errors", browser.script(GET_MARK), "3 errors")
+    verdict("the tab shows the number of errors", browser.script(GET_TAB_MARK), "3 errors")
     browser.click("#explore")
     eventually(browser, "no search starts if the text has errors", GET_PROPERTIES_STATUS, re.compile("^Nothing was run: Properties, line 1: write .* and 2 more.$"))
     for seconds, seed, message in ((0, 1, "Seconds must be a number from 1 to 86,400."), ("x", -1, re.compile("^Seconds .* The seed must be a number"))):

@@ -58,7 +58,7 @@ INSTALL_MODULE_METER = """
     return { exports: { ...exports, bench_serve_and_settle } };
   };
 })();"""
-# A script to insert before the page's own. It stores the fractions that INSTALL_MODULE_METER reports in `fractions`.
+# A script to insert before the page's own scripts. It stores the fractions that INSTALL_MODULE_METER reports in `fractions`.
 INSTALL_FRACTION_METER = """
 window.fractions = [];
 const listen = Worker.prototype.addEventListener;

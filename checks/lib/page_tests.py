@@ -18,7 +18,7 @@ GET_FAILURES = "return [...document.querySelectorAll('#test-list .wrong')].map((
 GET_COUNTS = "return [...document.querySelectorAll('#program-editor .mark-counts')].map((node) => node.textContent).filter(Boolean)"
 GET_PROFILE_LABELS = """return [...document.querySelectorAll('#profile-labels tr')]
   .map((row) => [...row.cells].map((cell) => cell.textContent).join(' ').trim())"""
-GET_MARK = "return document.querySelector('#tests-tab .mark').textContent"
+GET_TAB_MARK = "return document.querySelector('#tests-tab .mark').textContent"
 GET_ERRORS = "return [...document.querySelectorAll('#tests-editor .fault-list li')].map((node) => node.textContent)"
 GET_SELECTED = "return document.querySelector('#tests-editor .cm-editor').lineEditor.getSelection()"
 
@@ -35,7 +35,7 @@ def check_passing_tests(browser):
     run_tests(browser)
     eventually(browser, "the tests of the example pass", GET_TESTS_STATUS, "All 2 tests passed.")
     verdict("the results of both tests", browser.script(GET_RESULTS), ["ok the light goes", "ok each lamp is"])
-    verdict("the tab reports that the tests passed", browser.script(GET_MARK), "passed")
+    verdict("the tab reports that the tests passed", browser.script(GET_TAB_MARK), "passed")
     verdict("the program is paused", browser.script(GET_STATUS), re.compile("^Paused"))
     verdict("the page reports the coverage", browser.text_of("#coverage-status"),
             "20 of 20 instructions were run (100.0 %), 6 of 6 branch directions (100.0 %). Counts are in the margin.")
@@ -54,7 +54,7 @@ def check_failing_test(browser):
     verdict("an edit removes the counts", browser.script(GET_COUNTS), [])
     run_tests(browser)
     eventually(browser, "a test fails", GET_TESTS_STATUS, "1 of 2 tests failed.")
-    verdict("the tab reports the failure", browser.script(GET_MARK), "1 failed")
+    verdict("the tab reports the failure", browser.script(GET_TAB_MARK), "1 failed")
     verdict("the message about the failure, with its line", browser.script(GET_FAILURES), ["line 14 expect cycles 538: 536 cycles have passed, but the test expects 538"])
     browser.click("#test-list .wrong button")
     verdict("a click on the failure selects its line", browser.script(GET_SELECTED), "  expect cycles 538")
@@ -75,7 +75,7 @@ def check_errors(browser):
     eventually(browser, "errors are reported while the user types", GET_ERRORS,
                ["line 2: the board has no lamp green; it has: left middle right (column 9)",
                 "line 3: the board has no key x; its text names no keys (`# row 0: NAME ..`)"])
-    verdict("the tab shows the number of errors", browser.script(GET_MARK), "2 errors")
+    verdict("the tab shows the number of errors", browser.script(GET_TAB_MARK), "2 errors")
     browser.click(f"{TESTS_EDITOR} .send")
     eventually(browser, "tests with errors are not run", GET_TESTS_STATUS,
                "Nothing was run: Tests, line 2: the board has no lamp green; it has: left middle right (column 9), and 1 more.")

@@ -139,7 +139,7 @@ def check_invalid_numbers(browser):
 CLICK_REPEATEDLY = """
 for (let turn = 0; turn < 40; turn++) for (const id of arguments[0]) document.getElementById(id).click()"""
 CLICK_EXAMPLES = "for (const each of [...document.querySelectorAll('#examples .card, #examples button')].slice(0, 12)) each.click()"
-IS_SAME_SESSION = """
+IS_SESSION_SHOWN = """
 return document.getElementById("name").value !== "" && document.title.startsWith(document.getElementById("name").value)
   && document.getElementById("status").textContent !== "" """
 
@@ -152,7 +152,7 @@ def check_many_clicks(browser):
     browser.click("#sessions-button")
     browser.script(CLICK_EXAMPLES)
     browser.script("document.getElementById('sessions').close()")
-    eventually(browser, "one of twelve examples that were opened at once is shown", IS_SAME_SESSION, True)
+    eventually(browser, "one of twelve examples that were opened at once is shown", IS_SESSION_SHOWN, True)
     check_bench_answers(browser, "twelve examples at once")
 
 

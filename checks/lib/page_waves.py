@@ -20,7 +20,7 @@ GET_SPOKEN_VALUE = "return document.getElementById('wave-canvas').getAttribute('
 GET_NAMES = "return [...document.querySelectorAll('#wave-table th')].map((node) => node.textContent).join(' ')"
 LEFT, RIGHT, DOWN, HOME, END, ENTER = "\ue012", "\ue014", "\ue015", "\ue011", "\ue010", "\ue007"
 
-# Selects only the lines whose names are in the argument.
+# Selects the I/O lines whose names are in the argument, and no others, for the recording.
 CHOOSE_LINES = """
 document.getElementById("wave-choice").open = true;
 document.getElementById("wave-choice").dispatchEvent(new Event("toggle"));

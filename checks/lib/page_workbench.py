@@ -143,7 +143,7 @@ for (let node = walker.nextNode(); node; node = walker.nextNode()) {
   }
 }
 return words"""
-COUNT_LINES = """
+COUNT_VISIBLE_LINES = """
 const room = document.querySelector("#program-editor .cm-scroller").getBoundingClientRect();
 return [...document.querySelectorAll("#program-editor .cm-line")].map((line) => line.getBoundingClientRect())
   .filter(({ top, bottom }) => top >= room.top && bottom <= room.bottom).length"""
@@ -175,7 +175,7 @@ def check_first_glance(browser, page, set_size):
     browser.script("document.getElementById('record-where').value = 'before'")
     browser.click("#record")
     eventually(browser, "the recording is large", IS_TRACE_LARGE, True)
-    verdict(f"at least {MIN_LINES} lines of the source are visible", browser.script(COUNT_LINES) >= MIN_LINES, True)
+    verdict(f"at least {MIN_LINES} lines of the source are visible", browser.script(COUNT_VISIBLE_LINES) >= MIN_LINES, True)
     verdict("the debugger's panels are completely visible", browser.script(GET_WHOLE_PANELS, DEBUGGER_PANELS), DEBUGGER_PANELS)
     show_text(browser, "disassembly")
     for text in ("board", "wiring", "tests", "properties", "program"):

@@ -342,9 +342,9 @@ def earliest_changes(step_starts: list[Change], limits: InputLimits) -> list[Cha
     constraints = [(index, index - 1, limits.wait) for index in range(2, len(changes))]
     constraints += [(pressed, released, -limits.held) for pressed, released in presses_of(changes) if limits.held]
     change_cycles = [moment for moment, _levels in changes]
-    previous_moments: list[int] = []
-    while change_cycles != previous_moments:
-        previous_moments = [*change_cycles]
+    previous_cycles: list[int] = []
+    while change_cycles != previous_cycles:
+        previous_cycles = [*change_cycles]
         for index, other, cycles in constraints:
             change_cycles[index] = max(change_cycles[index], change_cycles[other] + cycles)
         if any(moment > last for moment, last in zip(change_cycles, latest, strict=True)):

@@ -49,9 +49,9 @@ class Wiring:
 
     def chain(self) -> tuple[str, str, int]:
         """Returns the clock line and the data line of a chain, usually on the same port, and the number of chips in the chain."""
-        lines = self.rng.choice(self.outputs)
-        data_lines = lines if self.rng.random() < 0.8 else self.rng.choice(self.outputs)
-        return self.rng.choice(lines), self.rng.choice(data_lines), self.rng.choice([1, 2, 3, 8, 8])
+        clock_lines = self.rng.choice(self.outputs)
+        data_lines = clock_lines if self.rng.random() < 0.8 else self.rng.choice(self.outputs)
+        return self.rng.choice(clock_lines), self.rng.choice(data_lines), self.rng.choice([1, 2, 3, 8, 8])
 
     def text(self) -> list[str]:
         """Returns the text of the board."""

@@ -61,8 +61,8 @@ def pattern_question(rng: random.Random, wiring: KeyWiring, levels: list[int] | 
         if reads_test:
             program += [f"read{n}: JCN {1 if level else 9}, {target}"]
         else:
-            to_carry = (int(wiring.columns[column][-1]) + 1) * [" RAR"]
-            program += [f"read{n}: RDR", *to_carry, f" JCN {10 if level else 2}, {target}"]
+            rotate_to_carry = (int(wiring.columns[column][-1]) + 1) * [" RAR"]
+            program += [f"read{n}: RDR", *rotate_to_carry, f" JCN {10 if level else 2}, {target}"]
             marks.append(("down" if level else "up", row, column))
         program += [line.replace("%d", str(n)) for line in delay_phrases(rng)]
         level = 1 - level if rng.random() < 0.9 else level
@@ -85,7 +85,7 @@ def pattern_question(rng: random.Random, wiring: KeyWiring, levels: list[int] | 
 
 
 def add_time_limit(question: Question, rng: random.Random) -> None:
-    """Adds a stopwatch that measures the time of a pass through the program's loop. Its limit is below the time of a pass that sees all levels."""
+    """Adds a stopwatch that measures each pass through the program's loop. If all reads of a pass return the right levels, it exceeds the limit."""
     names = assemble(question.program)[2]
     loop_start = comparisons_at_address({("counter", 4): names["loop"] >> 8, ("counter", 5): names["loop"] & 255})
     question.begins, question.ends = [loop_start], [loop_start]
@@ -140,9 +140,9 @@ def spaced_question(seed: int) -> Question:
     rng = random.Random(f"waits {seed}")
     for _attempt in range(1 if seed % 8 == 7 else MAX_ATTEMPTS):
         question = random_spaced_question(rng)
-        longest = largest_failing_wait(question)
-        question = with_wait(question, min(max(longest + rng.choice([0, 0, 1, 1, 1, rng.randrange(-3, 4)]), 2), MAX_WAIT))
-        if 2 <= longest < MAX_WAIT:
+        largest_wait = largest_failing_wait(question)
+        question = with_wait(question, min(max(largest_wait + rng.choice([0, 0, 1, 1, 1, rng.randrange(-3, 4)]), 2), MAX_WAIT))
+        if 2 <= largest_wait < MAX_WAIT:
             break
     if seed % 8 == 3:
         question.max_states = rng.randrange(4, 30)
@@ -181,8 +181,8 @@ def random_held_question(rng: random.Random, levels: list[int]) -> Question:
 
 
 def question_at_smallest_held(rng: random.Random) -> tuple[Question, bool]:
-    """Returns a random question with `wait`, and with about the smallest `held` with which a search by steps finds a failure. Also returns true if
-    this is more than `wait`."""
+    """Returns a random question with `wait` and `held`. Its `held` is near the smallest value with which a search by steps finds a failure. Also
+    returns true if this smallest value is more than `wait`."""
     question = with_wait(random_held_question(rng, levels_of_presses(rng)), rng.randrange(2, MAX_WAIT // 3))
     if rng.random() < 0.75:
         # With such a pause, every step is shorter than `wait`, so the levels cannot change twice during a step.
@@ -194,15 +194,16 @@ def question_at_smallest_held(rng: random.Random) -> tuple[Question, bool]:
 
 
 def question_at_largest_wait(rng: random.Random) -> tuple[Question, bool]:
-    """Returns a random question with the largest `wait` with which a key can be released and pressed between two reads. With `held`, it cannot be down
-    all the time. Also returns true if there is such a `wait`."""
+    """Returns a random question with the largest `wait` with which a key can be released and pressed between two reads. Its `held` does not allow a
+    key to be down all the time. Also returns true if there is such a `wait`."""
     question = with_held(random_held_question(rng, rng.choice([[1, 1], [0, 1, 1], [1, 1, 0]])), 2)
-    longest = largest_failing_wait(question)
-    return with_held(with_wait(question, max(longest, 2)), max(longest, 2) + rng.randrange(2)), 2 <= longest < MAX_WAIT
+    largest_wait = largest_failing_wait(question)
+    return with_held(with_wait(question, max(largest_wait, 2)), max(largest_wait, 2) + rng.randrange(2)), 2 <= largest_wait < MAX_WAIT
 
 
 def question_without_presses(rng: random.Random) -> tuple[Question, bool]:
-    """Returns a random question about levels that `held` does not limit: a key that is up, or TEST at 1. Also returns true."""
+    """Returns a random question about levels that `held` does not limit: a key that is up, or TEST at 1. Also returns true, because `held_question`
+    must accept each of these questions."""
     of_test = rng.random() < 0.5
     question = pattern_question(rng, FewKeyWiring(rng), rng.randrange(6, 10) * [int(of_test)], of_test)
     keys = [] if of_test else all_keys(power_on(question))[:MAX_KEYS]
@@ -212,10 +213,10 @@ def question_without_presses(rng: random.Random) -> tuple[Question, bool]:
 
 
 def held_question(seed: int) -> Question:
-    """Returns a random question with `wait` and `held`. It is usually the first one, among some attempts, for which `held` matters. The search for one
-    in eight may visit only a few states. One in sixteen has the largest `wait`, with which some properties hold without `held`."""
-    rng, most = random.Random(f"held {seed}"), question_at_smallest_held
-    make_question = (most, most, question_at_largest_wait, most, most, most, question_at_largest_wait, question_without_presses)[seed % 8]
+    """Returns a random question with `wait` and `held`. Tries some questions, and usually returns the first whose answer depends on `held`. For one
+    of eight seeds, the search may visit only a few states. For one of 16 seeds, `wait` is MAX_WAIT, so that some properties hold without `held`."""
+    rng, usual_maker = random.Random(f"held {seed}"), question_at_smallest_held
+    make_question = (usual_maker, usual_maker, question_at_largest_wait, usual_maker, usual_maker, usual_maker, question_at_largest_wait, question_without_presses)[seed % 8]
     for _attempt in range(3 * MAX_ATTEMPTS):
         question, is_chosen = make_question(rng)
         if is_chosen:

@@ -258,7 +258,7 @@ def press(row, column):
     return Command(f"press {row} {column}\n", bytes([3, row, column]), apply)
 
 
-def test_level(level):
+def set_test_level(level):
     """Returns the command that sets the level of TEST."""
     def apply(state):
         state.test = level

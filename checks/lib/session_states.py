@@ -1,4 +1,4 @@
-"""Valid and invalid states of session files, written manually from docs/FORMAT.md ("Bytes of a state")."""
+"""Valid and invalid states of session files, worked out manually from docs/FORMAT.md ("Bytes of a state")."""
 
 from session_file import Board, State, break_at, chain_line, press, ram_line, rom_line, watch, wire
 

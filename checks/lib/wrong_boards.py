@@ -42,7 +42,7 @@ def add_key(rng, tables):
 
 
 def set_invalid_value(rng, tables):
-    """Usually sets a key of one of the tables to an invalid value."""
+    """Chooses one of the tables and one of its TOML keys. If invalid values are known for this key, sets it to one of them."""
     if (table := random_table(rng, tables)) and (key := rng.choice([*table])) in INVALID_VALUES_BY_KEY:
         table[key] = rng.choice([*INVALID_VALUES_BY_KEY[key], rng.choice(INVALID_VALUES)])
 

@@ -47,11 +47,11 @@ class Image:
 
     @property
     def is_torn(self) -> bool:
-        """True if a block of the file system can be half old and half new, which the file system need not tolerate."""
+        """True if a block of the file system can be half old and half new in this image. A file system need not tolerate such a block."""
         return any(part is not None and part[0] < BLOCK for part in self.parts.values())
 
     def add_cut(self, event_number: int, min_commands: int | None, max_commands: int) -> None:
-        """Adds a cut after a later event that leaves the same image, and narrows the allowed numbers of commands."""
+        """Adds another cut, after a later event, that leaves the same image. Narrows the allowed numbers of commands to those that each cut allows."""
         self.last_event = event_number
         if min_commands is not None:
             self.min_commands = min_commands if self.min_commands is None else max(self.min_commands, min_commands)

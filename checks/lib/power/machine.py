@@ -37,7 +37,7 @@ PROCESSOR = "Nehalem"
 MEMORY_MIB = 512
 BOOT_SECONDS = 900
 # The seconds for which a disk holds back an answer, so that other answers can overtake it.
-ANSWER_DELAY = 0.0005
+ANSWER_DELAY_SECONDS = 0.0005
 
 
 class Kernel(NamedTuple):
@@ -203,10 +203,10 @@ class Machine:
         channel.close()
 
     def serve(self, seconds: float) -> None:
-        """Waits for data for at most this number of seconds, and serves it. If some requests to the disks are unanswered, waits only ANSWER_DELAY,
-        and then answers one for each disk. Raises PowerCheckError if QEMU has ended."""
+        """Waits for data for at most this number of seconds, and serves it. If some requests to the disks are unanswered, waits only
+        ANSWER_DELAY_SECONDS, and then answers one for each disk. Raises PowerCheckError if QEMU has ended."""
         busy_connections = [connection for connection in self.connections if connection.unanswered]
-        ready = self.selector.select(ANSWER_DELAY if busy_connections else seconds)
+        ready = self.selector.select(ANSWER_DELAY_SECONDS if busy_connections else seconds)
         for key, _ in ready:
             if isinstance(key.data, str):
                 assert isinstance(key.fileobj, socket.socket)

@@ -51,8 +51,8 @@ def commands(count: int) -> list[str]:
 
 
 def as_version_1(data: bytes) -> bytes:
-    """Returns the version 1 form of a session file whose snapshot, of version 2, has no watches: without the version byte and without the
-    number of watches."""
+    """Converts a session file of version 2, whose snapshot has no watches, to version 1. The snapshot then lacks the version byte and the number of
+    watches."""
     slot = SLOTS[data[8] % 2]
     start = slot + LENGTH_BYTES
     length = int.from_bytes(data[slot:start], "big")

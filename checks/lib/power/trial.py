@@ -306,7 +306,7 @@ class TrialRunner:
 
     @staticmethod
     def next_stage(case: Case, contents: Contents, image_count: int) -> Stage:
-        """Returns the stage of the next generation: the session continues, or is created if the file is blank."""
+        """Returns the stage of the next generation. It continues the session, or creates one if the file is blank."""
         if not isinstance(contents, int):
             return Stage(case.arguments, "", 0, MORE_COMMAND_COUNT, False, image_count)
         return Stage(f"open {case.file}", "", contents, contents + MORE_COMMAND_COUNT, True, image_count)
