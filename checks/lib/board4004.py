@@ -88,7 +88,7 @@ class Chips:
         return sum(self.level((kind, (*chip, k))) << k for k in range(4))
 
     def is_pulled(self, line: Line) -> int:
-        """Returns the level of an input line. It is 1 if a pressed key connects the line to a driven row."""
+        """Returns the level of an input line: 1 if a pressed key connects the line to a driven row, otherwise 0."""
         return int(any(self.columns[column] == line and self.chains[self.keys["chain"]][self.keys["first"] + row] for row, column in self.pressed_keys))
 
     def lamp_marks(self) -> str:
@@ -253,8 +253,8 @@ def nop(_board: Board, _low: int, _second_byte: int) -> None:
 
 def jcn(board: Board, condition: int, second_byte: int) -> None:
     """Jump conditional: bit 2 tests for ACC 0, bit 1 for a carry, bit 0 for TEST 0; bit 3 inverts the condition."""
-    is_true = condition & 4 and board.acc == 0 or condition & 2 and board.cy == 1 or condition & 1 and board.test == 0
-    if bool(is_true) != bool(condition & 8):
+    is_condition_met = condition & 4 and board.acc == 0 or condition & 2 and board.cy == 1 or condition & 1 and board.test == 0
+    if bool(is_condition_met) != bool(condition & 8):
         jump_on_page(board, second_byte)
 
 

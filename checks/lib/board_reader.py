@@ -8,7 +8,7 @@ SECTIONS = ("rom", "ram", "chain", "keys", "lamp")
 MAX_TABLES = {"rom": 16, "ram": 8, "chain": 4, "lamp": 64}
 MAX_COLUMNS = 8
 BITS_PER_CHIP = 10
-# The keys whose values must be unique within a section.
+# The TOML keys whose values must be unique within a section.
 UNIQUE_KEYS = {"rom": "chip", "ram": "bank"}
 
 
@@ -32,7 +32,7 @@ def numbers_of(name):
 
 
 def is_line(value):
-    """Returns true if a value is the name of a line."""
+    """Returns true if a value is the name of an I/O line."""
     return numbers_of(value) is not None
 
 
@@ -83,7 +83,7 @@ class ParsedBoard:
         return next((part for number in (25, 26) for part in line_errors if part[0] == number), None)
 
     def unknown_key_errors(self):
-        """Yields error 21 for each unknown key."""
+        """Yields error 21 for each unknown TOML key."""
         for key in sorted(self.document):
             if key not in SECTIONS:
                 yield 21, "", 0, key
@@ -94,7 +94,7 @@ class ParsedBoard:
                         yield 21, section, index, key
 
     def missing_key_errors(self):
-        """Yields error 22 for each missing key."""
+        """Yields error 22 for each missing TOML key."""
         for section, index, table in self.tables:
             if isinstance(table, dict):
                 for key in KEYS_OF_SECTIONS[section]:

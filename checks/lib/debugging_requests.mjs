@@ -47,7 +47,7 @@ function sessionFile(name, lines) {
  * Sends the requests that Visual Studio Code sends up to the first stop. Resolves to the capabilities, the results of two requests that set
  * breakpoints, and the body of the event `stopped`.
  */
-async function begin(client, command, args, { watches = [], filterOptions = [], functions = [] } = {}) {
+async function startDebugging(client, command, args, { watches = [], filterOptions = [], functions = [] } = {}) {
   const capabilities = await client.request("initialize", VSCODE);
   const launchResponse = client.fetchResponse(command, { name: "MCS-4", type: "mcs4", request: command, __sessionId: "1", ...args });
   await client.waitForEvent("initialized");
@@ -78,7 +78,7 @@ async function tryAttach() {
   const before = readFileSync(file);
   const [state] = answersOf(file, "state\n");
   const client = new Client(ADAPTER);
-  const { stopped } = await begin(client, "attach", { session: file });
+  const { stopped } = await startDebugging(client, "attach", { session: file });
   verdict([stopped.reason, (await client.request("evaluate", { expression: "state", context: "repl" })).result], ["entry", state], "the state after attach is that of the file");
   await readStop(client);
   const stateAfterSteps = answersOf(file, "step\nstep\nstep\nstate\n").pop();
@@ -92,7 +92,7 @@ async function tryAttach() {
   verdict([await client.ended, Buffer.compare(before, readFileSync(file)), client.violations], [0, 0, []], "the adapter's status, and the file is unchanged");
   chmodSync(file, 0o600);
   const writer = new Client(ADAPTER);
-  await begin(writer, "attach", { session: file, write: true, program: PROGRAM, board: BOARD });
+  await startDebugging(writer, "attach", { session: file, write: true, program: PROGRAM, board: BOARD });
   await writer.runUntilStop("stepIn");
   const { result } = await writer.request("evaluate", { expression: "state", context: "repl" });
   verdict(answersOf(file, "state\n")[0], result, "with `write`, the file has the new state");
@@ -136,12 +136,12 @@ async function tryRejectedFiles() {
   await client.endSession();
 }
 
-/** Checks that a data breakpoint stops at the changes in a trace of the native program. */
+/** Checks that a data breakpoint stops at each change that the native program's `trace` shows. */
 async function tryDataBreakpoints() {
   const file = sessionFile("watched", "run 400\n");
   for (const [dataId, probe] of [["r0", "r0"], ["acc", "acc"], ["chain0", "chain0"], ["rom0", "rom0"], ["cy", "cy"]]) {
     const client = new Client(ADAPTER);
-    const { data } = await begin(client, "attach", { session: file }, { watches: [{ dataId, accessType: "write" }] });
+    const { data } = await startDebugging(client, "attach", { session: file }, { watches: [{ dataId, accessType: "write" }] });
     verdict(data.breakpoints.map(({ verified }) => verified), [true], `${dataId} can be watched`);
     const lines = answersOf(file, `trace 20000 ${probe} pc\n`);
     let before = lines[0].split(" ").slice(-2)[0];
@@ -169,7 +169,7 @@ async function tryDataBreakpoints() {
 async function tryRequests() {
   const file = sessionFile("lock", "");
   const client = new Client(ADAPTER);
-  const { capabilities, filters } = await begin(client, "launch", { program: PROGRAM, board: BOARD },
+  const { capabilities, filters } = await startDebugging(client, "launch", { program: PROGRAM, board: BOARD },
     { functions: [{ name: "scan" }], filterOptions: [{ filterId: "calls" }, { filterId: "chip", condition: "r0 = 3" }] });
   const usedCapabilities = ["supportsStepInTargetsRequest", "supportsRestartFrame", "supportsCancelRequest", "supportsValueFormattingOptions",
     "supportsExceptionFilterOptions", "supportsDataBreakpoints", "supportsCompletionsRequest", "supportsReadMemoryRequest", "supportsWriteMemoryRequest"];
@@ -225,7 +225,7 @@ async function tryLongRequest() {
   const program = `${folder}/long.asm`;
   writeFileSync(program, " FIM P0, 0\nturn: ISZ R0, turn\n ISZ R1, turn\n JUN turn\n");
   const client = new Client(ADAPTER);
-  await begin(client, "launch", { program, board: BOARD });
+  await startDebugging(client, "launch", { program, board: BOARD });
   await client.request("continue", { threadId: 1 });
   const { body: { progressId } } = await client.waitForEvent("progressStart");
   await client.waitForEvent("progressUpdate");

@@ -378,7 +378,7 @@ def send_lines(browser, lines):
     """Sends lines through the console. Returns the text that they add to its log."""
     browser.script("document.getElementById('lines').value = arguments[0]", lines)
     log_length = len(browser.text_of("#log"))
-    # Click through a script, because a notice can cover the button.
+    # Clicks by script, because a notice can cover the button.
     browser.script("document.getElementById('send').click()")
     browser.wait_until("return document.getElementById('lines').value", "")
     return browser.text_of("#log")[log_length:]

@@ -261,7 +261,7 @@ def check_tooltips(browser):
 GET_PRIMARY_BUTTONS = """
 return [...document.querySelectorAll("#toolbar button")].filter((node) => isShown(node)
   && getComputedStyle(node).backgroundColor === getComputedStyle(document.getElementById("run")).backgroundColor).length"""
-MEASURE_TOOLS = """
+MEASURE_TOOLBAR = """
 return [...document.querySelectorAll("#toolbar button")].filter((node) => isShown(node)).map((node) => {
   const { width, height } = node.getBoundingClientRect();
   return { id: node.id, name: node.getAttribute("aria-label") || node.textContent, icons: node.querySelectorAll("svg.icon").length,
@@ -274,10 +274,10 @@ def check_toolbar(browser):
     """Checks that the toolbar is 44 pixels high, and that exactly one button is filled. Each button must have a name, a size of at least 24 pixels,
     and (except for TEST) an icon. Also checks the File menu by keyboard, and the theme menu."""
     verdict("the height of the toolbar", browser.script("return document.getElementById('toolbar').offsetHeight"), 44)
-    tools = browser.script(MEASURE_TOOLS)
-    verdict("the buttons without an icon", [tool["id"] for tool in tools if tool["icons"] == 0 and tool["id"] != "test"], [])
-    verdict("the buttons without a name", [tool["id"] for tool in tools if not tool["name"].strip()], [])
-    verdict("the buttons that are too small for a finger", [tool["id"] for tool in tools if tool["size"] < 24], [])
+    toolbar = browser.script(MEASURE_TOOLBAR)
+    verdict("the buttons without an icon", [tool["id"] for tool in toolbar if tool["icons"] == 0 and tool["id"] != "test"], [])
+    verdict("the buttons without a name", [tool["id"] for tool in toolbar if not tool["name"].strip()], [])
+    verdict("the buttons that are too small for a finger", [tool["id"] for tool in toolbar if tool["size"] < 24], [])
     verdict("the number of filled buttons", browser.script(GET_PRIMARY_BUTTONS), 1)
     browser.script("document.getElementById('menu-button').focus()")
     browser.type_keys([ENTER])

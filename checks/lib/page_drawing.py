@@ -12,7 +12,7 @@ CONTROL, SHIFT, DELETE, LEFT, UP, RIGHT, DOWN = "\ue009", "\ue008", "\ue017", "\
 BOARD_EDITOR = "#board-editor"
 GET_DRAWING_STATUS = "return document.getElementById('drawing-status').textContent"
 GET_DRAWING_STATE = "return document.getElementById('drawing-state').textContent"
-GET_BULBS = "return [...document.querySelectorAll('#front .bulb')].map((bulb) => (bulb.classList.contains('lit') ? '*' : '.')).join('')"
+GET_LAMP_STATES = "return [...document.querySelectorAll('#front .bulb')].map((bulb) => (bulb.classList.contains('lit') ? '*' : '.')).join('')"
 COUNT_KEYS = "return document.querySelectorAll('#keys .key').length"
 COUNT_HIGH_LINES = "return document.querySelectorAll('#wiring-picture .high').length"
 # The label of the buzzer's sound button, or "" if there is none.
@@ -129,7 +129,7 @@ def check_drawing_by_mouse(browser):
     browser.click("#drawing-wire")
     eventually(browser, "the drawn board is applied", GET_DRAWING_STATUS, "Board applied.")
     eventually(browser, "the number of keys", COUNT_KEYS, 4)
-    eventually(browser, "the lamps of the applied board", GET_BULBS, "....")
+    eventually(browser, "the lamps of the applied board", GET_LAMP_STATES, "....")
     verdict("the note that the board is not applied is gone", browser.script(GET_DRAWING_STATE), "")
     show_text(browser, "program")
     browser.script(PUT_INTO_EDITOR, "#program-editor", PROGRAM)
@@ -384,10 +384,10 @@ def drag_from_shelf(browser, part, target, kind="mouse", key=""):
     points = [[round(start[axis] + fraction * (target[axis] - start[axis])) for axis in (0, 1)] for fraction in (0, 0.3, 0.7, 1)]
     first_move, *other_moves = [{"type": "pointerMove", "duration": 60, "x": x, "y": y} for x, y in points]
     pause = {"type": "pause", "duration": 60}
-    keys = [{"type": "key", "id": "while dragged", "actions": [
+    key_actions = [{"type": "key", "id": "while dragged", "actions": [
         *[pause] * 5, {"type": "keyDown", "value": key}, {"type": "keyUp", "value": key}]}] if key else []
     browser.perform_actions({"type": "pointer", "id": f"shelf {kind}", "parameters": {"pointerType": kind}, "actions": [
-        first_move, {"type": "pointerDown", "button": 0}, *other_moves, *[pause] * (4 if key else 0), {"type": "pointerUp", "button": 0}]}, *keys)
+        first_move, {"type": "pointerDown", "button": 0}, *other_moves, *[pause] * (4 if key else 0), {"type": "pointerUp", "button": 0}]}, *key_actions)
 
 
 def is_near(point, expected):
@@ -396,8 +396,8 @@ def is_near(point, expected):
 
 
 def check_drag_from_shelf(browser, kind):
-    """Checks that a part dragged from the shelf is added where it is dropped, and is wired if that is a pin. A part that is dropped outside the
-    sheet must not be added."""
+    """Checks that a part dragged from the shelf is added where it is dropped, and is wired if it is dropped on a pin. A part that is dropped outside
+    the sheet must not be added."""
     choose_example(browser, "empty bench")
     show_text(browser, "wiring")
     eventually(browser, "all parts of the shelf are enabled", GET_DISABLED_BUTTONS, [])

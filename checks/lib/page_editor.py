@@ -20,7 +20,6 @@ GET_ERRORS = "return [...document.querySelectorAll('{} .fault-list li')].map((no
 GET_UNDERLINED_TEXT = "return [...document.querySelectorAll('{} .fault')].map((node) => node.textContent).join(' ')"
 GET_STATUS_OF = "return document.querySelector('{} .status-text').textContent"
 GET_EXPLANATION = "return document.querySelector('{} .meaning').textContent"
-GET_LISTING = "return document.querySelector('#lines-of-program').textContent"
 IS_FOCUS_IN_PROGRAM = "return document.activeElement.closest('.paper') !== null"
 # Scrolls an editor to the end of its text. Returns the last line number, whether the text is wider than its box, and whether each visible line number
 # is beside a line.

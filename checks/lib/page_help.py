@@ -15,7 +15,7 @@ GET_TOUR_TITLE = "return document.getElementById('tour-title').textContent"
 COUNT_ROWS = "return document.querySelectorAll('#help-sections tbody tr').length"
 SHOW_IN_BOARD = "#chosen [aria-label='Show in text']"
 COUNT_HIGH_LINES = "return [...document.querySelectorAll('#wiring-picture .high')].length"
-GET_SELECTED = "return document.querySelector('#board-editor .cm-editor').lineEditor.getSelection()"
+GET_SELECTED_TEXT = "return document.querySelector('#board-editor .cm-editor').lineEditor.getSelection()"
 
 
 def check_help(browser):
@@ -71,12 +71,12 @@ def check_wiring(browser):
     browser.script("document.querySelector('#wiring-picture .part.of-rom').focus()")
     browser.type_keys([ENTER])
     browser.click(SHOW_IN_BOARD)
-    eventually(browser, "a part that was selected with Enter is shown in the board's text", GET_SELECTED, re.compile(r"^\[\[rom\]\]\nchip = 0\n"))
+    eventually(browser, "a part that was selected with Enter is shown in the board's text", GET_SELECTED_TEXT, re.compile(r"^\[\[rom\]\]\nchip = 0\n"))
     browser.click("#wiring-tab")
     browser.script("document.querySelector('#wiring-picture .of-test').focus()")
     browser.type_keys([ENTER])
     browser.click(SHOW_IN_BOARD)
-    eventually(browser, "the button at TEST is shown in the board's text", GET_SELECTED, "# test: button WALK")
+    eventually(browser, "the button at TEST is shown in the board's text", GET_SELECTED_TEXT, "# test: button WALK")
     browser.click("#wiring-tab")
     verdict("the part at the caret is marked in the picture",
             browser.script("return document.querySelectorAll('#wiring-picture .marked').length") >= 1, True)

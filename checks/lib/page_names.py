@@ -28,8 +28,8 @@ GET_LABELS = "return [...document.querySelectorAll('#lines-of-program .labels')]
 GET_BREAKPOINT_LINES = """
 return document.querySelector("#program-editor .cm-editor").lineEditor.marksIn("breakpoints").map((line) => line + 1).join(" ")"""
 
-# Executes a number of steps, which is the argument. Returns for each step the program counter, and the marked source line with its number, or `not seen` if
-# the line is out of view.
+# Executes a number of steps, which is the argument. For each step, returns the program counter, and the marked source line with its number. Returns
+# `not seen` in place of a line that is out of view.
 STEP_THROUGH = """
 // Omits the values that the page shows after a line, which are not a part of the line.
 const textOf = (line) => {
@@ -100,8 +100,8 @@ def read_listing(mcs4):
     listing = listing_of(mcs4).splitlines()
     # If a source line has several rows, only its first row has text.
     rows = [row for row in listing if row[17:] or not re.match("[0-9A-F]{3} ", row)]
-    lines = {row[:3]: (number, row[17:]) for number, row in enumerate(rows, 1) if re.match("[0-9A-F]{3} [0-9A-F]{2}", row)}
-    return lines, dict(line.split() for line in listing_of(mcs4, "--names").splitlines())
+    lines_by_address = {row[:3]: (number, row[17:]) for number, row in enumerate(rows, 1) if re.match("[0-9A-F]{3} [0-9A-F]{2}", row)}
+    return lines_by_address, dict(line.split() for line in listing_of(mcs4, "--names").splitlines())
 
 
 def with_single_spaces(text):

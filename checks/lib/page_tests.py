@@ -20,7 +20,7 @@ GET_PROFILE_LABELS = """return [...document.querySelectorAll('#profile-labels tr
   .map((row) => [...row.cells].map((cell) => cell.textContent).join(' ').trim())"""
 GET_TAB_MARK = "return document.querySelector('#tests-tab .mark').textContent"
 GET_ERRORS = "return [...document.querySelectorAll('#tests-editor .fault-list li')].map((node) => node.textContent)"
-GET_SELECTED = "return document.querySelector('#tests-editor .cm-editor').lineEditor.getSelection()"
+GET_SELECTED_TEXT = "return document.querySelector('#tests-editor .cm-editor').lineEditor.getSelection()"
 
 
 def run_tests(browser):
@@ -57,7 +57,7 @@ def check_failing_test(browser):
     verdict("the tab reports the failure", browser.script(GET_TAB_MARK), "1 failed")
     verdict("the message about the failure, with its line", browser.script(GET_FAILURES), ["line 14 expect cycles 538: 536 cycles have passed, but the test expects 538"])
     browser.click("#test-list .wrong button")
-    verdict("a click on the failure selects its line", browser.script(GET_SELECTED), "  expect cycles 538")
+    verdict("a click on the failure selects its line", browser.script(GET_SELECTED_TEXT), "  expect cycles 538")
     browser.click("#test-list details summary")
     trace_lines = browser.text_of("#test-list pre").split("\n")
     verdict("the first and the last line of the failure's trace", (trace_lines[0], trace_lines[-1]), ("lamps .*.", "     536  007 50 14 JMS wait         comes next"))

@@ -39,10 +39,10 @@ class Program:
         self.mcs4 = mcs4
         self.environment = dict(os.environ, MCS4=str(mcs4))
 
-    def tool(self, name, *arguments, lines=""):
+    def run_tool(self, name, *arguments, lines=""):
         """Returns the output of a tool of mcs4 with `lines` as its input."""
-        tool = [TOP / "mcs4", name, *map(str, arguments)]
-        return subprocess.run(tool, input=lines, stdout=subprocess.PIPE, text=True, check=True, env=self.environment).stdout
+        run_tool = [TOP / "mcs4", name, *map(str, arguments)]
+        return subprocess.run(run_tool, input=lines, stdout=subprocess.PIPE, text=True, check=True, env=self.environment).stdout
 
     def session(self, name, lines):
         """Creates a new session and serves lines in it. Returns its file and the answers."""
@@ -53,7 +53,7 @@ class Program:
     def cycles(self, answers):
         """Returns the number of cycles of the last run in these answers, as `mcs4 cycles` counts it."""
         line = len(answers.splitlines())
-        return int(self.tool("cycles", line, line, lines=answers).split(" ")[0])
+        return int(self.run_tool("cycles", line, line, lines=answers).split(" ")[0])
 
 
 def setup_lines_of(name):
@@ -67,7 +67,7 @@ def first_call(program, name):
     """Finds the first JMS that an example executes. Returns the cycles before the JMS, the cycles until its subroutine returns, its address, and its
     return address."""
     file, _ = program.session(name, setup_lines_of(name))
-    lines = [line for line in program.tool("trace", file, 3000).splitlines() if re.match(r" *\d+  [0-9A-F]{3} ", line)]
+    lines = [line for line in program.run_tool("trace", file, 3000).splitlines() if re.match(r" *\d+  [0-9A-F]{3} ", line)]
     index = next(index for index, line in enumerate(lines) if " JMS " in line)
     cycles, address = lines[index].split()[:2]
     return_address = f"{int(address, 16) + 2:03X}"
@@ -160,7 +160,7 @@ def check_many_steps(browser, program):
     """Checks that a step of several instructions takes the number of cycles that the trace shows, and that an invalid number of instructions is
     rejected."""
     file, _ = program.session("many", setup_lines_of("three_lamps"))
-    lines = [line for line in program.tool("trace", file, 400).splitlines() if re.match(r" *\d+  [0-9A-F]{3} ", line)]
+    lines = [line for line in program.run_tool("trace", file, 400).splitlines() if re.match(r" *\d+  [0-9A-F]{3} ", line)]
     open_paused_example(browser, "three lamps")
     browser.script(CHANGE_FIELD, "#step-count", "50")
     browser.click("#step-many")
@@ -224,8 +224,8 @@ def check_stopwatch(browser):
 
 
 def check_going_back(browser):
-    """Checks that going back past key presses and forward again leads to the same answers and the same saved file. After a new command, going forward
-    must no longer be possible."""
+    """Checks that the user can go back past key presses and forward again, with the same answers and the same saved file afterwards. After a new
+    command, going forward must no longer be possible."""
     open_paused_example(browser, "calculator")
     browser.click("#run")
     for legend in "12":

@@ -490,7 +490,8 @@ def search(question: Question) -> SearchResult:
 
 
 def values_leading_to(origins: list[tuple[int, int]], index: int) -> list[int]:
-    """Returns the values that the program reads on the way to a state."""
+    """Returns the values that the program reads before it reaches the state with this index. `origins` has, for each state, the index of its
+    predecessor, and the value that was read there."""
     values = []
     while index:
         index, value = origins[index]

@@ -104,13 +104,13 @@ class LiteralSearch:
         return self.successors[number, levels]
 
     def reach(self, number: int, levels: int, times: DownTimes, ages: int) -> None:
-        """Adds states with this machine, these levels, these times and these ages."""
+        """Adds the states with this machine, these levels and times, and one of these ages. Those that are new are also added to `new_ages`."""
         if added := ages & ~self.ages.get((number, levels, times), 0):
             self.ages[number, levels, times] = self.ages.get((number, levels, times), 0) | added
             self.new_ages[number, levels, times] = self.new_ages.get((number, levels, times), 0) | added
 
     def times_after(self, times: DownTimes, levels: int) -> DownTimes:
-        """Returns the times for which keys are down after one cycle at these levels."""
+        """Returns what `times` becomes after one more cycle at these levels: the times for which keys have been down."""
         keys_down = self.levels[levels][0]
         return tuple(time + 1 if key in keys_down else 0 for key, time in zip(self.limited_keys, times, strict=True))
 
@@ -123,8 +123,8 @@ class LiteralSearch:
         return older_ages >> max(lowest_age, 0) << max(lowest_age, 0)
 
     def verdict(self, max_cycles: int) -> str:
-        """Returns the verdict `holds` or `may fail`. Returns `too many` after `max_cycles` different cycles, or if there are several times as many
-        states."""
+        """Returns the verdict `holds` or `may fail`. Returns `too many` if the search runs more than `max_cycles` cycles from different states, or
+        reaches several times as many states."""
         if self.is_failure(self.board):
             return "may fail"
         for levels in range(len(self.levels)):
@@ -219,7 +219,7 @@ class StepSearch:
         self.question, self.limits = question, question.limits
         self.board, self.is_failure = power_on(question), failure_condition(question)
         self.levels = all_levels(self.board)
-        # The steps that ran, by machine and levels: the next machine (None if the property failed) and the number of cycles.
+        # The steps that were run, by machine and levels: the machine after the step (None if the property failed), and the number of cycles.
         self.steps: dict[tuple[tuple, Levels], tuple[tuple | None, int]] = {}
 
     def step(self, machine: tuple, levels: Levels) -> tuple[tuple | None, int]:
@@ -239,7 +239,7 @@ class StepSearch:
                 yield levels, following, self.spacing_after(spacing, levels, cycles)
 
     def spacing_after(self, spacing: Spacing, levels: Levels, cycles: int) -> Spacing:
-        """Returns the spacing after a step at these levels."""
+        """Returns the spacing after a step at these levels, from the spacing before the step."""
         age = age_after(self.limits.wait, age_at_begin(self.limits.wait, spacing, levels), cycles)
         return Spacing(levels, age, down_after(self.limits, down_at_begin(spacing, levels), levels, cycles))
 
@@ -380,7 +380,7 @@ def change_error(question: Question, changes: list[Change], cycle_count: int) ->
     return "" if is_failure(board) else "the property does not fail with these changes"
 
 
-def has_changes(question: Question, path: list[Levels]) -> bool:
+def are_changes_possible(question: Question, path: list[Levels]) -> bool:
     """Returns true if the levels can change as a counterexample requires, within the limits."""
     return earliest_changes(steps_of(question, path)[0], question.limits) is not None
 

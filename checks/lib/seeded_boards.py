@@ -39,9 +39,9 @@ class Wiring:
         self.columns: list[str] = []
         if self.chains and self.inputs:
             self.driver = rng.randrange(len(self.chains))
-            bits = 10 * self.chains[self.driver][2]
-            self.rows = rng.randrange(1, min(10, bits) + 1)
-            self.first = rng.randrange(min(20, bits - self.rows) + 1)
+            bit_count = 10 * self.chains[self.driver][2]
+            self.rows = rng.randrange(1, min(10, bit_count) + 1)
+            self.first = rng.randrange(min(20, bit_count - self.rows) + 1)
             self.columns = rng.choices(self.inputs, k=rng.randrange(1, 9))
         bits_of_chains = [f"chain{n}.{bit}" for n, chain in enumerate(self.chains) for bit in range(10 * chain[2])]
         self.lines = [line for lines in self.outputs for line in lines] + bits_of_chains
@@ -235,8 +235,8 @@ class SeededSession:
             kinds += [f"press {key}"] * 3 + [f"release {key}"]
         return rng.choice(kinds)
 
-    def stop_command(self, board: Board) -> str:
-        """Returns a command that sets or removes a breakpoint or a watch, usually one that the program soon reaches, or at which it has stopped."""
+    def breakpoint_or_watch_command(self, board: Board) -> str:
+        """Returns a command that sets or removes a breakpoint or a watch. Usually the program will soon reach it, or has stopped at it."""
         board_ahead, visited, written_nibbles = board.copy(), [board.pc], [self.ram_nibble()]
         board_ahead.breaks = set()
 

@@ -52,9 +52,9 @@ class ReadingProgram(Program):
         selection = [f"FIM P{pair}, 0x{16 * numbers[0] if clock.startswith('rom') else 64 * numbers[1]:02X}", f"SRC P{pair}"]
         if clock.startswith("ram"):
             selection = [f"LDM {numbers[0]}", "DCL", *selection]
-        write = "WRR" if clock.startswith("rom") else "WMP"
+        write_mnemonic = "WRR" if clock.startswith("rom") else "WMP"
         data_bit = 1 << int(data[-1]) if self.rng.random() < 0.7 else 0
-        return selection + self.rng.randrange(1, 4) * [f"LDM {data_bit}", write, f"LDM {data_bit | 1 << numbers[-1]}", write]
+        return selection + self.rng.randrange(1, 4) * [f"LDM {data_bit}", write_mnemonic, f"LDM {data_bit | 1 << numbers[-1]}", write_mnemonic]
 
     def selection_phrases(self, pair: int) -> list[str]:
         """Returns instructions that select a chip, usually one with inputs."""

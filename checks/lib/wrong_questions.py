@@ -121,7 +121,7 @@ KEYS_QUESTION = [
     'data = "rom0.1"', "chips = 1", "[keys]", "chain = 0", "first = 0", "rows = 1", 'columns = ["rom1.0", "rom1.1"]', ".",
     "asm", " LDM 2", " WRR", " LDM 3", " WRR", " FIM P0, 0x10", " SRC P0", "loop: JCN 1, read", " LDM 1", " XCH R3", "read: RDR", " XCH R2",
     " JUN loop", "."]
-# The conditions that are true after the program has read no key, each of the keys, both keys, or a 1 at TEST.
+# The conditions that are true after the program has read that no key is down, that the first, the second or both are down, or that TEST is 1.
 READ_CONDITIONS = {"none": "in register 2 whole 8 8", "first": "in register 2 line0 1 1", "second": "in register 2 line1 1 1",
          "both": "in register 2 whole 11 11", "test": "in register 3 whole 1 1"}
 ALL_READS, ALL_BUT_BOTH = {*READ_CONDITIONS}, {"none", "first", "second", "test"}

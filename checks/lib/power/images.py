@@ -51,7 +51,7 @@ class Image:
         return any(part is not None and part[0] < BLOCK for part in self.parts.values())
 
     def add_cut(self, event_number: int, min_commands: int | None, max_commands: int) -> None:
-        """Adds another cut, after a later event, that leaves the same image. Narrows the allowed numbers of commands to those that each cut allows."""
+        """Adds another cut, after a later event, that leaves the same image. Keeps only the numbers of commands that each of the cuts allows."""
         self.last_event = event_number
         if min_commands is not None:
             self.min_commands = min_commands if self.min_commands is None else max(self.min_commands, min_commands)
@@ -116,8 +116,8 @@ class History:
                     durable_count += 1
             phase = self.phase(event_number, first_answer, answered, sent)
             for selection, parts in self.selections_after(event, pending):
-                key = hashlib.sha256(repr((durable_count, sorted(parts.items()))).encode()).digest()
-                image = images.setdefault(key, Image(event_number, event_number, phase, selection, durable_count, parts, answered, sent))
+                content_id = hashlib.sha256(repr((durable_count, sorted(parts.items()))).encode()).digest()
+                image = images.setdefault(content_id, Image(event_number, event_number, phase, selection, durable_count, parts, answered, sent))
                 image.add_cut(event_number, answered, sent)
         return list(images.values())
 

@@ -129,10 +129,10 @@ class Sessions:
     def state_in_file(self, data: bytes) -> int | str:
         """Returns the number of commands in a session file if the file has the state after these commands. Otherwise returns a description, as
         `open_file` does."""
-        key = hashlib.sha256(data).digest()
-        if key not in self.known_contents:
-            self.known_contents[key] = self.open_file(data)
-        return self.known_contents[key]
+        content_id = hashlib.sha256(data).digest()
+        if content_id not in self.known_contents:
+            self.known_contents[content_id] = self.open_file(data)
+        return self.known_contents[content_id]
 
     def open_file(self, data: bytes) -> int | str:
         """Opens a session file with the program, and checks its state. Returns its number of commands, `blank` if `new` can begin a session in the

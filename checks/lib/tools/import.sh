@@ -4,7 +4,7 @@
 # Prints the ROM contents of a program.
 rom_of() {
     rm -f "$folder/import.mcs"
-    { roms 16 && echo asm && LC_ALL=C sed 's/;.*//; s/[ \t]*$//' "$1" && echo . && ./mcs4 rom ask 0 4096; } | "$mcs4" new "$folder/import.mcs" | sed 1,3d
+    { rom_board_lines 16 && echo asm && LC_ALL=C sed 's/;.*//; s/[ \t]*$//' "$1" && echo . && ./mcs4 rom ask 0 4096; } | "$mcs4" new "$folder/import.mcs" | sed 1,3d
 }
 cat > "$folder/intel.src" <<'source'
 / Intel's spelling, and AS's

@@ -84,7 +84,8 @@ check_differs "${board_with_keys}poke r0 1\nstep\npoke r0 0\nreset\n" "${board_w
 > src 10" "SRC bytes"
 check_differs "${board_with_keys}poke acc 8\nrun 2\npoke acc 0\nreset\n" "${board_with_keys}poke acc 4\nrun 2\npoke acc 0\n" "< roms 0.4.0,1.0.0
 > roms 0.8.0,1.0.0" latches
-# Two sessions that write 2 and 3, or 1 and 3, to the port. In both, the clock rises once, but the data line is 1 or 0 at that time.
+# One session writes 2 and then 3 to the port, and the other one 1 and then 3. The chain's clock rises once in each, while its data line is 1 in the
+# first session and 0 in the second.
 check_differs "${board_with_keys}poke acc 2\nrun 4\npoke acc 3\npoke acc 3\npoke acc 3\nreset\n" "${board_with_keys}poke acc 1\nrun 2\npoke acc 3\npoke pc 3\nstep\n" \
     "< chains 0000000000
 > chains 1000000000" chains
