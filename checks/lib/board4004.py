@@ -72,7 +72,7 @@ class Chips:
         return src >> 6 < self.chips.get(bank, 0)
 
     def level(self, line: Line) -> int:
-        """Returns the level of a line, or 0 if the board does not have it."""
+        """Returns the level of an I/O line, or 0 if the board does not have this line."""
         kind, numbers = line
         if kind == "ram":
             return self.ram_latch.get(numbers[:2], 0) >> numbers[2] & 1
@@ -84,7 +84,7 @@ class Chips:
         return self.is_pulled(line) if self.masks[number][k] == "i" else self.rom_latch[number] >> k & 1
 
     def levels(self, kind: str, *chip: int) -> int:
-        """Returns the levels of a port's four lines; line k is bit k."""
+        """Returns the levels of the four lines of a port as a number. Bit k is the level of line k."""
         return sum(self.level((kind, (*chip, k))) << k for k in range(4))
 
     def is_pulled(self, line: Line) -> int:

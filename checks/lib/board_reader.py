@@ -115,7 +115,7 @@ class ParsedBoard:
                     yield 23, section, index, key
 
     def excess_errors(self):
-        """Yields error 27 for each kind of table that occurs too often, and for too many columns."""
+        """Yields error 27 for each section with too many tables, and for too many columns of the key matrix."""
         for section in SECTIONS:
             tables = [table for kind, _index, table in self.tables if kind == section]
             if section in MAX_TABLES and len(tables) > MAX_TABLES[section]:

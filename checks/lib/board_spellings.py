@@ -70,7 +70,7 @@ def inline_table(rng, table):
 
 
 def top_lines(rng, section, tables):
-    """Returns the lines for the tables that are written before the first header."""
+    """Returns the lines that define a section's tables at the top of the text, before the first header."""
     key = key_text(rng, section)
     if section != "keys":
         rows = [f"  {inline_table(rng, table)},\n" for table in tables]

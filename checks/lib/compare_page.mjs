@@ -153,11 +153,11 @@ function toVersion1(file) {
   const length = new DataView(file.buffer, file.byteOffset).getUint32(slot);
   const snapshot = file.slice(slot + 4, slot + 4 + length);
   if (snapshot[length - 1] !== 0) return null;
-  const old = file.slice();
-  old.set(snapshot.slice(0, 4), slot + 4);
-  old.set(snapshot.slice(5, length - 1), slot + 8);
-  new DataView(old.buffer).setUint32(slot, length - 2);
-  return old;
+  const version1File = file.slice();
+  version1File.set(snapshot.slice(0, 4), slot + 4);
+  version1File.set(snapshot.slice(5, length - 1), slot + 8);
+  new DataView(version1File.buffer).setUint32(slot, length - 2);
+  return version1File;
 }
 
 // Returns true if version 1 can store the board: at most two chains, each of at most four 4003s.

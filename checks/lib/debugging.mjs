@@ -217,13 +217,13 @@ async function trySession() {
 /** Checks that the adapter rejects files that are not sessions, and does not change them. */
 async function tryFiles() {
   const { file } = createSession("lock");
-  const damaged = readFileSync(file);
-  damaged.fill(0x55, 16, 40000);
-  writeFileSync(`${folder}/damaged.mcs`, damaged);
+  const damagedBytes = readFileSync(file);
+  damagedBytes.fill(0x55, 16, 40000);
+  writeFileSync(`${folder}/damagedBytes.mcs`, damagedBytes);
   writeFileSync(`${folder}/none.mcs`, "no session\n");
   const client = new Client(MCS4);
   await client.request("initialize", {});
-  for (const [name, pattern] of [["damaged.mcs", /no 5[01]|damaged/], ["none.mcs", /no 50/], ["nothing/x.mcs", /does not exist/]]) {
+  for (const [name, pattern] of [["damagedBytes.mcs", /no 5[01]|damagedBytes/], ["none.mcs", /no 50/], ["nothing/x.mcs", /does not exist/]]) {
     matches((await client.fetchResponse("launch", { session: `${folder}/${name}` })).message, pattern, `${name} is rejected`);
   }
   const rejectedLaunch = await client.fetchResponse("launch", { ...example("lock"), session: `${folder}/nothing/x.mcs` });

@@ -193,8 +193,8 @@ async function tryRequests() {
   const stopAfterRestart = await readStop(client);
   verdict([reason, stopAfterRestart.frames.length, stopAfterRestart.frames[0].canRestart], ["restart", depth - 1, true], "restartFrame ends the calls above the frame");
   const address = Number(stopAfterRestart.frames[0].instructionPointerReference);
-  const call = Number(stopAfterRestart.frames[1].instructionPointerReference);
-  const [listingRow] = answersOf(file, `list ${call} 1\n`);
+  const callAddress = Number(stopAfterRestart.frames[1].instructionPointerReference);
+  const [listingRow] = answersOf(file, `list ${callAddress} 1\n`);
   matches(listingRow, new RegExp(`JMS 0x${stopAfterRestart.frames[0].instructionPointerReference.slice(2)}$`), `the restarted frame begins at ${address}, the target of its JMS`);
   const registers = stopAfterRestart.scopes.find(({ name }) => name === "Registers").variablesReference;
   const values = async (format) => (await client.request("variables", { variablesReference: registers, format })).variables.map(({ value }) => value);
@@ -242,10 +242,10 @@ async function tryLongRequest() {
   client.send({ seq, type: "request", command: "evaluate", arguments: { expression: lines, context: "repl" } });
   const isAnswer = (message) => message.type === "response" && message.request_seq === seq;
   // The first progress report shows that the request has begun. A fast machine can finish the request before it reports progress.
-  const first = await client.waitForMessage((message) => isAnswer(message) || (message.type === "event" && message.event === "progressStart"));
-  const isDone = isAnswer(first);
+  const firstMessage = await client.waitForMessage((message) => isAnswer(message) || (message.type === "event" && message.event === "progressStart"));
+  const isDone = isAnswer(firstMessage);
   if (!isDone) await client.request("cancel", { requestId: seq });
-  const answer = isDone ? first : await client.waitForMessage(isAnswer);
+  const answer = isDone ? firstMessage : await client.waitForMessage(isAnswer);
   const { result: after } = await client.request("evaluate", { expression: "seq", context: "repl" });
   verdict([answer.message || "done", after === before], answer.success ? ["done", false] : ["cancelled", true], "a cancelled line changes nothing");
   await client.request("continue", { threadId: 1 });

@@ -15,7 +15,7 @@ def edits_by_crate():
     return collections.Counter(path.parent.parent.name for path in TOP.glob("crates/*/must-fail/*.edit"))
 
 
-def edit_phrases():
+def phrases_about_edits():
     """Yields the phrases about the must-fail edits, and about the crates without such edits."""
     by_crate = edits_by_crate()
     crates = sorted(path.parent.name for path in TOP.glob("crates/*/src"))
@@ -25,7 +25,7 @@ def edit_phrases():
     yield f"nor in {', '.join(crates_without_edits)} and the test crates"
 
 
-def sweep_phrases():
+def phrases_about_sweeps():
     """Yields the table rows with the number of cases that each check tries in ./test and in ./test long."""
     arguments_by_check = {check.name: (check.arguments.split(), check.long.split()) for check in CHECKS if check.long}
     for name, index, unit in (("locks", 0, "rounds"), ("assembler", 0, "seeded programs"), ("time", 0, "seeded boards and programs"),
@@ -35,7 +35,7 @@ def sweep_phrases():
         yield f"| `{name}` | {unit} | {short_count} | {long_count} |"
 
 
-def check_phrases():
+def phrases_about_checks():
     """Yields the phrases about the number of faulty implementations that the checks must detect, the phrase about seeded boards, and the name of each
     check."""
     yield f"{len(BOARD_MUTANTS) + len(TOOL_MUTANTS)} wrong readings"
@@ -49,4 +49,4 @@ def check_phrases():
 
 def required_phrases():
     """Returns all phrases that PROOF must contain."""
-    return [*edit_phrases(), *sweep_phrases(), *check_phrases()]
+    return [*phrases_about_edits(), *phrases_about_sweeps(), *phrases_about_checks()]

@@ -36,26 +36,26 @@ def daa_without_carry(board: Board, _low: int, _second_byte: int) -> None:
 
 
 def isz_on_own_page(board: Board, k: int, second_byte: int) -> None:
-    """ISZ, but it jumps in the page of its own first word."""
+    """Executes ISZ, but jumps within the page of the instruction's first word."""
     board.r[k] = (board.r[k] + 1) % 16
     if board.r[k]:
         board.pc = (board.pc - 2) % 4096 & 0xF00 | second_byte
 
 
 def bbl_without_address(board: Board, value: int, _second_byte: int) -> None:
-    """BBL, but it leaves 0 in the freed stack entry."""
+    """Executes BBL, but leaves 0 in the freed stack entry."""
     board.acc, board.pc, board.ret = value, board.ret[0], [*board.ret[1:], 0]
 
 
 def send_src_to_all_banks(chips: Chips, _bank: int, byte: int) -> None:
-    """SRC, but all banks store the byte."""
+    """Executes SRC, but lets all banks store the byte."""
     chips.rom_src = byte
     for bank in chips.chips:
         chips.bank_src[bank] = byte
 
 
 def write_latch_with(is_edge: Callable[[int, int], bool], uses_new_data: bool) -> Callable[[Chips, dict, object, int], None]:
-    """Returns a port write that clocks chains at the wrong edge, or that shifts in the old level of the data line."""
+    """Returns a replacement for `write_latch` that clocks chains at the wrong edge, or shifts in the old level of the data line."""
     def write(chips: Chips, latches: dict, port: object, value: int) -> None:
         levels_before = [(chips.level(clock), chips.level(data)) for clock, data in chips.clocks]
         latches[port] = value
@@ -71,7 +71,7 @@ def stop_at_first_instruction(board: Board, cycles: int, max_cycles: int, is_wat
 
 
 def stop_inside_instruction(board: Board, cycles: int, max_cycles: int, is_watch_hit: bool) -> str:
-    """Stops a run also at a breakpoint before a pending second cycle."""
+    """Also stops a run at a breakpoint before a pending second cycle."""
     return "break" if cycles and board.pc in board.breaks else CORRECT_STOP_REASON(board, cycles, max_cycles, is_watch_hit)
 
 

@@ -50,7 +50,7 @@ def open_palette(browser, query=""):
 
 
 def execute_command(browser, query):
-    """Executes the first command that the palette finds for a query."""
+    """Types a query into the palette, and executes the first command that matches it."""
     open_palette(browser, query)
     browser.type_keys([ENTER])
     browser.wait_until(IS_PALETTE_OPEN, False)

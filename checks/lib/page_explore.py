@@ -21,7 +21,7 @@ from page_texts import GET_NAME, wait_for_download, rename_session
 from verdicts import eventually, verdict
 from web_driver import Chromium
 
-EDITOR = "#properties-editor"
+PROPERTIES_EDITOR = "#properties-editor"
 GET_PROPERTIES_STATUS = "return document.querySelector('#properties-editor .status-text').textContent"
 GET_BUTTON_LABEL = "return document.getElementById('explore').textContent"
 GET_PROPERTY_ROWS = """return [...document.querySelectorAll('#property-list > li')].map((node) => [...node.querySelector('p').children]
@@ -171,8 +171,8 @@ def check_stop_button(browser):
 
 
 def check_errors(browser):
-    """Checks that errors in properties, in the seconds, in the seed and in the board's text are reported, and that no search starts then. Also
-    checks the sample text."""
+    """Checks that errors in properties, in the seconds, in the seed and in the board's text are reported, and that they prevent a search. Also checks
+    the sample text."""
     set_text(browser, "properties", "wait 0 to 5\nnever lamp purple on\npress A\n")
     show_text(browser, "properties")
     eventually(browser, "errors are reported while the user types", GET_ERRORS,
@@ -251,7 +251,7 @@ def check_saving(browser, folder):
     browser.reload()
     browser.wait_until(IS_READY, True)
     show_text(browser, "properties")
-    eventually(browser, "the properties are unchanged after a reload", GET_TEXT_OF_EDITOR.replace("arguments[0]", f"'{EDITOR}'"), "never lamp 1 on")
+    eventually(browser, "the properties are unchanged after a reload", GET_TEXT_OF_EDITOR.replace("arguments[0]", f"'{PROPERTIES_EDITOR}'"), "never lamp 1 on")
     rename_session(browser, "with properties")
     choose_from_file_menu(browser, "#save-button")
     project_file = wait_for_download(folder, "with properties.mcsp")
@@ -259,7 +259,7 @@ def check_saving(browser, folder):
     verdict("a project contains the properties", "\nunended properties\n" in text and "\nproperties\nnever lamp 1 on\n.\n" in text, True)
     browser.click("#sessions-button")
     browser.type_into("#file", str(LOCK / "lock.props"))
-    eventually(browser, "a file of properties is opened in its tab", GET_TEXT_OF_EDITOR.replace("arguments[0]", f"'{EDITOR}'"),
+    eventually(browser, "a file of properties is opened in its tab", GET_TEXT_OF_EDITOR.replace("arguments[0]", f"'{PROPERTIES_EDITOR}'"),
                (LOCK / "lock.props").read_text())
     eventually(browser, "the notice says how to use the file", GET_NOTICE, re.compile("lock.props is in Properties. Search looks for counterexamples"))
 

@@ -122,8 +122,8 @@ def check_disassembly_keys(browser):
         browser.type_keys([PAGE_DOWN], 1, 1)
         browser.wait_until(GET_FOCUSED_ROW, re.compile("."))
         browser.wait_until(GET_LAST_ROW_ADDRESS, re.compile(f"^(?!{last_address})"), 5)
-        rows = shown_addresses(browser)
-        seen_addresses.update(rows)
+        addresses = shown_addresses(browser)
+        seen_addresses.update(addresses)
         if last_address > "2FF":
             break
     verdict("the instructions of the program that PageDown did not show", program_addresses(browser) - seen_addresses, set())

@@ -390,9 +390,9 @@ def check_rom_image(browser, folder, image):
     browser.type_into("#file", str(changed_image))
     eventually(browser, "an image is loaded into ROM", GET_NOTICE, re.compile(f"^{len(image):,} bytes of other.bin are in ROM, from 000; nothing was reset\\."))
     verdict("the exported ROM is the image", export_file(browser, folder, ".bin"), changed_image.read_bytes())
-    large = folder / "large.hex"
-    large.write_text(":010F0000D11F\n:00000001FF\n")
-    browser.type_into("#file", str(large))
+    large_file = folder / "large.hex"
+    large_file.write_text(":010F0000D11F\n:00000001FF\n")
+    browser.type_into("#file", str(large_file))
     eventually(browser, "an image for a missing ROM chip is rejected with a message", GET_NOTICE, re.compile("^Cannot open large.hex: the board has no ROM 15"))
     browser.script("for (const each of document.querySelectorAll('#notice .dismiss')) each.click()")
 

@@ -64,8 +64,8 @@ def setup_lines_of(name):
 
 
 def first_call(program, name):
-    """Finds the first JMS that an example executes. Returns the cycles before the JMS, the cycles until its subroutine returns, its address, and its
-    return address."""
+    """Finds the first JMS that an example executes. Returns the number of cycles before the JMS, the number of cycles until the called subroutine
+    returns, the address of the JMS, and the return address."""
     file, _ = program.session(name, setup_lines_of(name))
     lines = [line for line in program.run_tool("trace", file, 3000).splitlines() if re.match(r" *\d+  [0-9A-F]{3} ", line)]
     index = next(index for index, line in enumerate(lines) if " JMS " in line)

@@ -108,8 +108,8 @@ class Question:
 
 @dataclass
 class SearchResult:
-    """The result of a search: a verdict (`holds`, `may fail` or `too many`), the number of states found, and the values that the program reads on the
-    way to the failure."""
+    """The result of a search: a verdict (`holds`, `may fail` or `too many`), the number of states found, and the values that the program reads before
+    the failure."""
 
     verdict: str
     states: int
@@ -207,9 +207,9 @@ def value_with_keys(board: QuestionBoard, keys_down: Iterable[Key]) -> int:
     """Returns the value of the selected port with these keys down."""
     chips = board.chips
     previous_keys, chips.pressed_keys = chips.pressed_keys, set(keys_down)
-    value = chips.read_port(chips.rom_src >> 4)
+    port_value = chips.read_port(chips.rom_src >> 4)
     chips.pressed_keys = previous_keys
-    return value
+    return port_value
 
 
 def all_keys(board: QuestionBoard) -> list[Key]:

@@ -64,7 +64,7 @@ def max_word(board: QuestionBoard) -> str:
 
 # ---- the literal search
 
-# The number of cycles for which each key of a board has been down, or 0 if it is up. It is empty if the question does not limit this time.
+# For each key of a board, the number of cycles for which it has been down, or 0 if it is up. Has no elements if the question has no `held`.
 DownTimes = tuple[int, ...]
 
 

@@ -91,8 +91,8 @@ class Program:
     def put_phrases(self, address: int, phrase_count: int) -> None:
         """Adds phrases (short sequences of instructions) from an address on, as far as there is room. Usually ends them with a jump, or with a code
         that is not an instruction."""
-        statement = [word for _n in range(phrase_count) for word in self.phrase()]
-        self.put(address, statement + self.rng.choice([["JUN"], ["JUN"], ["BBL 3"], [f"DB 0x{self.rng.choice(INVALID_CODES):02X}"], []]))
+        statements = [word for _n in range(phrase_count) for word in self.phrase()]
+        self.put(address, statements + self.rng.choice([["JUN"], ["JUN"], ["BBL 3"], [f"DB 0x{self.rng.choice(INVALID_CODES):02X}"], []]))
 
     def put(self, address: int, statements: list[str]) -> None:
         """Adds statements from an address on, as far as there is room. `^5` after a jump sets its target to the first of the last five statements,
@@ -212,9 +212,9 @@ class SeededSession:
         loops = [target_address - 3 for target_address in self.program.loops.values()]
         if loops and self.rng.random() < 0.3:
             return self.rng.choice(loops)
-        ends = [address for address in self.program.begins if address & 0xFC == 0xFC]
-        if ends and self.rng.random() < 0.2:
-            return self.rng.choice(ends)
+        addresses_at_page_end = [address for address in self.program.begins if address & 0xFC == 0xFC]
+        if addresses_at_page_end and self.rng.random() < 0.2:
+            return self.rng.choice(addresses_at_page_end)
         return self.rng.choice(self.program.begins) if self.rng.random() < 0.95 else self.rng.randrange(ADDRESS_COUNT)
 
     def ram_nibble(self) -> tuple[int, int]:

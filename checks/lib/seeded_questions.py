@@ -360,15 +360,15 @@ def limited_question(seed: int, max_states: int) -> Question:
 
 
 def lines_in_random_order(question: Question, rng: random.Random) -> list[str]:
-    """Returns the lines of a question, with the lines of its limits at random positions outside the texts. One of these lines is repeated. If there
-    is a `together`, `wait` or `held` line, another one with another number precedes it, because only the last one counts."""
+    """Returns the lines of a question, with the lines of its limits at random positions outside the texts. Repeats a `press`, `only` or `test` line.
+    Before each `together`, `wait` or `held` line, inserts another such line with another number, because only the last one counts."""
     limits = question.limits.lines()
-    numbered = [line for line in limits if line.startswith(("together", "wait", "held"))]
-    other_values = [line for line in limits if line not in numbered]
+    numbered_lines = [line for line in limits if line.startswith(("together", "wait", "held"))]
+    other_lines = [line for line in limits if line not in numbered_lines]
     parts = without_limits(question).parts()
-    for line in [*other_values, *rng.sample(other_values, min(len(other_values), 1))]:
+    for line in [*other_lines, *rng.sample(other_lines, min(len(other_lines), 1))]:
         parts.insert(rng.randrange(len(parts)), [line])
-    for line in numbered:
+    for line in numbered_lines:
         position = rng.randrange(len(parts))
         parts.insert(position, [line])
         parts.insert(rng.randrange(position + 1), [f"{line.split()[0]} {rng.randrange(2, 256)}"])

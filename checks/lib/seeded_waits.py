@@ -125,11 +125,11 @@ def random_spaced_question(rng: random.Random) -> Question:
 
 def largest_failing_wait(question: Question) -> int:
     """Returns the largest `wait` up to MAX_WAIT with which a short search finds a failure. Returns 1 if there is none."""
-    few_states = dataclasses.replace(question, max_states=FEW_STATES)
-    low, high = 1, MAX_WAIT if search(few_states).verdict == "may fail" else 1
+    few_states_question = dataclasses.replace(question, max_states=FEW_STATES)
+    low, high = 1, MAX_WAIT if search(few_states_question).verdict == "may fail" else 1
     while low < high:
         middle = (low + high + 1) // 2
-        low, high = (middle, high) if search_by_steps(with_wait(few_states, middle)).verdict == "may fail" else (low, middle - 1)
+        low, high = (middle, high) if search_by_steps(with_wait(few_states_question, middle)).verdict == "may fail" else (low, middle - 1)
     return low
 
 

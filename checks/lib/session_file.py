@@ -187,10 +187,10 @@ class State:
 
     def reset(self):
         """Performs a power cycle. ROM, keys, TEST, breakpoints, watches and wiring are kept."""
-        new = State()
+        new_state = State()
         for part in ("ram", "status", "ram_ports", "rom_ports", "accumulator", "carry", "registers", "counter", "return_addresses", "bank", "rom_source",
                      "bank_sources", "owed"):
-            setattr(self, part, getattr(new, part))
+            setattr(self, part, getattr(new_state, part))
         self.chains = [bytearray(len(chain)) for chain in self.chains]
 
 

@@ -21,7 +21,7 @@ const node = document.querySelector(selector);
 const send = (kind) => node.dispatchEvent(new PointerEvent(kind, { pointerType: "touch", bubbles: true, cancelable: true }));
 send("pointerdown");
 return new Promise((done) => setTimeout(() => done(["pointerup", "click"].forEach(send)), time))"""
-CLICK_SECONDARY = """
+RIGHT_CLICK = """
 const [clientX, clientY] = arguments;
 const at = { clientX, clientY, pointerType: "mouse", button: 2, bubbles: true, cancelable: true };
 for (const kind of ["pointerdown", "contextmenu", "pointerup"]) {
@@ -202,7 +202,7 @@ class WebKit(WebDriver):
 
     def right_click(self, x, y):
         # Dispatch the events by script, because after a press of this button the driver would type every character without Shift.
-        self.script(CLICK_SECONDARY, x, y)
+        self.script(RIGHT_CLICK, x, y)
 
     def _start_display(self):
         """Starts Xvfb, which chooses the number of its display. Returns the name of the display."""

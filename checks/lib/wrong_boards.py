@@ -48,7 +48,7 @@ def set_invalid_value(rng, tables):
 
 
 def replace_line(rng, tables):
-    """Replaces the name of a line with another one. The board can lack that line, or the line can have the wrong direction."""
+    """Replaces the name of an I/O line with another one. The board may lack the new line, or the new line may have the wrong direction."""
     if table := random_table(rng, tables):
         for key in {"clock", "data", "line"} & {*table}:
             table[key] = random_line_name(rng, tables)

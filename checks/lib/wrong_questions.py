@@ -82,7 +82,7 @@ ANSWERS: list[tuple[list[str], int, str]] = [
     *(([*BOARD, "asm", " NOP", line, ".", "prove"], 3, "no 30 2") for line in LIMIT_LINES),
     *((["wire", line, ".", *PROGRAM, "prove"], 3, "no 20") for line in LIMIT_LINES),
     *(([line, "prove"], 2, "no question") for line in LIMIT_LINES), ([*QUESTION_LINES, *LIMIT_LINES], 2, "no question"),
-    # So are lines that limit the times of changes. With them, the levels are parts of the states.
+    # Lines that limit how often the levels change are allowed in the same positions. With them, the levels are parts of the states.
     *(([*lines, "prove"], 0, "holds 3") for line in WAIT_LINES for lines in (
         [line, *QUESTION_LINES], [*QUESTION_LINES[:2], *BOARD, line, *PROGRAM], [*QUESTION_LINES, line, line],
         [*QUESTION_LINES, "wait 100000", line])),

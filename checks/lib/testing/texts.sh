@@ -1,4 +1,4 @@
-# Checks that mcs4 test reads several texts of tests, pipes instead of files, comments at the end of a line, and times in microseconds. Also checks
+# Checks that mcs4 test reads several files of tests, pipes instead of files, comments at the end of a line, and times in microseconds. Also checks
 # boards with a display and other lamps.
 # shellcheck shell=sh
 

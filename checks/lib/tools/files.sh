@@ -15,7 +15,7 @@ if mount -t tmpfs -o size=64k tmpfs "$small_disk" 2> /dev/null; then
         verdict "$(TMPDIR=$small_disk outcome ./mcs4 $arguments | tail -n 2)" "${arguments%% *}: $small_disk has no room for temporary files; make some, or name another place: TMPDIR
 status 1" "no room for the temporary files of $arguments"
     done
-    # A process that the tool has started can end a moment later, so several attempts are made.
+    # Makes several attempts, because a process that the tool has started can end a moment later.
     for attempt in 1 2 3 4 5 6 7 8 9 10; do if umount "$small_disk" 2> /dev/null; then break; fi; sleep 0.5; done
 else
     echo "not run: a full folder for temporary files (a file system cannot be mounted here)"
