@@ -219,17 +219,17 @@ async function tryFiles() {
   const { file } = createSession("lock");
   const damagedBytes = readFileSync(file);
   damagedBytes.fill(0x55, 16, 40000);
-  writeFileSync(`${folder}/damagedBytes.mcs`, damagedBytes);
+  writeFileSync(`${folder}/damaged.mcs`, damagedBytes);
   writeFileSync(`${folder}/none.mcs`, "no session\n");
   const client = new Client(MCS4);
   await client.request("initialize", {});
-  for (const [name, pattern] of [["damagedBytes.mcs", /no 5[01]|damagedBytes/], ["none.mcs", /no 50/], ["nothing/x.mcs", /does not exist/]]) {
+  for (const [name, pattern] of [["damaged.mcs", /no 5[01]|damaged/], ["none.mcs", /no 50/], ["nothing/x.mcs", /does not exist/]]) {
     matches((await client.fetchResponse("launch", { session: `${folder}/${name}` })).message, pattern, `${name} is rejected`);
   }
   const rejectedLaunch = await client.fetchResponse("launch", { ...example("lock"), session: `${folder}/nothing/x.mcs` });
   matches(rejectedLaunch.message, /was rejected/, "a session in a missing folder is rejected");
   verdict(readFileSync(`${folder}/none.mcs`, "utf8"), "no session\n", "a file that is not a session is unchanged");
-  verdict(Buffer.compare(readFileSync(`${folder}/damaged.mcs`), damaged), 0, "a damaged session is unchanged");
+  verdict(Buffer.compare(readFileSync(`${folder}/damaged.mcs`), damagedBytes), 0, "a damaged session is unchanged");
   await client.request("launch", example("lock"));
   const answer = await client.request("setBreakpoints", { source: { path: "/etc/passwd" }, breakpoints: [{ line: 1 }] });
   verdict(answer.breakpoints[0].verified, false, "a file outside of the program has no breakpoints");

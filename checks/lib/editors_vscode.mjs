@@ -57,7 +57,7 @@ async function begin(client) {
 const open = (client, name, languageId) => client.notify("textDocument/didOpen", {
   textDocument: { uri: uriOf(name), languageId, version: 1, text: readFileSync(`${folder}/${name}`, "utf8") } });
 
-/** Sends the requests that the editor sends when it shows a program, all at once. */
+/** Sends, all at once, the requests that the editor sends when it shows a program. */
 async function sendShowRequests(client) {
   open(client, "lock.asm", "mcs4");
   const [symbols, folds, actions, links, colours, rangeColours, hints, lenses, marks, diagnostics] = await Promise.all([

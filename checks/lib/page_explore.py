@@ -133,7 +133,7 @@ def check_test_added(browser):
 
 
 def check_counterexample_opened(browser):
-    """Checks that the counterexample opens as a session, and that the old session can be opened again and still shows its results."""
+    """Checks that the counterexample opens as a session, and that the old session can be opened again and still shows the search results."""
     browser.click("#property-list .bar button:nth-of-type(1)")
     eventually(browser, "the counterexample is opened as a session", GET_NAME, re.compile("^lamp open on only after press 4"))
     eventually(browser, "a notice offers to go back to the session", GET_NOTICE, re.compile('"lock" is saved'))

@@ -134,7 +134,7 @@ BACKDATE_FLAGS = "for (const key of Object.keys(localStorage)) if (key.startsWit
 REMOVE_FLAGS = "for (const key of Object.keys(localStorage)) if (key.startsWith('fethsaim.opening')) localStorage.removeItem(key)"
 UNFINISHED_NOTICE = 'The session "die" was not opened automatically: the last time, opening it did not finish.'
 GET_LAST_LOG_ENTRY = "return document.getElementById('log').lastElementChild.textContent"
-HAS_PROGRESS = "return document.querySelector('#work progress').value > 0"
+IS_PROGRESS_SHOWN = "return document.querySelector('#work progress').value > 0"
 GET_LONGEST_BLOCKED_TIME = "clearInterval(window.ticking); return window.longest"
 
 
@@ -148,7 +148,7 @@ def check_long_work(browser, page):
     answer_before = send_lines(browser, "seq")
     browser.script(START_LONG_WORK)
     browser.script("document.getElementById('send').click()")
-    eventually(browser, "long work shows its progress", HAS_PROGRESS, True, 60)
+    eventually(browser, "long work shows its progress", IS_PROGRESS_SHOWN, True, 60)
     browser.click("#cancel")
     eventually(browser, "long work can be cancelled", GET_NOTICE, re.compile("It was cancelled. The session is as it was before."), 30)
     print(f"during long work the page answers at least every {browser.script(GET_LONGEST_BLOCKED_TIME):.0f} ms in {browser.name}")
@@ -162,7 +162,7 @@ def check_long_work(browser, page):
     verdict("each line of the work is executed once", browser.script(GET_LAST_LOG_ENTRY), f"seqseq {int(answer_before.rsplit(' ', 1)[1]) + 20000}")
 
 
-SHORTEN_WAIT = """
+SHORTEN_STORE_WAIT = """
 const wait = setTimeout;
 window.setTimeout = (handler, time, ...rest) => wait(handler, time === 10000 ? 300 : time, ...rest);
 """
@@ -171,7 +171,7 @@ window.setTimeout = (handler, time, ...rest) => wait(handler, time === 10000 ? 3
 def page_without_feature(page, folder, code):
     """Writes a copy of the page in which `code` removes a feature of the browser, and returns its path. The copy waits for a store for 0.3 seconds
     instead of ten."""
-    return write_altered_page(page, folder, f"{SHORTEN_WAIT}{code}")
+    return write_altered_page(page, folder, f"{SHORTEN_STORE_WAIT}{code}")
 
 
 def notice_after_reopening(browser, page, code=GET_NOTICE, expected=re.compile(".")):

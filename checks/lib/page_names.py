@@ -20,7 +20,7 @@ GET_STACK = "return [...document.querySelectorAll('.stack button')].map((row) =>
 # The addresses in the disassembly.
 GET_ADDRESSES = "return [...document.querySelectorAll('#lines-of-program button:not([hidden])')].map((row) => row.textContent.match(/[0-9A-F]{3}/)[0])"
 # The breakpoint marks in the source's margin and in the disassembly.
-GET_MARKS = """
+GET_BREAKPOINT_MARKS = """
 const marks = [...document.querySelectorAll(".mark-breakpoints")].map((mark) => `${mark.textContent} ${mark.title}`);
 const rows = [...document.querySelectorAll("#lines-of-program button[aria-pressed='true']")].filter((row) => !row.hidden);
 return [marks.join(), rows.map((row) => row.querySelector("i").textContent).join()]"""
@@ -176,7 +176,7 @@ def check_breakpoint_inside_instruction(browser, source, values, lines):
     send_lines(browser, f"break 0x{second_address}")
     browser.script(SHOW_MARGIN, call)
     eventually(browser, "a breakpoint inside an instruction moves to the next instruction", GET_BREAKPOINT_LINES, str(source[next_address][0]))
-    eventually(browser, "the mark of the breakpoint in the source and in the disassembly", GET_MARKS, ["\u25cf breakpoint", "\u25cf"])
+    eventually(browser, "the mark of the breakpoint in the source and in the disassembly", GET_BREAKPOINT_MARKS, ["\u25cf breakpoint", "\u25cf"])
     verdict("the address of the breakpoint in the bench", send_lines(browser, "breaks"), re.compile(f"breaks {next_address}$"))
     browser.script(CLICK_MARGIN, source[next_address][0])
     eventually(browser, "a click in the margin clears the breakpoint", GET_BREAKPOINT_LINES, "")

@@ -15,7 +15,7 @@ GET_TESTS_STATUS = "return document.querySelector('#tests-editor .status-text').
 GET_RESULTS = """return [...document.querySelectorAll('#test-list > li > p:first-child')]
   .map((each) => each.textContent.split(' ').slice(0, 4).join(' '))"""
 GET_FAILURES = "return [...document.querySelectorAll('#test-list .wrong')].map((node) => node.textContent)"
-GET_COUNTS = "return [...document.querySelectorAll('#program-editor .mark-counts')].map((node) => node.textContent).filter(Boolean)"
+GET_RUN_COUNTS = "return [...document.querySelectorAll('#program-editor .mark-counts')].map((node) => node.textContent).filter(Boolean)"
 GET_PROFILE_LABELS = """return [...document.querySelectorAll('#profile-labels tr')]
   .map((row) => [...row.cells].map((cell) => cell.textContent).join(' ').trim())"""
 GET_TAB_MARK = "return document.querySelector('#tests-tab .mark').textContent"
@@ -43,7 +43,7 @@ def check_passing_tests(browser):
     verdict("the cycles below each label", browser.script(GET_PROFILE_LABELS),
             ["turn 016 2,084 96.5", "next 005 60 2.8", "wait 014 8 0.4 4 2,092 523", "first 003 4 0.2", "(no label)  3 0.1"])
     show_text(browser, "program")
-    eventually(browser, "the counts are beside the source", f"{GET_COUNTS}.slice(-5).join(' ')", "3 4 976 912/64 64 60/4 4")
+    eventually(browser, "the counts are beside the source", f"{GET_RUN_COUNTS}.slice(-5).join(' ')", "3 4 976 912/64 64 60/4 4")
 
 
 def check_failing_test(browser):
@@ -51,7 +51,7 @@ def check_failing_test(browser):
     results."""
     program = browser.script(GET_TEXT_OF_EDITOR, "#program-editor")
     browser.script(PUT_INTO_EDITOR, "#program-editor", program.replace("0x0C", "0x0D"))
-    verdict("an edit removes the counts", browser.script(GET_COUNTS), [])
+    verdict("an edit removes the counts", browser.script(GET_RUN_COUNTS), [])
     run_tests(browser)
     eventually(browser, "a test fails", GET_TESTS_STATUS, "1 of 2 tests failed.")
     verdict("the tab reports the failure", browser.script(GET_TAB_MARK), "1 failed")

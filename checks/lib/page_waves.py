@@ -234,7 +234,7 @@ def check_live_recording(browser, folder, mcs4):
 
 
 def changes_after(file, cycle):
-    """Returns the changes in a VCD file after a cycle. Each is a pair of the number of cycles since that cycle and the file's line."""
+    """Returns the changes in a VCD file after a cycle. Each is a pair: the number of cycles since that cycle, and the file's line with the change."""
     lines = file.decode().split("$enddefinitions $end\n")[1].split("\n")
     changes, time = [], 0
     for line in lines:

@@ -135,16 +135,16 @@ class LiteralSearch:
             ages = self.ages_after(ages, times)
             if not ages:
                 continue
-            following = self.next_machine(number, levels)
-            if following < 0:
+            next_number = self.next_machine(number, levels)
+            if next_number < 0:
                 return "may fail"
             if len(self.successors) > max_cycles or len(self.ages) > 4 * max_cycles:
                 return "too many"
-            self.reach(following, levels, times, ages)
+            self.reach(next_number, levels, times, ages)
             if ages >> self.wait:
                 for other_levels in range(len(self.levels)):
                     if other_levels != levels:
-                        self.reach(following, other_levels, times, 1)
+                        self.reach(next_number, other_levels, times, 1)
         return "holds"
 
 

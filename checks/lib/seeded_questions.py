@@ -353,8 +353,8 @@ def limited_question(seed: int, max_states: int) -> Question:
     rng = random.Random(f"limits {seed}")
     for _attempt in range(MAX_ATTEMPTS):
         question = random_limited_question(rng, max_states)
-        few_states = dataclasses.replace(question, max_states=30)
-        if search(few_states) != search(without_limits(few_states)):
+        few_states_question = dataclasses.replace(question, max_states=30)
+        if search(few_states_question) != search(without_limits(few_states_question)):
             break
     return question
 

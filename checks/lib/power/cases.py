@@ -151,8 +151,8 @@ FAULTY_TRIALS = (
 
 
 def cases_of(file_system: str) -> list[str]:
-    """Returns the names of the cases of NEW_CASES and OPEN_CASES for a file system. Omits `new-link` for those that show stale data:
-    of these, only vfat is used here, and FAT has no links."""
+    """Returns the names of the cases of NEW_CASES and OPEN_CASES for a file system. Omits `new-link` if the file system shows stale data: the only
+    such file system here is vfat, and it has no links."""
     return [*NEW_CASES, *([] if FILE_SYSTEMS[file_system].shows_stale_data else ["new-link"]), *OPEN_CASES]
 
 

@@ -192,9 +192,9 @@ class Machine:
             self.connections.append(connection)
             self.selector.register(channel, selectors.EVENT_READ, connection)
         else:
-            line = self.shell if name == "shell" else self.program
-            line.channel = channel
-            self.selector.register(channel, selectors.EVENT_READ, line)
+            serial_line = self.shell if name == "shell" else self.program
+            serial_line.channel = channel
+            self.selector.register(channel, selectors.EVENT_READ, serial_line)
 
     def end_connection(self, channel: socket.socket) -> None:
         """Removes and closes a connection of QEMU to a disk."""

@@ -74,7 +74,8 @@ def digest(answers: bytes) -> str:
 
 
 class Sessions:
-    """The states after each number of commands, as the program reports them. Session files are compared with these states."""
+    """The state of a session after no command, after the first command, and so on, as the program reports it. Session files are compared with these
+    states."""
 
     def __init__(self, program: str, folder: pathlib.Path, count: int) -> None:
         self.program, self.folder = program, folder

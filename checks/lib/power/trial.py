@@ -28,8 +28,8 @@ MEBIBYTE = 1 << 20
 # A shell line that starts another writer on the file system, so that the file system commits between the writes of the program.
 START_OTHER_WRITER = "(cd /; n=/mnt/noise; while :; do echo noise >> $n/a; mv $n/a $n/b; sleep 0.3; mv $n/b $n/a; done) & busy=$!"
 # Shell lines. START_PROGRAM starts the program with its serial line as input and output, and reports if the program ends unexpectedly.
-# STOP_AND_UNMOUNT ends all processes that use the file system, and unmounts it, with a second attempt because an ended process can keep the file
-# system in use for a moment.
+# STOP_AND_UNMOUNT ends all processes that use the file system, and unmounts it. If this fails, it tries again a second later, because a process that
+# has ended can keep the file system in use for a moment.
 START_PROGRAM = "{{ {environment} mcs4 {arguments} <&3 >&3; status=$?; [ -e /tmp/end ] || echo ended with status $status >&3; }} &"
 STOP_AND_UNMOUNT = "cd /; : > /tmp/end; kill $busy; killall mcs4; wait; rm /tmp/end; umount /mnt || { sleep 1; umount /mnt; }"
 # The allowed results if the power is cut before the first answer of `new`, on a file system that shows only written data.
