@@ -41,7 +41,7 @@ def parse_number(word: str) -> int:
 
 
 def reader_of(place: str) -> Callable[[Board], str]:
-    """Returns a function that reads the value of a place or of a board line."""
+    """Returns a function that reads the value of a place, such as `acc`, or the level of an I/O line."""
     if re.fullmatch(r"(rom|chain)\w+\.\w+|ram\w+\.\w+\.\w+", place):
         line = line_of(place)
         return lambda board: str(board.chips.level(line))
@@ -171,7 +171,7 @@ class Bench:
                 yield line, self.answer(*words)
 
     def answer(self, command: str, *operands: object) -> list[str]:
-        """Returns the lines of the answer to a command or a query. Its operands are words, or the lines of a text."""
+        """Returns the lines of the answer to a command or a query. The operands are words, or the lines of a text."""
         if command in QUERIES:
             return QUERIES[command](self, *operands)
         reply = COMMANDS[command](self.board, *operands)
@@ -262,7 +262,7 @@ def poke(board: Board, place: str, value_text: str) -> str:
 
 
 def run_answer(cycles_and_stop: tuple[int, str]) -> str:
-    """Returns the words after `ok N` for a run or a step, from its number of cycles and its reason for the stop."""
+    """Returns the words that follow `ok N` in the answer to a run or a step. Gets the number of cycles, and the reason for the stop."""
     return " ran {} {}".format(*cycles_and_stop)
 
 

@@ -16,7 +16,7 @@ from assembler import CODES_WITHOUT_OPERAND, CODES_ON_PAIR, CODES_ON_REGISTER, C
 ADDRESS_COUNT = 4096
 TWO_WORDS = {"JCN", "FIM", "JUN", "JMS", "ISZ"}
 TWO_CYCLES = TWO_WORDS | {"FIN"}
-# A line of the board: `rom` with chip and line number, `ram` with bank, chip and line number, or `chain` with its number and a bit number.
+# An I/O line: `rom` with chip and line number, `ram` with bank, chip and line number, or `chain` with the chain's number and a bit number.
 Line = tuple[str, tuple[int, ...]]
 
 
@@ -35,13 +35,13 @@ CODES = operations_by_code()
 
 
 def line_of(name: str) -> Line:
-    """Parses the name of a line: `rom0.1`, `ram0.1.3`, `chain0.79`."""
-    numbers = name.lstrip("abcdefghijklmnopqrstuvwxyz")
-    return name.removesuffix(numbers), tuple(int(number) for number in numbers.split("."))
+    """Parses the name of an I/O line: `rom0.1`, `ram0.1.3`, `chain0.79`."""
+    number_text = name.lstrip("abcdefghijklmnopqrstuvwxyz")
+    return name.removesuffix(number_text), tuple(int(number) for number in number_text.split("."))
 
 
 class Chips:
-    """The chips, keys and lamps that a board's text describes."""
+    """The chips, keys and lamps of a board, which a board text describes."""
 
     def __init__(self, text: str = "") -> None:
         wiring = tomllib.loads(text)
@@ -72,7 +72,7 @@ class Chips:
         return src >> 6 < self.chips.get(bank, 0)
 
     def level(self, line: Line) -> int:
-        """Returns the level of a line, or 0 if the board does not have it."""
+        """Returns the level of an I/O line, or 0 if the board does not have this line."""
         kind, numbers = line
         if kind == "ram":
             return self.ram_latch.get(numbers[:2], 0) >> numbers[2] & 1
@@ -84,11 +84,11 @@ class Chips:
         return self.is_pulled(line) if self.masks[number][k] == "i" else self.rom_latch[number] >> k & 1
 
     def levels(self, kind: str, *chip: int) -> int:
-        """Returns the levels of a port's four lines; line k is bit k."""
+        """Returns the levels of the four lines of a port as a number. Bit k is the level of line k."""
         return sum(self.level((kind, (*chip, k))) << k for k in range(4))
 
     def is_pulled(self, line: Line) -> int:
-        """Returns the level of an input line. It is 1 if a pressed key connects the line to a driven row."""
+        """Returns the level of an input line: 1 if a pressed key connects the line to a driven row, otherwise 0."""
         return int(any(self.columns[column] == line and self.chains[self.keys["chain"]][self.keys["first"] + row] for row, column in self.pressed_keys))
 
     def lamp_marks(self) -> str:
@@ -253,8 +253,8 @@ def nop(_board: Board, _low: int, _second_byte: int) -> None:
 
 def jcn(board: Board, condition: int, second_byte: int) -> None:
     """Jump conditional: bit 2 tests for ACC 0, bit 1 for a carry, bit 0 for TEST 0; bit 3 inverts the condition."""
-    is_true = condition & 4 and board.acc == 0 or condition & 2 and board.cy == 1 or condition & 1 and board.test == 0
-    if bool(is_true) != bool(condition & 8):
+    is_condition_met = condition & 4 and board.acc == 0 or condition & 2 and board.cy == 1 or condition & 1 and board.test == 0
+    if bool(is_condition_met) != bool(condition & 8):
         jump_on_page(board, second_byte)
 
 

@@ -8,7 +8,7 @@ SECTIONS = ("rom", "ram", "chain", "keys", "lamp")
 MAX_TABLES = {"rom": 16, "ram": 8, "chain": 4, "lamp": 64}
 MAX_COLUMNS = 8
 BITS_PER_CHIP = 10
-# The keys whose values must be unique within a section.
+# The TOML keys whose values must be unique within a section.
 UNIQUE_KEYS = {"rom": "chip", "ram": "bank"}
 
 
@@ -18,7 +18,7 @@ def is_within(first, last):
 
 
 def numbers_of(name):
-    """Returns the kind and numbers in a line's name, or None if `name` is not a line's name."""
+    """Returns the kind and the numbers in the name of an I/O line, or None if `name` is not such a name."""
     if not isinstance(name, str):
         return None
     match = re.fullmatch(r"(rom|ram|chain)(0|[1-9]\d?)\.(0|[1-9]\d?)(?:\.(0|[1-9]))?", name, re.ASCII)
@@ -32,12 +32,12 @@ def numbers_of(name):
 
 
 def is_line(value):
-    """Returns true if a value is the name of a line."""
+    """Returns true if a value is the name of an I/O line."""
     return numbers_of(value) is not None
 
 
-# The keys that each table must have, in the manual's order, each with a function that tests its value.
-KEYS = {
+# The TOML keys that each section's tables must have, in the manual's order, each with a function that tests its value.
+KEYS_OF_SECTIONS = {
     "rom": {"chip": is_within(0, 15), "port": lambda value: isinstance(value, str) and re.fullmatch("[i01]{4}", value, re.ASCII) is not None},
     "ram": {"bank": is_within(0, 7), "chips": is_within(1, 4)},
     "chain": {"clock": is_line, "data": is_line, "chips": is_within(1, 8)},
@@ -74,8 +74,8 @@ class ParsedBoard:
         self.tables = list(tables_of(document))
 
     def first_error(self):
-        """Returns the first error: its number, the section, the number of the table, and the key. Where they do not apply, the section is "", the
-        number of the table 0, and the key None. Returns None if the board is valid."""
+        """Returns the first error: its number, the section, the number of the table, and the key. Uses "" for no section, 0 for no table, and None
+        for no key. Returns None if the board is valid."""
         for find_errors in (self.unknown_key_errors, self.missing_key_errors, self.value_errors, self.excess_errors, self.repetition_errors):
             for part in find_errors():
                 return part
@@ -83,21 +83,21 @@ class ParsedBoard:
         return next((part for number in (25, 26) for part in line_errors if part[0] == number), None)
 
     def unknown_key_errors(self):
-        """Yields error 21 for each unknown key."""
+        """Yields error 21 for each unknown TOML key."""
         for key in sorted(self.document):
             if key not in SECTIONS:
                 yield 21, "", 0, key
         for section, index, table in self.tables:
             if isinstance(table, dict):
                 for key in sorted(table):
-                    if key not in KEYS[section]:
+                    if key not in KEYS_OF_SECTIONS[section]:
                         yield 21, section, index, key
 
     def missing_key_errors(self):
-        """Yields error 22 for each missing key."""
+        """Yields error 22 for each missing TOML key."""
         for section, index, table in self.tables:
             if isinstance(table, dict):
-                for key in KEYS[section]:
+                for key in KEYS_OF_SECTIONS[section]:
                     if key not in table:
                         yield 22, section, index, key
 
@@ -110,12 +110,12 @@ class ParsedBoard:
             if not isinstance(table, dict):
                 yield 23, section, index, None
                 continue
-            for key, is_valid in KEYS[section].items():
+            for key, is_valid in KEYS_OF_SECTIONS[section].items():
                 if not is_valid(table[key]):
                     yield 23, section, index, key
 
     def excess_errors(self):
-        """Yields error 27 for each kind of table that occurs too often, and for too many columns."""
+        """Yields error 27 for each section with too many tables, and for too many columns of the key matrix."""
         for section in SECTIONS:
             tables = [table for kind, _index, table in self.tables if kind == section]
             if section in MAX_TABLES and len(tables) > MAX_TABLES[section]:
@@ -145,7 +145,7 @@ class ParsedBoard:
         return None
 
     def line_errors(self):
-        """Yields errors 25 and 26: missing lines, and lines with the wrong direction."""
+        """Yields errors 25 and 26: I/O lines that the board lacks, and I/O lines with the wrong direction."""
         chips = [table["chips"] for section, _index, table in self.tables if section == "chain"]
         for section, index, table in self.tables:
             if section == "chain":
@@ -161,7 +161,7 @@ class ParsedBoard:
                 yield from self.errors_of_lines(section, index, "line", [table["line"]], "ob")
 
     def errors_of_lines(self, section, index, key, names, allowed):
-        """Yields the errors of the lines that a key names. `allowed` contains the directions that the lines can have."""
+        """Yields the errors of the I/O lines that a TOML key names. `allowed` contains the directions that these lines can have."""
         directions = [self.direction(name) for name in names]
         if None in directions:
             yield 25, section, index, key
@@ -180,15 +180,15 @@ def line_of(lines, part):
     """Returns the number of lines in the shortest prefix of the text that is valid TOML and contains a part. `part` describes this part as
     `ParsedBoard.first_error` does."""
     _number, section, index, key = part
-    too_short, long_enough = 0, len(lines)
-    while long_enough - too_short > 1:
-        middle = (too_short + long_enough) // 2
+    too_short_count, sufficient_count = 0, len(lines)
+    while sufficient_count - too_short_count > 1:
+        middle = (too_short_count + sufficient_count) // 2
         count, document = longest_valid_prefix(lines[:middle], middle)
         if has_part(document, section, index, key):
-            long_enough = count
+            sufficient_count = count
         else:
-            too_short = middle
-    return long_enough
+            too_short_count = middle
+    return sufficient_count
 
 
 def wiring_answer(lines):

@@ -5,7 +5,7 @@ import re
 from session_file import Board, chain_line, ram_line, rom_line
 
 KINDS = ("rom", "ram", "chain", "keys", "lamp")
-EQUALS = (" = ", " = ", "=", "\t= ")
+EQUAL_SIGNS = (" = ", " = ", "=", "\t= ")
 TEXT_ENDS = ("\n", "\n", "\n\n", " # one\n", "\t\n# one more\n")
 
 
@@ -61,7 +61,7 @@ def pairs_of(rng, table, prefix=""):
     """Returns a table's `KEY = VALUE` strings in random order, each with a prefix."""
     items = list(table.items())
     rng.shuffle(items)
-    return [f"{prefix}{key_text(rng, key)}{rng.choice(EQUALS)}{value_text(rng, value)}" for key, value in items]
+    return [f"{prefix}{key_text(rng, key)}{rng.choice(EQUAL_SIGNS)}{value_text(rng, value)}" for key, value in items]
 
 
 def inline_table(rng, table):
@@ -70,7 +70,7 @@ def inline_table(rng, table):
 
 
 def top_lines(rng, section, tables):
-    """Returns the lines for the tables that are written before the first header."""
+    """Returns the lines that define a section's tables at the top of the text, before the first header."""
     key = key_text(rng, section)
     if section != "keys":
         rows = [f"  {inline_table(rng, table)},\n" for table in tables]

@@ -8,7 +8,7 @@ ELEMENT_KEY = "element-6066-11e4-a52e-4f735466cecf"
 PAUSE = {"type": "pause", "duration": 10}
 # JavaScript that is inserted before every script: a function that returns true if an element is visible. The oldest browsers have no
 # `checkVisibility`.
-BEFORE_SCRIPTS = "const isShown = (element) => element.getClientRects().length > 0;\n"
+SCRIPT_PRELUDE = "const isShown = (element) => element.getClientRects().length > 0;\n"
 GET_POSITION_AND_TEXT = """
 const element = document.querySelector(arguments[0]);
 return `${element.getBoundingClientRect().top} ${element.textContent}`"""
@@ -95,8 +95,8 @@ class BrowserDriver:
         """Touches an element with one finger for a time in milliseconds. (For WebKit, whose driver cannot touch, a script dispatches the events.)"""
         self.touch_together([selector], milliseconds_down)
 
-    def click_secondary(self, x, y):
-        """Clicks a point of the window with the secondary mouse button."""
+    def right_click(self, x, y):
+        """Clicks a point of the window with the right mouse button."""
         self.perform_actions({"type": "pointer", "id": "mouse", "parameters": {"pointerType": "mouse"}, "actions": [
             {"type": "pointerMove", "duration": 0, "x": x, "y": y}, {"type": "pointerDown", "button": 2}, {"type": "pointerUp", "button": 2}]})
 

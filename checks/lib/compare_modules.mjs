@@ -101,13 +101,13 @@ function randomInput() {
   return random(6) ? text : text.slice(0, random(text.length));
 }
 
-let comparisons = 0;
-let failures = 0;
+let comparisonCount = 0;
+let failureCount = 0;
 /** Counts a comparison, and prints its name if it failed. */
 function countComparison(name, isRight) {
-  comparisons += 1;
+  comparisonCount += 1;
   if (isRight) return;
-  failures += 1;
+  failureCount += 1;
   console.error(`compare_modules: ${name}`);
 }
 
@@ -173,5 +173,5 @@ for (let number = 1; number <= Number(count); number++) {
   if (number % 3 === 0) tryFile(`damaged file ${number}`, damagedCopy(instances[0].getFile()));
   if (number % 25 === 0) tryFile(`a file of another size, ${number}`, Buffer.alloc(pick([0, 1, 16, 163855, 163857]), 7));
 }
-console.log(`${count} sessions, ${comparisons} comparisons, ${failures} differ`);
-process.exitCode = failures === 0 ? 0 : 1;
+console.log(`${count} sessions, ${comparisonCount} comparisons, ${failureCount} differ`);
+process.exitCode = failureCount === 0 ? 0 : 1;

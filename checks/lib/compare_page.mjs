@@ -41,7 +41,7 @@ const MNEMONICS = ("NOP CLB CLC IAC CMC CMA RAL RAR TCC DAC TCS STC DAA KBP DCL 
   + "RD0 RD1 RD2 RD3 WPM").split(" ");
 const PLACES = [() => "acc", () => "cy", () => "pc", () => "dcl", () => `r${random(17)}`, () => `rom.${random(4200)}`,
   () => `ram.${random(9)}.${random(260)}`, () => `st.${random(8)}.${random(16)}.${random(5)}`];
-const PROBES = PLACES.concat([() => "lamps", () => "ret", () => `rom${random(17)}.${random(4)}`,
+const TRACE_PLACES = PLACES.concat([() => "lamps", () => "ret", () => `rom${random(17)}.${random(4)}`,
   () => `ram${random(8)}.${random(5)}.${random(4)}`, () => `chain${random(4)}.${random(81)}`, () => `rom${random(16)}`, () => `ram${random(8)}.${random(4)}`,
   () => `chain${random(4)}`, () => "src"]);
 
@@ -67,7 +67,7 @@ function randomLine() {
     () => `watch ${random(9)} ${random(3) ? random(64) : random(260)}`, () => `unwatch ${random(8)} ${random(64)}`,
     () => pick(["lamps", "regs", "breaks", "watches", "board", "seq", "state"]), () => pick(["state", "watches", "regs"]),
     () => `count ${1 + random(2000)}`,
-    () => `trace ${1 + random(300)} ${Array.from({ length: random(5) }, () => callOneOf(PROBES)).join(" ")}`,
+    () => `trace ${1 + random(300)} ${Array.from({ length: random(5) }, () => callOneOf(TRACE_PLACES)).join(" ")}`,
     () => `ram ${random(9)}`, () => `list ${random(4200)} ${random(260)}`, () => `wire\n${pick(BOARDS)}.`, () => randomProgram().trimEnd(),
     () => `foo ${random(9)}`, () => "", () => "\tregs \r", () => "wire now", () => "x".repeat(250 + random(10)), () => "caf\u00e9"]);
 }
@@ -96,7 +96,7 @@ function programResult(file, input) {
   return { output: result.stdout.toString("latin1"), status: result.status, file: readFileSync(path) };
 }
 
-// Returns the answers, the exit status and the session file of a call of the page's module. The call `bench_serve` serves without settling.
+// Calls the page's module. Returns its answers, exit status and session file. By default, the call is `bench_serve`, which does not settle the file.
 function pageResult(engine, file, input, call = "bench_serve") {
   try {
     const { status, openingAnswer, answers } = engine.callForAnswers(call, file || engine.begin(), input);
@@ -153,11 +153,11 @@ function toVersion1(file) {
   const length = new DataView(file.buffer, file.byteOffset).getUint32(slot);
   const snapshot = file.slice(slot + 4, slot + 4 + length);
   if (snapshot[length - 1] !== 0) return null;
-  const old = file.slice();
-  old.set(snapshot.slice(0, 4), slot + 4);
-  old.set(snapshot.slice(5, length - 1), slot + 8);
-  new DataView(old.buffer).setUint32(slot, length - 2);
-  return old;
+  const version1File = file.slice();
+  version1File.set(snapshot.slice(0, 4), slot + 4);
+  version1File.set(snapshot.slice(5, length - 1), slot + 8);
+  new DataView(version1File.buffer).setUint32(slot, length - 2);
+  return version1File;
 }
 
 // Returns true if version 1 can store the board: at most two chains, each of at most four 4003s.

@@ -7,7 +7,7 @@ import { Client } from "./dap_client.mjs";
 const TOP = new URL("../..", import.meta.url).pathname;
 const MCS4 = `${TOP}mcs4`;
 const [folder] = process.argv.slice(2);
-const STEPS = 200;
+const STEP_COUNT = 200;
 /** The number of cycles up to the breakpoint in the program of the speed measurement. */
 const CYCLES_TO_BREAKPOINT = [1, 2, 3, 4, 5].reduce((sum, register) => sum + 2 * 12 * 16 ** (5 - register), 3 * 12 * 16 ** 5);
 
@@ -64,31 +64,31 @@ async function machineState(client) {
   return { acc: digits("acc"), cy: values.cy, pc: digits("pc"), dcl: digits("dcl"), test: values.test, r };
 }
 
-/** Returns only the values in an answer to `state` that `machineState` returns, too. */
+/** From the values in an answer to `state`, returns only those that `machineState` returns, too. */
 const comparableState = ({ acc, cy, pc, dcl, test, r }) => ({ acc, cy, pc, dcl, test, r });
 
 /** Compares steps of the adapter in an example, forward and back, with the steps of the native program. */
 async function trySteps(name) {
   const { lineAt, file } = createSession(name);
-  const expected = runProgram("open", file, "state\nstep\n".repeat(STEPS)).filter((line) => line.startsWith("state ")).map(valuesOf);
+  const expected = runProgram("open", file, "state\nstep\n".repeat(STEP_COUNT)).filter((line) => line.startsWith("state ")).map(valuesOf);
   const client = new Client(MCS4);
   await client.beginSession({ project: example(name).project });
   const events = [await client.waitForEvent("stopped")];
   const states = [];
   const lines = [];
-  for (let step = 0; step < STEPS; step++) {
+  for (let step = 0; step < STEP_COUNT; step++) {
     states.push(await machineState(client));
     lines.push((await client.fetchFrames())[0].line);
     events.push(await client.runUntilStop("stepIn"));
   }
-  verdict(states, expected.map(comparableState), `${name}: ${STEPS} steps`);
+  verdict(states, expected.map(comparableState), `${name}: ${STEP_COUNT} steps`);
   verdict(lines, expected.map(({ pc }) => lineAt.get(parseInt(pc, 16)) || 0), `${name}: the lines of the steps`);
-  const statesBack = [];
+  const backwardStates = [];
   for (let step = 0; step < 40; step++) {
     await client.runUntilStop("stepBack");
-    statesBack.unshift(await machineState(client));
+    backwardStates.unshift(await machineState(client));
   }
-  verdict(statesBack, states.slice(-40), `${name}: 40 steps back`);
+  verdict(backwardStates, states.slice(-40), `${name}: 40 steps back`);
   verdict(client.violations, [], `${name}: each message follows the protocol`);
   verdict(await client.endSession(), 0, `${name}: the adapter's status`);
 }
@@ -101,7 +101,7 @@ async function tryBreakpoints(name) {
   const client = new Client(MCS4);
   await client.beginSession(example(name));
   await client.waitForEvent("stopped");
-  const initial = await client.request("evaluate", { expression: "state", context: "repl" });
+  const initialState = await client.request("evaluate", { expression: "state", context: "repl" });
   for (const [label, address] of labels) {
     copyFileSync(file, `${folder}/run.mcs`);
     const answers = runProgram("open", `${folder}/run.mcs`, `break ${address}\nrun 50000\nunbreak ${address}\nstate\n`);
@@ -113,7 +113,7 @@ async function tryBreakpoints(name) {
     verdict([stop.reason, await machineState(client)], ["function breakpoint", comparableState(valuesOf(answers[3]))], `${name}: a breakpoint at ${label}`);
     await client.request("setFunctionBreakpoints", { breakpoints: [] });
   }
-  matches(initial.result, /^state seq 2 acc 0 cy 0 pc 000/, `${name}: the state after launch`);
+  matches(initialState.result, /^state seq 2 acc 0 cy 0 pc 000/, `${name}: the state after launch`);
   await client.endSession();
 }
 
@@ -131,14 +131,14 @@ async function tryArrivals(name, label, register) {
   await client.waitForEvent("stopped");
   const { breakpoints: [{ id }] } = await client.request("setFunctionBreakpoints", { breakpoints: [{ name: label }] });
   for (let stop = 0; stop < 40; stop++) await client.runUntilStop("continue");
-  const stopsBack = [];
+  const backwardStops = [];
   const ids = [];
   for (let stop = 0; stop < 20; stop++) {
     const { reason, hitBreakpointIds } = await client.runUntilStop("reverseContinue");
-    stopsBack.push(await machineState(client));
+    backwardStops.push(await machineState(client));
     ids.push([reason, ...(hitBreakpointIds || [])]);
   }
-  verdict(stopsBack, expected.slice(20, 40).reverse().map(comparableState), `${name}: back to 20 arrivals at ${label}`);
+  verdict(backwardStops, expected.slice(20, 40).reverse().map(comparableState), `${name}: back to 20 arrivals at ${label}`);
   verdict(ids.filter(([reason, hit]) => reason !== "function breakpoint" || hit !== id), [], `${name}: each stop is by that breakpoint`);
   const value = expected[10].r[register];
   const matching = expected.slice(1, 20).filter(({ r }) => r[register] === value).reverse();
@@ -217,9 +217,9 @@ async function trySession() {
 /** Checks that the adapter rejects files that are not sessions, and does not change them. */
 async function tryFiles() {
   const { file } = createSession("lock");
-  const damaged = readFileSync(file);
-  damaged.fill(0x55, 16, 40000);
-  writeFileSync(`${folder}/damaged.mcs`, damaged);
+  const damagedBytes = readFileSync(file);
+  damagedBytes.fill(0x55, 16, 40000);
+  writeFileSync(`${folder}/damaged.mcs`, damagedBytes);
   writeFileSync(`${folder}/none.mcs`, "no session\n");
   const client = new Client(MCS4);
   await client.request("initialize", {});
@@ -229,14 +229,14 @@ async function tryFiles() {
   const rejectedLaunch = await client.fetchResponse("launch", { ...example("lock"), session: `${folder}/nothing/x.mcs` });
   matches(rejectedLaunch.message, /was rejected/, "a session in a missing folder is rejected");
   verdict(readFileSync(`${folder}/none.mcs`, "utf8"), "no session\n", "a file that is not a session is unchanged");
-  verdict(Buffer.compare(readFileSync(`${folder}/damaged.mcs`), damaged), 0, "a damaged session is unchanged");
+  verdict(Buffer.compare(readFileSync(`${folder}/damaged.mcs`), damagedBytes), 0, "a damaged session is unchanged");
   await client.request("launch", example("lock"));
   const answer = await client.request("setBreakpoints", { source: { path: "/etc/passwd" }, breakpoints: [{ line: 1 }] });
   verdict(answer.breakpoints[0].verified, false, "a file outside of the program has no breakpoints");
   await client.endSession();
 }
 
-/** Checks that the adapter reports errors in messages. */
+/** Checks that the adapter answers invalid or untimely messages with the correct error. */
 async function tryMessages() {
   const client = new Client(MCS4);
   matches((await client.fetchResponse("threads")).message, /send initialize first/, "a request before initialize");
@@ -296,7 +296,7 @@ async function trySpeed() {
   await client.request("setFunctionBreakpoints", { breakpoints: [{ name: "far" }] });
   const start = performance.now();
   const stop = await client.runUntilStop("continue");
-  const time = (performance.now() - start) / 1000;
+  const seconds = (performance.now() - start) / 1000;
   const stepBackTimes = await measureTimes(20, () => client.runUntilStop("stepBack"));
   console.log(`speed: a step back after millions of cycles is reported in ${describeTimes(stepBackTimes)}`);
   for (const breakpoint of [{ name: "count3" }, { name: "turn", condition: "r1 = 0 and r0 = 0" }]) {
@@ -307,7 +307,7 @@ async function trySpeed() {
   }
   const { result } = await client.request("evaluate", { expression: "count 1", context: "repl" });
   verdict([stop.reason, /^count/.test(result)], ["function breakpoint", true], "a distant breakpoint");
-  console.log(`speed: ${(CYCLES_TO_BREAKPOINT / 1e6).toFixed(1)} million cycles to a breakpoint in ${time.toFixed(2)} s`);
+  console.log(`speed: ${(CYCLES_TO_BREAKPOINT / 1e6).toFixed(1)} million cycles to a breakpoint in ${seconds.toFixed(2)} s`);
   await client.endSession();
 }
 

@@ -44,10 +44,10 @@ function sessionFile(name, lines) {
 }
 
 /**
- * Sends the requests that Visual Studio Code sends up to the first stop. Resolves to the results of three of them, and to the body of the
- * event `stopped`.
+ * Sends the requests that Visual Studio Code sends up to the first stop. Resolves to the capabilities, the results of two requests that set
+ * breakpoints, and the body of the event `stopped`.
  */
-async function begin(client, command, args, { watches = [], filterOptions = [], functions = [] } = {}) {
+async function startDebugging(client, command, args, { watches = [], filterOptions = [], functions = [] } = {}) {
   const capabilities = await client.request("initialize", VSCODE);
   const launchResponse = client.fetchResponse(command, { name: "MCS-4", type: "mcs4", request: command, __sessionId: "1", ...args });
   await client.waitForEvent("initialized");
@@ -63,10 +63,10 @@ async function begin(client, command, args, { watches = [], filterOptions = [], 
 /** Sends the requests that Visual Studio Code sends at each stop. Resolves to their results. */
 async function readStop(client) {
   await client.request("threads");
-  const top = await client.request("stackTrace", { threadId: 1, startFrame: 0, levels: 1 });
-  const rest = await client.request("stackTrace", { threadId: 1, startFrame: 1, levels: 19 });
-  const frames = [...top.stackFrames, ...rest.stackFrames];
-  verdict(frames.length, top.totalFrames, "the frames arrive in two parts");
+  const firstPart = await client.request("stackTrace", { threadId: 1, startFrame: 0, levels: 1 });
+  const secondPart = await client.request("stackTrace", { threadId: 1, startFrame: 1, levels: 19 });
+  const frames = [...firstPart.stackFrames, ...secondPart.stackFrames];
+  verdict(frames.length, firstPart.totalFrames, "the frames arrive in two parts");
   const { scopes } = await client.request("scopes", { frameId: frames[0].id });
   return { frames, scopes };
 }
@@ -78,7 +78,7 @@ async function tryAttach() {
   const before = readFileSync(file);
   const [state] = answersOf(file, "state\n");
   const client = new Client(ADAPTER);
-  const { stopped } = await begin(client, "attach", { session: file });
+  const { stopped } = await startDebugging(client, "attach", { session: file });
   verdict([stopped.reason, (await client.request("evaluate", { expression: "state", context: "repl" })).result], ["entry", state], "the state after attach is that of the file");
   await readStop(client);
   const stateAfterSteps = answersOf(file, "step\nstep\nstep\nstate\n").pop();
@@ -92,7 +92,7 @@ async function tryAttach() {
   verdict([await client.ended, Buffer.compare(before, readFileSync(file)), client.violations], [0, 0, []], "the adapter's status, and the file is unchanged");
   chmodSync(file, 0o600);
   const writer = new Client(ADAPTER);
-  await begin(writer, "attach", { session: file, write: true, program: PROGRAM, board: BOARD });
+  await startDebugging(writer, "attach", { session: file, write: true, program: PROGRAM, board: BOARD });
   await writer.runUntilStop("stepIn");
   const { result } = await writer.request("evaluate", { expression: "state", context: "repl" });
   verdict(answersOf(file, "state\n")[0], result, "with `write`, the file has the new state");
@@ -111,16 +111,16 @@ async function tryAttach() {
  */
 async function tryRejectedFiles() {
   const file = sessionFile("held", "");
-  const holder = spawn(process.env.MCS4, ["open", file], { stdio: ["pipe", "pipe", "ignore"] });
-  await new Promise((resume) => holder.stdout.once("data", resume));
+  const sessionHolder = spawn(process.env.MCS4, ["open", file], { stdio: ["pipe", "pipe", "ignore"] });
+  await new Promise((resume) => sessionHolder.stdout.once("data", resume));
   const client = new Client(ADAPTER);
   await client.request("initialize", VSCODE);
   for (const command of ["attach", "launch"]) {
     const { message } = await client.fetchResponse(command, { session: file });
-    matches(message, new RegExp(`in use.*mcs4 open held\\.mcs \\(process ${holder.pid}\\)`, "s"), `${command}: a session in use is rejected, and its user is named`);
+    matches(message, new RegExp(`in use.*mcs4 open held\\.mcs \\(process ${sessionHolder.pid}\\)`, "s"), `${command}: a session in use is rejected, and its user is named`);
   }
-  holder.stdin.end();
-  await new Promise((resume) => holder.on("close", resume));
+  sessionHolder.stdin.end();
+  await new Promise((resume) => sessionHolder.on("close", resume));
   writeFileSync(`${folder}/binary`, Buffer.from(Array.from({ length: 70000 }, (_, index) => (index * 7919) % 256)));
   writeFileSync(`${folder}/text`, "x".repeat(65536));
   writeFileSync(`${folder}/program.asm`, " NOP\n".repeat(13107));
@@ -136,12 +136,12 @@ async function tryRejectedFiles() {
   await client.endSession();
 }
 
-/** Checks that a data breakpoint stops at the changes in a trace of the native program. */
+/** Checks that a data breakpoint stops at each change that the native program's `trace` shows. */
 async function tryDataBreakpoints() {
   const file = sessionFile("watched", "run 400\n");
   for (const [dataId, probe] of [["r0", "r0"], ["acc", "acc"], ["chain0", "chain0"], ["rom0", "rom0"], ["cy", "cy"]]) {
     const client = new Client(ADAPTER);
-    const { data } = await begin(client, "attach", { session: file }, { watches: [{ dataId, accessType: "write" }] });
+    const { data } = await startDebugging(client, "attach", { session: file }, { watches: [{ dataId, accessType: "write" }] });
     verdict(data.breakpoints.map(({ verified }) => verified), [true], `${dataId} can be watched`);
     const lines = answersOf(file, `trace 20000 ${probe} pc\n`);
     let before = lines[0].split(" ").slice(-2)[0];
@@ -169,14 +169,14 @@ async function tryDataBreakpoints() {
 async function tryRequests() {
   const file = sessionFile("lock", "");
   const client = new Client(ADAPTER);
-  const { capabilities, filters } = await begin(client, "launch", { program: PROGRAM, board: BOARD },
+  const { capabilities, filters } = await startDebugging(client, "launch", { program: PROGRAM, board: BOARD },
     { functions: [{ name: "scan" }], filterOptions: [{ filterId: "calls" }, { filterId: "chip", condition: "r0 = 3" }] });
   const usedCapabilities = ["supportsStepInTargetsRequest", "supportsRestartFrame", "supportsCancelRequest", "supportsValueFormattingOptions",
     "supportsExceptionFilterOptions", "supportsDataBreakpoints", "supportsCompletionsRequest", "supportsReadMemoryRequest", "supportsWriteMemoryRequest"];
   verdict(usedCapabilities.filter((name) => capabilities[name] !== true), [], "the adapter announces all capabilities that are used");
   verdict(filters.breakpoints.map(({ verified }) => verified), [true, true], "exception filters with options are verified");
-  const initial = await readStop(client);
-  const { targets } = await client.request("stepInTargets", { frameId: initial.frames[0].id });
+  const initialStop = await readStop(client);
+  const { targets } = await client.request("stepInTargets", { frameId: initialStop.frames[0].id });
   verdict(targets, [], "stepInTargets: a jump is not a call");
   await client.runUntilStop("stepIn");
   const targetsAhead = await client.request("stepInTargets", { frameId: 1 });
@@ -193,8 +193,8 @@ async function tryRequests() {
   const stopAfterRestart = await readStop(client);
   verdict([reason, stopAfterRestart.frames.length, stopAfterRestart.frames[0].canRestart], ["restart", depth - 1, true], "restartFrame ends the calls above the frame");
   const address = Number(stopAfterRestart.frames[0].instructionPointerReference);
-  const call = Number(stopAfterRestart.frames[1].instructionPointerReference);
-  const [listingRow] = answersOf(file, `list ${call} 1\n`);
+  const callAddress = Number(stopAfterRestart.frames[1].instructionPointerReference);
+  const [listingRow] = answersOf(file, `list ${callAddress} 1\n`);
   matches(listingRow, new RegExp(`JMS 0x${stopAfterRestart.frames[0].instructionPointerReference.slice(2)}$`), `the restarted frame begins at ${address}, the target of its JMS`);
   const registers = stopAfterRestart.scopes.find(({ name }) => name === "Registers").variablesReference;
   const values = async (format) => (await client.request("variables", { variablesReference: registers, format })).variables.map(({ value }) => value);
@@ -225,7 +225,7 @@ async function tryLongRequest() {
   const program = `${folder}/long.asm`;
   writeFileSync(program, " FIM P0, 0\nturn: ISZ R0, turn\n ISZ R1, turn\n JUN turn\n");
   const client = new Client(ADAPTER);
-  await begin(client, "launch", { program, board: BOARD });
+  await startDebugging(client, "launch", { program, board: BOARD });
   await client.request("continue", { threadId: 1 });
   const { body: { progressId } } = await client.waitForEvent("progressStart");
   await client.waitForEvent("progressUpdate");
@@ -242,10 +242,10 @@ async function tryLongRequest() {
   client.send({ seq, type: "request", command: "evaluate", arguments: { expression: lines, context: "repl" } });
   const isAnswer = (message) => message.type === "response" && message.request_seq === seq;
   // The first progress report shows that the request has begun. A fast machine can finish the request before it reports progress.
-  const first = await client.waitForMessage((message) => isAnswer(message) || (message.type === "event" && message.event === "progressStart"));
-  const isDone = isAnswer(first);
+  const firstMessage = await client.waitForMessage((message) => isAnswer(message) || (message.type === "event" && message.event === "progressStart"));
+  const isDone = isAnswer(firstMessage);
   if (!isDone) await client.request("cancel", { requestId: seq });
-  const answer = isDone ? first : await client.waitForMessage(isAnswer);
+  const answer = isDone ? firstMessage : await client.waitForMessage(isAnswer);
   const { result: after } = await client.request("evaluate", { expression: "seq", context: "repl" });
   verdict([answer.message || "done", after === before], answer.success ? ["done", false] : ["cancelled", true], "a cancelled line changes nothing");
   await client.request("continue", { threadId: 1 });

@@ -86,7 +86,7 @@ async function trySpeed(client) {
   console.log(`speed: 1 to 15 errors in it, after an edit: ${describeTimes(times)}`);
 }
 
-/** Checks that the server reports errors in messages, and answers the next request. */
+/** Checks that the server rejects invalid messages with the correct error, and still answers the next request. */
 async function tryWrongMessages() {
   const client = new Client(MCS4);
   verdict((await client.fetchResponse("textDocument/hover", {})).error.code, -32002, "a request before initialize");

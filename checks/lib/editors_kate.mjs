@@ -66,8 +66,8 @@ function countMarkedPixels() {
   return count;
 }
 
-/** Returns true if a line is marked. A marked line is several hundred pixels wide and several pixels high. */
-const isMarked = () => countMarkedPixels() > 2000;
+/** Returns true if Kate marks a line as wrong. A marked line is several hundred pixels wide and several pixels high. */
+const isErrorMarked = () => countMarkedPixels() > 2000;
 
 // --- Kate
 
@@ -137,18 +137,18 @@ async function checkProgram(display) {
   const kate = new Kate(display, "wrong.asm", ["-l", "39", "-c", "9"]);
   try {
     await waitFor("the question", () => kate.findWindow(QUESTION));
-    printLine(isMarked() ? "a line is marked too early" : "no line is marked");
+    printLine(isErrorMarked() ? "a line is marked too early" : "no line is marked");
     const diagnostics = await kate.waitForDiagnostics();
     const [{ params: { textDocument: opened } }] = sent("textDocument/didOpen");
     printLine(`initialize ${sent("initialize").length}, opened ${opened.uri.split("/").at(-1)} as ${opened.languageId}`);
     printDiagnostics(diagnostics);
-    await waitFor("a mark", isMarked);
+    await waitFor("a mark", isErrorMarked);
     printLine("a line is marked");
     await kate.sendKeys("wrong.asm", "Delete", "Delete", "Delete", "J", "U", "N");
     printDiagnostics(await waitFor("no errors", () => lastDiagnostics().length === 0 && lastDiagnostics()));
     const changes = sent("textDocument/didChange").at(-1).params.contentChanges;
     printLine(`changed to ${changes.at(-1).text.split("\n")[38].trim()}`);
-    await waitFor("no mark", () => !isMarked());
+    await waitFor("no mark", () => !isErrorMarked());
     printLine("no line is marked");
   } finally {
     kate.end();
@@ -180,11 +180,11 @@ async function checkGrammar(display, file) {
 async function main() {
   mkdirSync(`${folder}/run`, { mode: 0o700 });
   try {
-    const name = await startDisplay();
-    await checkProgram(name);
+    const displayName = await startDisplay();
+    await checkProgram(displayName);
     cpSync(new URL("../../editors/kate", import.meta.url), `${folder}/home/.local/share/org.kde.syntax-highlighting/syntax`, { recursive: true });
-    await checkGrammar(name, "lock.asm");
-    await checkGrammar(name, "board.toml");
+    await checkGrammar(displayName, "lock.asm");
+    await checkGrammar(displayName, "board.toml");
     printLine("end");
   } catch (error) {
     printLine(`the check failed: ${error.message}`);

@@ -1,5 +1,5 @@
-// Tests of checks/editors that send requests in the order of Visual Studio Code, for the lock example as a project on disk. Prints `ok TEXT` or
-// `failed: TEXT` for each check, and `speed: TEXT` for a measurement.
+// Tests of checks/editors that send requests in the same order as Visual Studio Code. They open the lock example as a project on disk. Prints
+// `ok TEXT` or `failed: TEXT` for each check, and `speed: TEXT` for a measurement.
 import { copyFileSync, mkdirSync, readFileSync, symlinkSync, writeFileSync } from "node:fs";
 import { execFileSync } from "node:child_process";
 import { Client } from "./lsp_client.mjs";
@@ -17,7 +17,7 @@ function verdict(actual, expected, description) {
   console.log(actualText === expectedText ? `ok ${description}` : `failed: ${description}: ${actualText}, not ${expectedText}`);
 }
 
-/** The capabilities that the editor reports to a server. */
+/** The client capabilities that Visual Studio Code sends to a language server. */
 const CAPABILITIES = {
   workspace: {
     applyEdit: true, configuration: true, workspaceFolders: true, didChangeWatchedFiles: { dynamicRegistration: true },
@@ -57,8 +57,8 @@ async function begin(client) {
 const open = (client, name, languageId) => client.notify("textDocument/didOpen", {
   textDocument: { uri: uriOf(name), languageId, version: 1, text: readFileSync(`${folder}/${name}`, "utf8") } });
 
-/** Sends the requests that the editor sends when it shows a program, all at once. */
-async function show(client) {
+/** Sends, all at once, the requests that the editor sends when it shows a program. */
+async function sendShowRequests(client) {
   open(client, "lock.asm", "mcs4");
   const [symbols, folds, actions, links, colours, rangeColours, hints, lenses, marks, diagnostics] = await Promise.all([
     client.request("textDocument/documentSymbol", { textDocument }), client.request("textDocument/foldingRange", { textDocument }),
@@ -77,7 +77,7 @@ async function show(client) {
 }
 
 /** Sends an edit and the requests that follow it, and a request that is cancelled. */
-async function change(client, { colours, resultId }) {
+async function changeDocument(client, { colours, resultId }) {
   const range = { start: { line: 38, character: 8 }, end: { line: 38, character: 11 } };
   client.notify("textDocument/didChange", { textDocument: { uri, version: 2 }, contentChanges: [{ range, rangeLength: 3, text: "JMP" }] });
   const [delta, report] = await Promise.all([
@@ -178,7 +178,7 @@ async function measureSpeed(client) {
 makeProject();
 const client = new Client(MCS4);
 await begin(client);
-await change(client, await show(client));
+await changeDocument(client, await sendShowRequests(client));
 await openOthers(client);
 await openDevices(client);
 await measureSpeed(client);

@@ -116,8 +116,8 @@ POSSIBLE_OUTPUTS = {
 }
 
 
-# The comparisons that are true while the program counter has its power-on value.
-AT_POWER_ON = "in counter 3 whole 0 0 & in counter 4 whole 0 0 & in counter 5 whole 0 0"
+# The comparisons that are true if the program counter has its power-on value, 0.
+COUNTER_AT_POWER_ON = "in counter 3 whole 0 0 & in counter 4 whole 0 0 & in counter 5 whole 0 0"
 
 
 @dataclass
@@ -163,8 +163,8 @@ TIME_LIMITS = [
     TimeLimit("die.props", "@hold to @hold within 15", ["@hold"], ["@hold"], 15, "holds 13", 15),
     duration_question("lamps.props", "never lamp 0 off and lamp 1 on for 1 ms", "in chain0 0 whole 0 0 & in chain0 1 whole 1 1", 93, "holds 2", 0),
     duration_question("running_light.props", "never lamps none for 1 ms", all_zero("chain0", range(10)), 93, "holds 2", 9),
-    TimeLimit("running_light.props", "every 8747 @step", [AT_POWER_ON, "@step"], ["@step"], 8747, "holds 2", 8747),
-    TimeLimit("stopwatch.props", "every 926 @wait", [AT_POWER_ON, "@wait"], ["@wait"], 926, "holds 20002", 926),
+    TimeLimit("running_light.props", "every 8747 @step", [COUNTER_AT_POWER_ON, "@step"], ["@step"], 8747, "holds 2", 8747),
+    TimeLimit("stopwatch.props", "every 926 @wait", [COUNTER_AT_POWER_ON, "@wait"], ["@wait"], 926, "holds 20002", 926),
     duration_question("traffic_light.props", "never lamps none for 1 ms", all_zero("ramport", [0, 1]), 93, "holds 375558", 13),
     TimeLimit("traffic_light.props", "@stop to @light within 8.01 s", ["@stop"], ["@light"], 741667, "holds 375558", 740744),
     duration_question(CLOCK, "never r8 > 2 for 10 ms", "in register 8 whole 3 15", 926, "too many", max_states=500),
@@ -174,13 +174,13 @@ TIME_LIMITS = [
     duration_question(LOCK, "never lamp open on for 1.1 s", "in ramport 0 line1 1 1", 101852, "holds 297692", 96139),
     duration_question("music_box/music_box.props", "never lamp sound on for 5 ms", "in romport 0 line0 1 1", 463, "holds 2", 193),
     duration_question(PICTURES, "never r0 < 12 for 5 ms", "in register 0 whole 0 11", 463, "holds 9", 5),
-    TimeLimit(PICTURES, "every 129 @row", [AT_POWER_ON, "@row"], ["@row"], 129, "holds 9", 129),
+    TimeLimit(PICTURES, "every 129 @row", [COUNTER_AT_POWER_ON, "@row"], ["@row"], 129, "holds 9", 129),
     duration_question(STACKER, "never lamps none for 0.3 s", all_zero("ramport", range(16)), 27778, "too many", max_states=500),
     *(duration_question(STACKER, f"never lamp {above} on and lamp {below} off and not ram2.3 out 0 for 1 ms",
               f"in ramport 13 line{line} 1 1 & in ramport 15 line{line} 0 0 & out ramport 11 whole 0 0", 93, "too many", max_states=500)
       for above, below, line in ((52, 60, 3), (53, 61, 2))),
     duration_question(THREE_LAMPS, "never lamps none for 1 ms", all_zero("ramport", [0]), 93, "holds 2", 7),
-    TimeLimit(THREE_LAMPS, "every 6 ms @next", [AT_POWER_ON, "@next"], ["@next"], 556, "holds 2", 538),
+    TimeLimit(THREE_LAMPS, "every 6 ms @next", [COUNTER_AT_POWER_ON, "@next"], ["@next"], 556, "holds 2", 538),
 ]
 # Lines with a time limit that checks/prove does not test, because their conditions depend on the digits of a display and their programs have too many
 # states.
@@ -240,10 +240,10 @@ LIMITED_CONDITIONS = [
     # The scan finds several keys in a row only if they are down together.
     LimitedCondition(LOCK, "in register 6 whole 14 14", InputLimits(1, True, [(0, 0), (0, 1)]), "holds 2259",
                      InputLimits(2, True, [(0, 0), (0, 1)]), 2),
-    # The lock opens only with the key 4.
+    # Without the key 4, the lock cannot be opened.
     LimitedCondition(LOCK, "in ramport 0 line1 1 1", InputLimits(1, True, [(0, 0), (2, 0), (3, 2)]), "holds 8797",
                      InputLimits(1, True, [(0, 0), (1, 0), (2, 0), (3, 2)]), 201),
-    # With the keys 0, + and = alone, the calculator never divides by zero. With /, it does.
+    # If only the keys 0, + and = can be pressed, the calculator never divides by zero. With / instead of +, it does.
     LimitedCondition("calculator/calculator.props", "in ramport 0 line2 1 1", InputLimits(1, True, [(3, 0), (3, 3), (4, 3)]), "holds 6084",
                      InputLimits(1, True, [(0, 3), (3, 0), (4, 3)]), 51),
 ]

@@ -11,7 +11,7 @@ from assembler import ADDRESS_COUNT, assemble
 from bench4004 import BRANCHES, count_instructions, instruction_text
 from board4004 import CODES, TWO_CYCLES, Board, Line
 
-# The changes in a recording of lines: for each time, the new level of each line that changes, by the line's name.
+# The changes in a recording: for each time at which lines change, their new levels by the names of the lines.
 Changes = dict[int, dict[str, str]]
 
 
@@ -36,7 +36,7 @@ class Source:
         return max((pair for pair in self.labels.items() if pair[0] <= address), default=(-1, ""))
 
     def is_data(self, number: int) -> bool:
-        """Returns true if the bytes of a line are data."""
+        """Returns true if the bytes of a source line are data."""
         return self.code(number).split(":")[-1].split()[:1] == ["DB"]
 
     def code(self, number: int) -> str:
@@ -121,8 +121,8 @@ def trace_output(start: Board, cycles: int, last_count: int = 0, source: Source 
 # ---- wave
 
 def levels(board: Board, source: Source) -> dict[str, str]:
-    """Returns the levels of all lines of a board by name, in the order of `mcs4 wave --lines`. They include the keys, TEST, the program counter and
-    its label."""
+    """Returns the levels of everything that `mcs4 wave` can record, by name, in the order of `mcs4 wave --lines`: I/O lines, keys, TEST, the program
+    counter and its label."""
     chips = board.chips
     lines: dict[str, Line] = {f"rom{chip}.{k}": ("rom", (chip, k)) for chip in chips.rom_latch for k in range(4)}
     lines |= {f"ram{bank}.{chip}.{k}": ("ram", (bank, chip, k)) for bank, chip in chips.ram_latch for k in range(4)}
@@ -138,16 +138,16 @@ def wave_output(start: Board, cycles: int, names: list[str], source: Source) -> 
     """Returns the expected result of `mcs4 wave`: the changes of the named lines by cycle, starting with their levels in cycle 0, and the last
     cycle. The program counter and its label change when an instruction is complete."""
     board = start.copy()
-    current = levels(board, source)
-    changes, cycle = {0: {name: current[name] for name in names}}, 0
+    current_levels = levels(board, source)
+    changes, cycle = {0: {name: current_levels[name] for name in names}}, 0
     while cycle < cycles and (board.owed or not board.is_at_invalid_code()):
         board.cycle()
         cycle += 1
-        previous, current = current, levels(board, source)
+        previous, current_levels = current_levels, levels(board, source)
         if board.owed:
-            current |= {name: previous[name] for name in ("pc", "label")}
-        if any(current[name] != previous[name] for name in names):
-            changes[cycle] = {name: current[name] for name in names if previous[name] != current[name]}
+            current_levels |= {name: previous[name] for name in ("pc", "label")}
+        if any(current_levels[name] != previous[name] for name in names):
+            changes[cycle] = {name: current_levels[name] for name in names if previous[name] != current_levels[name]}
     return changes, cycle
 
 
@@ -179,7 +179,7 @@ def percentage_of(count: int, total: int) -> str:
 
 
 def line_ranges(lines: list[int], chosen_lines: list[int]) -> str:
-    """Returns the numbers, from 1, of the chosen lines as text. Chosen lines that are neighbours in `lines` are written as a range."""
+    """Returns text that lists the chosen lines by number, where index 0 is line 1. Chosen lines that are neighbours in `lines` form a range."""
     spans: list[list[int]] = []
     previous = None
     for line in lines:
@@ -207,11 +207,11 @@ def cover_output(start: Board, cycles: int, source: Source) -> str:
     taken_count = sum(1 for counts in directions.values() for taken_text in counts if taken_text)
     rows += ["", f"{len(lines) - len(lines_never_run)} of {len(lines)} instructions were run{percentage_of(len(lines) - len(lines_never_run), len(lines))}, "
              f"{taken_count} of {2 * len(directions)} branch directions{percentage_of(taken_count, 2 * len(directions))}"]
-    one_way_lines = [f"{i + 1} ({'always' if taken else 'never'} taken)" for i, (taken, not_taken) in directions.items() if (taken == 0) != (not_taken == 0)]
+    one_way_texts = [f"{i + 1} ({'always' if taken else 'never'} taken)" for i, (taken, not_taken) in directions.items() if (taken == 0) != (not_taken == 0)]
     if lines_never_run:
         rows.append(f"never run: line{'s' if len(lines_never_run) > 1 else ''} {line_ranges(lines, lines_never_run)}")
-    if one_way_lines:
-        rows.append(f"only one way: line{'s' if len(one_way_lines) > 1 else ''} {', '.join(one_way_lines)}")
+    if one_way_texts:
+        rows.append(f"only one way: line{'s' if len(one_way_texts) > 1 else ''} {', '.join(one_way_texts)}")
     return "".join(f"{row}\n" for row in rows)
 
 
@@ -228,18 +228,18 @@ class Calls:
     def __init__(self) -> None:
         self.open: list[tuple[int, int]] = []
         self.counts: dict[int, int] = {}
-        self.times: dict[int, list[int]] = {}
+        self.durations: dict[int, list[int]] = {}
 
-    def enter(self, target: int, time: int) -> None:
+    def enter_subroutine(self, target: int, time: int) -> None:
         """Enters a subroutine at a JMS. A fourth nested JMS loses the first return address."""
         self.open = [*self.open[-2:], (target, time)]
         self.counts[target] = self.counts.get(target, 0) + 1
 
-    def leave(self, time: int) -> None:
-        """Leaves a subroutine at a BBL, or at the end of the run. The time of nested calls of the same subroutine is counted once."""
+    def leave_subroutine(self, time: int) -> None:
+        """Leaves a subroutine at a BBL, or at the end of the run. If calls of the same subroutine are nested, only the outermost counts."""
         target, start = self.open.pop()
         if all(open_target != target for open_target, _start in self.open):
-            self.times.setdefault(target, []).append(time - start)
+            self.durations.setdefault(target, []).append(time - start)
 
 
 def profile_output(start: Board, cycles: int, source: Source) -> str:
@@ -253,17 +253,17 @@ def profile_output(start: Board, cycles: int, source: Source) -> str:
         end = min(start_cycle + 1 + (name in TWO_CYCLES), total)
         own_cycles[source.label_below(address)] += end - start_cycle
         if name == "JMS":
-            calls.enter(256 * low + start.rom[(address + 1) % ADDRESS_COUNT], end)
+            calls.enter_subroutine(256 * low + start.rom[(address + 1) % ADDRESS_COUNT], end)
         elif name == "BBL" and calls.open:
-            calls.leave(end)
+            calls.leave_subroutine(end)
     while calls.open:
-        calls.leave(total)
+        calls.leave_subroutine(total)
     rows = [f"{total} cycles, {total * 0.0108:.1f} ms", "", "label             at          own  own %     calls with calls    longest"]
     for (address, label), label_cycles in sorted(own_cycles.items(), key=lambda item: (-item[1], item[0][0])):
         row = f"{label or '(no label)':<17} {f'{address:03X}' if label else '':<4} {label_cycles:10} {100 * label_cycles / total:6.1f}"
         if calls.counts.get(address):
-            times = calls.times.get(address, [0])
-            row += f" {calls.counts[address]:9} {sum(times):10} {max(times):10}"
+            durations = calls.durations.get(address, [0])
+            row += f" {calls.counts[address]:9} {sum(durations):10} {max(durations):10}"
         rows.append(row)
     if start.owed and total:
         rows.append(f"{'(begun before)':<22} {1:10} {100 / total:6.1f}")

@@ -133,9 +133,9 @@ async function tryFeatures() {
   const callItem = { kind, name, detail, uri: itemUri, range: plain(fullRange.given), selectionRange: plain(nameRange.given) };
   verdict(await providers.registerCallHierarchyProvider.provideCallHierarchyOutgoingCalls(callItem), [], "the outgoing calls of a routine");
   verdict(await providers.registerDocumentLinkProvider.provideDocumentLinks(document), [], "a program has no links");
-  const tokens = providers.registerDocumentSemanticTokensProvider;
-  const { given: [, id] } = await tokens.provideDocumentSemanticTokens(document);
-  verdict((await tokens.provideDocumentSemanticTokensEdits(document, id)).given[0], [], "no colour has changed");
+  const tokensProvider = providers.registerDocumentSemanticTokensProvider;
+  const { given: [, id] } = await tokensProvider.provideDocumentSemanticTokens(document);
+  verdict((await tokensProvider.provideDocumentSemanticTokensEdits(document, id)).given[0], [], "no colour has changed");
   await factories["mcs4.runTest"]("file:///tmp/none.test", "a").catch((error) => messages.push(error.message));
   verdict(messages, ["file:///tmp/none.test is not open"], "a test that is not open");
 }

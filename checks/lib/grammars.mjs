@@ -50,14 +50,14 @@ function highlightAsTextMate() {
   return lines.map((line) => {
     const ranges = [];
     for (let start = 0; start < line.length;) {
-      let best = null;
+      let earliest = null;
       for (const rule of rules) {
         rule.pattern.lastIndex = start;
         const match = rule.pattern.exec(line);
-        if (match && (!best || match.index < best.match.index)) best = { ...rule, match };
+        if (match && (!earliest || match.index < earliest.match.index)) earliest = { ...rule, match };
       }
-      if (!best) break;
-      const { match, captures = {}, name: scope } = best;
+      if (!earliest) break;
+      const { match, captures = {}, name: scope } = earliest;
       if (scope) ranges.push({ from: match.index, to: match.index + match[0].length, letter: letterOfScope(scope) });
       for (const [number, capture] of Object.entries(scope ? {} : captures)) {
         const indices = match.indices[number];

@@ -7,14 +7,14 @@ import socket
 import subprocess
 import time
 
-from browser_driver import BEFORE_SCRIPTS, ELEMENT_KEY, BrowserDriver, DriverError
+from browser_driver import SCRIPT_PRELUDE, ELEMENT_KEY, BrowserDriver, DriverError
 
 SECONDS_TO_START = 90
 SECONDS_TO_ANSWER = 120
 
 
 def preferences(download_folder):
-    """Returns the preferences of a profile, which select a free port and downloads without a dialog."""
+    """Returns the preferences of a Firefox profile that uses a free port and downloads files without a dialog."""
     return {
         "marionette.port": 0,
         "browser.download.folderList": 2,
@@ -93,7 +93,7 @@ class Firefox(BrowserDriver):
 
     def script(self, code, *arguments):
         """Runs a script in the page, and returns its result."""
-        return self.send_command("WebDriver:ExecuteScript", script=BEFORE_SCRIPTS + code, args=list(arguments))
+        return self.send_command("WebDriver:ExecuteScript", script=SCRIPT_PRELUDE + code, args=list(arguments))
 
     def find(self, selector):
         """Returns the id of the first element that a selector matches."""

@@ -37,11 +37,12 @@ def resident_bytes(root):
 
 
 def memory_growth(root, seconds):
-    """Measures the memory of a process tree for a number of seconds. Returns the median of the last third divided by that of the first third."""
+    """Samples the memory of a process tree for a number of seconds. Returns the median of the last third of the samples, divided by that of the first
+    third."""
     sizes = []
     deadline = time.monotonic() + seconds
     while time.monotonic() < deadline:
         sizes.append(resident_bytes(root))
         time.sleep(SECONDS_BETWEEN_SAMPLES)
-    third_count = max(1, len(sizes) // 3)
-    return statistics.median(sizes[-third_count:]) / statistics.median(sizes[:third_count])
+    samples_per_third = max(1, len(sizes) // 3)
+    return statistics.median(sizes[-samples_per_third:]) / statistics.median(sizes[:samples_per_third])

@@ -25,7 +25,7 @@ export class MessageClient {
     });
   }
 
-  /** Splits received bytes into the complete messages at the beginning and the remaining bytes. */
+  /** Splits received bytes into the complete messages that they begin with, and the bytes after these messages. */
   static messagesIn(bytes) {
     const messages = [];
     let remainingBytes = bytes;

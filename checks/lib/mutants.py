@@ -31,31 +31,31 @@ def replace_function(owner: Any, name: str, replacement: Callable[..., Any]) -> 
 
 
 def daa_without_carry(board: Board, _low: int, _second_byte: int) -> None:
-    """DAA, but it clears the carry."""
+    """Executes DAA, but clears the carry if the accumulator does not overflow."""
     board.cy, board.acc = divmod(board.acc + (6 if board.cy or board.acc > 9 else 0), 16)
 
 
 def isz_on_own_page(board: Board, k: int, second_byte: int) -> None:
-    """ISZ, but it jumps in the page of its own first word."""
+    """Executes ISZ, but jumps within the page of the instruction's first word."""
     board.r[k] = (board.r[k] + 1) % 16
     if board.r[k]:
         board.pc = (board.pc - 2) % 4096 & 0xF00 | second_byte
 
 
 def bbl_without_address(board: Board, value: int, _second_byte: int) -> None:
-    """BBL, but it leaves 0 in the freed stack entry."""
+    """Executes BBL, but leaves 0 in the freed stack entry."""
     board.acc, board.pc, board.ret = value, board.ret[0], [*board.ret[1:], 0]
 
 
 def send_src_to_all_banks(chips: Chips, _bank: int, byte: int) -> None:
-    """SRC, but all banks store the byte."""
+    """Executes SRC, but lets all banks store the byte."""
     chips.rom_src = byte
     for bank in chips.chips:
         chips.bank_src[bank] = byte
 
 
 def write_latch_with(is_edge: Callable[[int, int], bool], uses_new_data: bool) -> Callable[[Chips, dict, object, int], None]:
-    """Returns a port write that clocks chains at the wrong edge, or that shifts in the old level of the data line."""
+    """Returns a replacement for `write_latch` that clocks chains at the wrong edge, or shifts in the old level of the data line."""
     def write(chips: Chips, latches: dict, port: object, value: int) -> None:
         levels_before = [(chips.level(clock), chips.level(data)) for clock, data in chips.clocks]
         latches[port] = value
@@ -66,17 +66,17 @@ def write_latch_with(is_edge: Callable[[int, int], bool], uses_new_data: bool) -
 
 
 def stop_at_first_instruction(board: Board, cycles: int, max_cycles: int, is_watch_hit: bool) -> str:
-    """Stops a run also at a breakpoint at its first instruction."""
+    """Also stops a run at a breakpoint at the run's first instruction."""
     return "break" if not board.owed and not board.is_at_invalid_code() and board.pc in board.breaks else CORRECT_STOP_REASON(board, cycles, max_cycles, is_watch_hit)
 
 
 def stop_inside_instruction(board: Board, cycles: int, max_cycles: int, is_watch_hit: bool) -> str:
-    """Stops a run also at a breakpoint before a pending second cycle."""
+    """Also stops a run at a breakpoint before a pending second cycle."""
     return "break" if cycles and board.pc in board.breaks else CORRECT_STOP_REASON(board, cycles, max_cycles, is_watch_hit)
 
 
 def end_before_other_reasons(board: Board, cycles: int, max_cycles: int, is_watch_hit: bool) -> str:
-    """Reports the end of a run even if a reason to stop that has precedence occurs in the same cycle."""
+    """Reports the end of a run even if the run has another reason to stop in the same cycle, which has precedence."""
     return "end" if cycles == max_cycles else CORRECT_STOP_REASON(board, cycles, max_cycles, is_watch_hit)
 
 
@@ -310,7 +310,7 @@ LIMIT_MUTANTS: dict[str, Callable[[], AbstractContextManager]] = {
 
 # ---- the minimum time between changes
 
-def begins_with_free(part: int) -> Callable[[int, Spacing, Levels], bool]:
+def begins_with_free_change(part: int) -> Callable[[int, Spacing, Levels], bool]:
     """Lets TEST (part 1) or the keys (part 0) change at any time, if the other levels do not change."""
     return lambda wait, spacing, levels: (
         CORRECT_CAN_BEGIN_AT(wait, spacing, levels) or spacing.last is not None and spacing.last[1 - part] == levels[1 - part])
@@ -322,12 +322,13 @@ def age_of_late_change(wait: int, spacing: Spacing, levels: Levels) -> int:
 
 
 def age_of_free_change(wait: int, spacing: Spacing, levels: Levels) -> int:
-    """Forgets a change: it does not delay the next one."""
+    """Ignores a change when it calculates the age, so that the change does not delay the next one."""
     return CORRECT_AGE_AT_BEGIN(wait, spacing, levels if spacing.last is None else spacing.last)
 
 
 def age_without_maximum(is_same: bool) -> Callable[[int, Spacing, Levels], int]:
-    """Allows a next change before the beginning of the step, after a step at the same levels or at other ones."""
+    """Does not limit the age at the beginning of a step to `wait` - 1, so that the next change can be too early. If `is_same` is true, this happens
+    only if the last step had the same levels, otherwise only if it had other levels."""
     def age(wait: int, spacing: Spacing, levels: Levels) -> int:
         if spacing.last is None or is_same != (spacing.last == levels):
             return CORRECT_AGE_AT_BEGIN(wait, spacing, levels)
@@ -341,8 +342,8 @@ WAIT_MUTANTS: dict[str, Callable[[], AbstractContextManager]] = {
         CORRECT_CAN_BEGIN_AT(wait - 1, spacing, levels))),
     "a change is a cycle late": replace_function(second_waits, "can_begin_at", lambda wait, spacing, levels: (
         CORRECT_CAN_BEGIN_AT(wait + 1, spacing, levels))),
-    "keys change at any time": replace_function(second_waits, "can_begin_at", begins_with_free(0)),
-    "TEST changes at any time": replace_function(second_waits, "can_begin_at", begins_with_free(1)),
+    "keys change at any time": replace_function(second_waits, "can_begin_at", begins_with_free_change(0)),
+    "TEST changes at any time": replace_function(second_waits, "can_begin_at", begins_with_free_change(1)),
     "the first levels are a change": replace_function(second_waits, "age_at_begin", lambda wait, spacing, levels: (
         0 if spacing.last is None else CORRECT_AGE_AT_BEGIN(wait, spacing, levels))),
     "a change is made as late as possible": replace_function(second_waits, "age_at_begin", age_of_late_change),
@@ -360,17 +361,17 @@ WAIT_MUTANTS: dict[str, Callable[[], AbstractContextManager]] = {
 # ---- keys that are down for a limited time
 
 def down_without_long_steps(limits: InputLimits, down: int, levels: Levels, cycles: int) -> int:
-    """Keeps the time after a step of more than `wait` cycles."""
+    """Continues to count the time for which a key is down after a step of more than `wait` cycles, instead of starting again at 0."""
     return min(down + cycles, limits.held) if levels[0] else 0
 
 
 def down_with_limited(are_limited: Callable[[Levels], bool]) -> Callable[[InputLimits, int, Levels, int], int]:
-    """Limits the time for which levels are the same, if they are limited."""
+    """Limits the time for which the levels stay the same, but only levels that `are_limited` selects."""
     return lambda limits, down, levels, cycles: min(down + cycles, limits.held) if are_limited(levels) and cycles <= limits.wait else 0
 
 
 def down_with_longer_wait(cycle_count: int) -> Callable[[InputLimits, int, Levels, int], int]:
-    """Lets the levels change twice only during a step that is longer by a number of cycles."""
+    """Lets the levels change twice only during steps that are longer than `wait` plus `cycle_count` cycles."""
     return lambda limits, down, levels, cycles: CORRECT_DOWN_AFTER(replace(limits, wait=limits.wait + cycle_count), down, levels, cycles)
 
 

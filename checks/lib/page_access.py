@@ -4,7 +4,7 @@ text, borders, marks and lamps in both colour schemes."""
 
 import re
 
-from page_basics import (ESCAPE, GET_TEXT_OF_EDITOR, IS_AT_COUNTER, PUT_INTO_EDITOR, TAB, choose_example, send_lines, reopen_page, show_text,
+from page_basics import (ESCAPE, GET_TEXT_OF_EDITOR, IS_COUNTER_ROW_SHOWN, PUT_INTO_EDITOR, TAB, choose_example, send_lines, reopen_page, show_text,
                          step_with_marks, pause_running_time)
 from verdicts import eventually, verdict
 from web_driver import Chromium
@@ -46,8 +46,8 @@ return region ? region.id : focused.id"""
 IS_FOCUS_IN_EDITOR = "return document.activeElement.closest('.cm-editor') !== null"
 # The column that is a tab stop in Firefox because the arrow keys scroll it.
 SCROLLABLE_COLUMN = "side"
-# TAB_ORDER has the panels in the order in which the Tab key reaches them, starting at the session's name. SIDE_PANELS has those in the column at the
-# side.
+# TAB_ORDER has the panels in the order in which the Tab key reaches them, starting at the session's name. SIDE_PANELS has the panels in the side
+# column.
 SIDE_PANELS = ["processor", "calls", "watched", "breakpoints", "memory", "ports"]
 TAB_ORDER = ["session-bar", "clock", "tools", "front", "front-splitter", "texts", "dock-splitter", "dock", "side-splitter",
          *[region for name in SIDE_PANELS for region in (name, f"{name}-splitter")], "history", "statusbar"]
@@ -141,7 +141,7 @@ def check_board(browser):
     """Checks that the board and the source have names and enough contrast, and that a screen reader announces states, such as those of lamps and
     panels."""
     step_with_marks(browser)
-    eventually(browser, "the disassembly is at the program counter", IS_AT_COUNTER, True)
+    eventually(browser, "the disassembly is at the program counter", IS_COUNTER_ROW_SHOWN, True)
     browser.click_at_rest("#lines-of-program button.next")
     eventually(browser, "a row with a breakpoint is announced as pressed", "return document.querySelector('#lines-of-program .next').getAttribute('aria-pressed')", "true")
     verdict("the row of the next instruction is announced as the current one",
@@ -149,8 +149,8 @@ def check_board(browser):
     nodes = check_view(browser, "the board and the source")
     roles = [role for role, *_ in nodes]
     verdict("the numbers of main, banner and contentinfo regions", [roles.count(role_name) for role_name in ("main", "banner", "contentinfo")], [1, 1, 1])
-    levels = [properties.get("level") for role, _, properties in nodes if role == "heading"]
-    verdict("the level of the page's heading, and of all other headings", (levels[0], set(levels[1:])), (1, {2}))
+    heading_levels = [properties.get("level") for role, _, properties in nodes if role == "heading"]
+    verdict("the level of the page's heading, and of all other headings", (heading_levels[0], set(heading_levels[1:])), (1, {2}))
     folds = [properties for role, name, properties in nodes if role == "button" and name in ("Registers", "RAM")]
     verdict("each foldable panel announces whether it is expanded", [properties.get("expanded") for properties in folds], [True, True])
     verdict("the tab lists of texts and dock each announce a selected tab", [properties.get("selected") for role, _, properties in nodes if role == "tab"].count(True), 2)

@@ -17,7 +17,7 @@ GET_DIGITS = "return document.getElementById('digits').textContent"
 # The status text without the label and the line number after an address.
 GET_STATUS = "return document.getElementById('status').textContent.replace(/ \\([^()]*line \\d+\\)/g, '')"
 GET_WHOLE_STATUS = "return document.getElementById('status').textContent"
-STEPPED = re.compile("^At [0-9A-F]{3}, after [12] cycles?, ")
+STEPPED_MESSAGE = re.compile("^At [0-9A-F]{3}, after [12] cycles?, ")
 GET_NOTICE = "return [...document.querySelectorAll('#notice p')].map((shown) => shown.textContent).join(' ')"
 # All notices so far, newest first, as the list shows them.
 GET_ALL_NOTICES = """
@@ -63,7 +63,7 @@ PUT_INTO_EDITOR = "document.querySelector(`${arguments[0]} .cm-editor`).lineEdit
 BLOCK_PAGE = "const end = performance.now() + arguments[0]; while (performance.now() < end);"
 
 # True if the disassembly shows the program counter's line. The rows move with the counter, so an earlier click would hit another line.
-IS_AT_COUNTER = """const next = document.querySelector('#lines-of-program .next');
+IS_COUNTER_ROW_SHOWN = """const next = document.querySelector('#lines-of-program .next');
 return next !== null && next.textContent.includes(document.getElementById('value-pc').textContent)"""
 
 GET_RATE = "return Number(document.getElementById('rate').textContent.replace(/\\D/g, ''))"
@@ -228,9 +228,9 @@ def check_session_files(browser, folder, mcs4):
 def check_breakpoint_and_watch(browser):
     """Checks that clicks set and clear a breakpoint and a watch, and that runs stop at them."""
     browser.click("#step")
-    browser.wait_until(GET_STATUS, STEPPED)
+    browser.wait_until(GET_STATUS, STEPPED_MESSAGE)
     next_row = "#lines-of-program button.next"
-    eventually(browser, "the disassembly is at the program counter", IS_AT_COUNTER, True)
+    eventually(browser, "the disassembly is at the program counter", IS_COUNTER_ROW_SHOWN, True)
     address = browser.text_of(f"{next_row} span")[:3]
     browser.click_at_rest(next_row)
     eventually(browser, "a click sets a breakpoint", f"return document.querySelector('{next_row}').getAttribute('aria-pressed')", "true")
@@ -267,7 +267,7 @@ def check_keyboard_alone(browser):
     browser.script("document.getElementById('name').focus()")
     verdict("the Tab key reaches Step", move_focus_until(browser, TAB, "e.id === 'step'"), True)
     browser.type_keys([ENTER])
-    eventually(browser, "Enter steps", GET_STATUS, STEPPED)
+    eventually(browser, "Enter steps", GET_STATUS, STEPPED_MESSAGE)
     verdict("the Tab key reaches the disassembly", move_focus_until(browser, TAB, "e.closest('#lines-of-program') !== null"), True)
     browser.type_keys([DOWN, DOWN, ENTER])
     eventually(browser, "arrows and Enter set a breakpoint", "return document.activeElement.getAttribute('aria-pressed')", "true")
@@ -378,7 +378,7 @@ def send_lines(browser, lines):
     """Sends lines through the console. Returns the text that they add to its log."""
     browser.script("document.getElementById('lines').value = arguments[0]", lines)
     log_length = len(browser.text_of("#log"))
-    # Click through a script, because a notice can cover the button.
+    # Clicks by script, because a notice can cover the button.
     browser.script("document.getElementById('send').click()")
     browser.wait_until("return document.getElementById('lines').value", "")
     return browser.text_of("#log")[log_length:]
@@ -459,7 +459,7 @@ def take_picture(browser, page, path):
     browser.wait_until(GET_DIGITS, "3.1428571")
     browser.click("#run")
     browser.click("#step")
-    browser.wait_until(GET_STATUS, STEPPED)
+    browser.wait_until(GET_STATUS, STEPPED_MESSAGE)
     browser.click_at_rest("#lines-of-program button.next + button")
     browser.click(".ram button")
     browser.wait_until("return document.querySelectorAll('#lines-of-program [aria-pressed=true], .ram [aria-pressed=true]').length", 2)

@@ -5,18 +5,18 @@ import re
 
 from browser_driver import ELEMENT_KEY
 from page_access import check_view
-from page_basics import DOWN, ENTER, ESCAPE, GET_STATUS, IS_READY, STEPPED, TAB, TOP, choose_example, reopen_page, show_text, pause_running_time, wait_until_ready
+from page_basics import DOWN, ENTER, ESCAPE, GET_STATUS, IS_READY, STEPPED_MESSAGE, TAB, TOP, choose_example, reopen_page, show_text, pause_running_time, wait_until_ready
 from verdicts import eventually, verdict
 from web_driver import Chromium
 
 CONTROL, SHIFT, UP = "\ue009", "\ue008", "\ue013"
 F1, F5, F8, F9, F10, F11 = "\ue031", "\ue035", "\ue038", "\ue039", "\ue03a", "\ue03b"
-# The messages after stepping over and out. F5 can pause time inside a subroutine or before a call, so each message has two forms.
-STEPPED_OVER = re.compile(f"{STEPPED.pattern}|^Returned to [0-9A-F]{{3}}, after ")
-STEPPED_OUT = re.compile("^Returned to |no call is open here")
+# The messages after a step over and after a step out. F5 can pause time inside a subroutine or before a call, so each message has two forms.
+STEPPED_OVER_MESSAGE = re.compile(f"{STEPPED_MESSAGE.pattern}|^Returned to [0-9A-F]{{3}}, after ")
+STEPPED_OUT_MESSAGE = re.compile("^Returned to |no call is open here")
 IS_PALETTE_OPEN = "const palette = document.getElementById('palette'); return palette !== null && palette.open"
 GET_PALETTE_ITEMS = "return [...document.querySelectorAll('#palette-list li .grow')].map((node) => node.textContent)"
-GET_FIRST_COMMAND = "return document.querySelector('#palette-list li').textContent"
+GET_FIRST_PALETTE_ITEM = "return document.querySelector('#palette-list li').textContent"
 GET_ACTIVE_OPTION = """
 const field = document.querySelector('#palette input');
 const option = document.getElementById(field.getAttribute('aria-activedescendant'));
@@ -50,7 +50,7 @@ def open_palette(browser, query=""):
 
 
 def execute_command(browser, query):
-    """Executes the first command that the palette finds for a query."""
+    """Types a query into the palette, and executes the first command that matches it."""
     open_palette(browser, query)
     browser.type_keys([ENTER])
     browser.wait_until(IS_PALETTE_OPEN, False)
@@ -76,8 +76,8 @@ def check_palette_contents(browser):
     bench_html = (TOP / "page/bench.html").read_text()
     buttons = set(re.findall(r'<button[^>]* id="([\w-]+)"', bench_html))
     tabs = set(re.findall(r'<button[^>]* role="tab" id="([\w-]+)"', bench_html))
-    regions = {button for button in buttons if button.startswith("region-")} | {"drawer-button"}
-    buttons_without_command = {button for button in buttons - tabs - regions - set(BUTTONS_WITHOUT_COMMAND) if f'"{button}"' not in commands}
+    region_buttons = {button for button in buttons if button.startswith("region-")} | {"drawer-button"}
+    buttons_without_command = {button for button in buttons - tabs - region_buttons - set(BUTTONS_WITHOUT_COMMAND) if f'"{button}"' not in commands}
     exempt_buttons = {"back-stop", "back-breakpoint", "forward"}
     verdict("the buttons of the page without a command", sorted(buttons_without_command - exempt_buttons), [])
 
@@ -99,10 +99,10 @@ def check_listbox(browser):
     last_index_script = "return document.querySelectorAll('#palette-list li').length - 1"
     verdict("the Up arrow wraps around to the last command", browser.script(GET_ACTIVE_OPTION), browser.script(last_index_script))
     browser.type_into("#palette input", "step ov")
-    eventually(browser, "typed words find a command, which shows its key", GET_FIRST_COMMAND, "Step overTimeF10")
+    eventually(browser, "typed words find a command, which shows its key", GET_FIRST_PALETTE_ITEM, "Step overTimeF10")
     verdict("the field keeps the focus", browser.script("return document.activeElement.getAttribute('role')"), "combobox")
     browser.type_into("#palette input", " qqq")
-    eventually(browser, "a search without results shows a message", GET_FIRST_COMMAND, "Nothing is named step ov qqq")
+    eventually(browser, "a search without results shows a message", GET_FIRST_PALETTE_ITEM, "Nothing is named step ov qqq")
     browser.type_keys([ESCAPE])
     eventually(browser, "Escape closes the palette", IS_PALETTE_OPEN, False)
     verdict("the focused element after the palette was closed", browser.script(GET_FOCUSED_ID), "name")
@@ -112,7 +112,7 @@ def check_listbox(browser):
 def check_unavailable_command(browser):
     """Checks that an unavailable command shows the reason, is marked as disabled, and does nothing."""
     open_palette(browser, "redo what")
-    verdict("an unavailable command shows the reason", browser.script(GET_FIRST_COMMAND), "Redo what was undonenothing was undone")
+    verdict("an unavailable command shows the reason", browser.script(GET_FIRST_PALETTE_ITEM), "Redo what was undonenothing was undone")
     verdict("an unavailable command is marked", browser.script("return document.querySelector('#palette-list li').getAttribute('aria-disabled')"), "true")
     browser.type_keys([ENTER])
     verdict("Enter on an unavailable command does nothing", browser.script(IS_PALETTE_OPEN), True)
@@ -127,14 +127,14 @@ def check_keys(browser):
     browser.type_keys([F5])
     eventually(browser, "F5 pauses the program", GET_STATUS, re.compile("^Paused"))
     browser.type_keys([F11])
-    eventually(browser, "F11 steps", GET_STATUS, STEPPED)
+    eventually(browser, "F11 steps", GET_STATUS, STEPPED_MESSAGE)
     status_after_step = browser.script(GET_STATUS)
     press_chord(browser, CONTROL, F11)
     eventually(browser, "Ctrl+F11 steps back", f"return document.getElementById('status').textContent !== {status_after_step!r}", True)
     browser.type_keys([F10])
-    eventually(browser, "F10 steps over", GET_STATUS, STEPPED_OVER)
+    eventually(browser, "F10 steps over", GET_STATUS, STEPPED_OVER_MESSAGE)
     press_chord(browser, SHIFT, F11)
-    eventually(browser, "Shift+F11 steps out, or reports that no call waits for its return", GET_STATUS, STEPPED_OUT)
+    eventually(browser, "Shift+F11 steps out, or reports that no call waits for its return", GET_STATUS, STEPPED_OUT_MESSAGE)
     show_text(browser, "program")
     browser.script("document.querySelector('#program-editor .cm-editor').lineEditor.setCursor({ line: 12, ch: 0 })")
     browser.script("document.activeElement.blur()")
@@ -238,16 +238,16 @@ MOUSE_POINTER = {"type": "pointer", "id": "mouse", "parameters": {"pointerType":
 
 
 def check_tooltips(browser):
-    """Checks that a button's tooltip, which names its key, appears on focus, under a resting pointer, and on a long touch. It must also disappear
-    again."""
+    """Checks that a button's tooltip, which names its shortcut, appears on focus, under a resting pointer, and on a long touch. Each time, the
+    tooltip must also disappear."""
     browser.script("document.getElementById('back-instruction').focus()")
     browser.type_keys([TAB, TAB])
     eventually(browser, "a tooltip appears at the focused button", GET_TOOLTIP, "Step over: one instruction; a subroutine that it calls runs whole F10")
     browser.type_keys([ESCAPE])
     eventually(browser, "Escape hides the tooltip", GET_TOOLTIP, "")
     browser.script("document.activeElement.blur()")
-    move_to_step = {"type": "pointerMove", "duration": 0, "x": 0, "y": 0, "origin": {ELEMENT_KEY: browser.find("#step")}}
-    browser.perform_actions({**MOUSE_POINTER, "actions": [move_to_step]})
+    pointer_move_to_step = {"type": "pointerMove", "duration": 0, "x": 0, "y": 0, "origin": {ELEMENT_KEY: browser.find("#step")}}
+    browser.perform_actions({**MOUSE_POINTER, "actions": [pointer_move_to_step]})
     eventually(browser, "a tooltip appears under the pointer", GET_TOOLTIP, re.compile("^Step into.* F11$"))
     browser.perform_actions({**MOUSE_POINTER, "actions": [{"type": "pointerMove", "duration": 0, "x": 300, "y": 300}]})
     eventually(browser, "the tooltip disappears when the pointer leaves", GET_TOOLTIP, "")
@@ -261,7 +261,7 @@ def check_tooltips(browser):
 GET_PRIMARY_BUTTONS = """
 return [...document.querySelectorAll("#toolbar button")].filter((node) => isShown(node)
   && getComputedStyle(node).backgroundColor === getComputedStyle(document.getElementById("run")).backgroundColor).length"""
-MEASURE_TOOLS = """
+MEASURE_TOOLBAR = """
 return [...document.querySelectorAll("#toolbar button")].filter((node) => isShown(node)).map((node) => {
   const { width, height } = node.getBoundingClientRect();
   return { id: node.id, name: node.getAttribute("aria-label") || node.textContent, icons: node.querySelectorAll("svg.icon").length,
@@ -274,10 +274,10 @@ def check_toolbar(browser):
     """Checks that the toolbar is 44 pixels high, and that exactly one button is filled. Each button must have a name, a size of at least 24 pixels,
     and (except for TEST) an icon. Also checks the File menu by keyboard, and the theme menu."""
     verdict("the height of the toolbar", browser.script("return document.getElementById('toolbar').offsetHeight"), 44)
-    tools = browser.script(MEASURE_TOOLS)
-    verdict("the buttons without an icon", [tool["id"] for tool in tools if tool["icons"] == 0 and tool["id"] != "test"], [])
-    verdict("the buttons without a name", [tool["id"] for tool in tools if not tool["name"].strip()], [])
-    verdict("the buttons that are too small for a finger", [tool["id"] for tool in tools if tool["size"] < 24], [])
+    toolbar = browser.script(MEASURE_TOOLBAR)
+    verdict("the buttons without an icon", [tool["id"] for tool in toolbar if tool["icons"] == 0 and tool["id"] != "test"], [])
+    verdict("the buttons without a name", [tool["id"] for tool in toolbar if not tool["name"].strip()], [])
+    verdict("the buttons that are too small for a finger", [tool["id"] for tool in toolbar if tool["size"] < 24], [])
     verdict("the number of filled buttons", browser.script(GET_PRIMARY_BUTTONS), 1)
     browser.script("document.getElementById('menu-button').focus()")
     browser.type_keys([ENTER])
@@ -383,16 +383,16 @@ def check_empty_panels(browser):
     eventually(browser, "the button of the empty watch panel moves the focus to the field", GET_FOCUSED_ID, "watched-field")
     browser.type_into("#watched-field", "R5" + ENTER)
     eventually(browser, "the note disappears when the panel has a value", IS_EMPTY_NOTE_SHOWN, False)
-    other_panel_count_script = "return [...document.querySelectorAll('.empty')].filter((node) => node.querySelectorAll('button').length !== 1).length"
-    verdict("the number of empty panels without exactly one button", browser.script(other_panel_count_script), 0)
+    count_wrong_panels_script = "return [...document.querySelectorAll('.empty')].filter((node) => node.querySelectorAll('button').length !== 1).length"
+    verdict("the number of empty panels without exactly one button", browser.script(count_wrong_panels_script), 0)
 
 
 def check_examples(browser):
     """Checks that every example in the list has a note, and that "three lamps" is the first example."""
     browser.click("#sessions-button")
     eventually(browser, "the number of examples without a note", COUNT_EXAMPLES_WITHOUT_NOTE, 0)
-    first_label_script = "return document.querySelector('#examples li:nth-child(2) button').getAttribute('aria-label')"
-    verdict("the first example in the list", browser.script(first_label_script), "new session: three lamps")
+    first_example_script = "return document.querySelector('#examples li:nth-child(2) button').getAttribute('aria-label')"
+    verdict("the first example in the list", browser.script(first_example_script), "new session: three lamps")
     browser.click("#close-sessions")
 
 

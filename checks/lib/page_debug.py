@@ -78,7 +78,7 @@ INC_LINE_PATTERN = re.compile("INC R9")
 GET_LINE_ABOVE_ROW = "const row = document.querySelector('.breakpoint-row'); return row ? row.previousElementSibling.textContent : ''"
 IS_FOCUS_IN_SOURCE = "return document.activeElement.closest('#program-editor .cm-content') !== null"
 GET_FOCUSED_TEXT = "return document.activeElement.textContent"
-# Clicks the margin of a line with the secondary mouse button.
+# Opens the context menu of a line's margin, as a right click does.
 OPEN_MARGIN_MENU = """
 const number = [...document.querySelectorAll("#program-editor .cm-lineNumbers .cm-gutterElement")].find((node) => node.textContent === String(arguments[0]));
 const { x, y } = number.getBoundingClientRect();
@@ -125,7 +125,8 @@ def check_moves_with_line(browser):
 
 
 def check_moves_to_instruction(browser):
-    """Checks that a breakpoint at a line without bytes, or inside an instruction, moves to the next instruction, and that a message says so."""
+    """Checks that a breakpoint that is set at a line without bytes, or inside an instruction, moves to the next instruction. A message must report
+    the move."""
     load_program(browser)
     browser.script(INSERT_LINE, JUN_LINE, "; what comes next")
     browser.click(SEND_BUTTON)
@@ -208,9 +209,9 @@ def check_console_run(browser):
 
 
 def check_going_back(browser):
-    """Checks that going back leads to the last arrival at which a condition was true, or to the start of the history if there is no such arrival.
-    The result must not depend on the lengths of the runs."""
-    # Run past the next arrival at which the condition is true. R9 is 9 again after 16 increments, one every 11 cycles.
+    """Checks that going back leads to the last arrival at a breakpoint whose condition was true. If there was none, it must lead to the start of the
+    history. The result must not depend on the lengths of the runs."""
+    # Runs past the next arrival at which the condition is true. R9 is 9 again after 16 increments, one every 11 cycles.
     for cycles in (150, 26, 77):
         send_lines(browser, f"run {cycles}")
     browser.click("#back-breakpoint")
@@ -257,18 +258,18 @@ def check_replaced_source(browser, folder):
     browser.wait_until(GET_LINE_ABOVE_FOCUSED_ROW, INC_LINE_PATTERN)
     browser.type_keys([*"r9 = 9", ENTER])
     browser.script(CLICK_MARGIN, WMP_LINE)
-    both_lines = f"{WMP_LINE} {INC_LINE}"
-    browser.wait_until(GET_LINES_IN_MARGIN, both_lines)
+    margin_lines = f"{WMP_LINE} {INC_LINE}"
+    browser.wait_until(GET_LINES_IN_MARGIN, margin_lines)
     list_before = browser.script(GET_BREAKPOINTS), browser.script(GET_BREAKPOINT_DETAILS)
     for length, text in (("short", "; a\n NOP\n"), ("long", "; a\n" + " NOP\n" * 40)):
-        other = folder / f"{length}.asm"
-        other.write_text(text)
+        replacement_file = folder / f"{length}.asm"
+        replacement_file.write_text(text)
         for action, undo in (("Undo", lambda: browser.click(UNDO_BUTTON)), ("Ctrl+Z", lambda: browser.script(UNDO_EDIT))):
-            browser.type_into("#file", str(other))
+            browser.type_into("#file", str(replacement_file))
             browser.wait_until(GET_NOTICE, re.compile(f"{length}.asm"))
             eventually(browser, f"a {length} source has none of the breakpoints of the source before it", GET_LINES_IN_MARGIN, "")
             undo()
-            eventually(browser, f"{action} restores the lines of the breakpoints", GET_LINES_IN_MARGIN, both_lines)
+            eventually(browser, f"{action} restores the lines of the breakpoints", GET_LINES_IN_MARGIN, margin_lines)
             eventually(browser, "the list after an undo", GET_BREAKPOINTS, list_before[0])
             verdict("the conditions after an undo", browser.script(GET_BREAKPOINT_DETAILS), list_before[1])
     browser.script("for (const each of document.querySelectorAll('#notice .dismiss')) each.click()")

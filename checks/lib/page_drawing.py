@@ -12,19 +12,19 @@ CONTROL, SHIFT, DELETE, LEFT, UP, RIGHT, DOWN = "\ue009", "\ue008", "\ue017", "\
 BOARD_EDITOR = "#board-editor"
 GET_DRAWING_STATUS = "return document.getElementById('drawing-status').textContent"
 GET_DRAWING_STATE = "return document.getElementById('drawing-state').textContent"
-GET_BULBS = "return [...document.querySelectorAll('#front .bulb')].map((bulb) => (bulb.classList.contains('lit') ? '*' : '.')).join('')"
+GET_LAMP_STATES = "return [...document.querySelectorAll('#front .bulb')].map((bulb) => (bulb.classList.contains('lit') ? '*' : '.')).join('')"
 COUNT_KEYS = "return document.querySelectorAll('#keys .key').length"
 COUNT_HIGH_LINES = "return document.querySelectorAll('#wiring-picture .high').length"
 # The label of the buzzer's sound button, or "" if there is none.
 GET_SOUND_LABEL = "return document.getElementById('sound').hidden ? '' : document.getElementById('sound-button').textContent"
 GET_FOCUSED_LABEL = "return document.activeElement.getAttribute('aria-label')"
-GET_TITLE = "return document.querySelector('#chosen > b').textContent"
+GET_SELECTED_PART_TITLE = "return document.querySelector('#chosen > b').textContent"
 GET_OFFERED_PINS = "return [...document.querySelectorAll('#wiring-picture .can-end')].map((node) => node.getAttribute('aria-label'))"
 INSERT_SCAN_LABEL = "Insert code that scans these keys"
 GET_PIN_NUMBERS = "return [...document.querySelectorAll('#wiring-picture [aria-label^=\"ROM 0\"] .number')].map((node) => node.textContent).join(' ')"
 GET_SOURCE = "return document.querySelector('#program-editor .cm-editor').lineEditor.getValue()"
 GET_DISABLED_BUTTONS = "return [...document.querySelectorAll('#shelf button:disabled')].map((node) => `${node.textContent}: ${node.title}`)"
-GET_POSITION_OF_KEYS = """
+GET_KEYS_POSITION = """
 const box = document.querySelector("#wiring-picture .of-keys rect");
 return [box.getAttribute("x"), box.getAttribute("y")].map(Number)"""
 GET_CENTRE = "const box = document.querySelector(arguments[0]).getBoundingClientRect(); return [box.x + box.width / 2, box.y + box.height / 2]"
@@ -129,7 +129,7 @@ def check_drawing_by_mouse(browser):
     browser.click("#drawing-wire")
     eventually(browser, "the drawn board is applied", GET_DRAWING_STATUS, "Board applied.")
     eventually(browser, "the number of keys", COUNT_KEYS, 4)
-    eventually(browser, "the lamps of the applied board", GET_BULBS, "....")
+    eventually(browser, "the lamps of the applied board", GET_LAMP_STATES, "....")
     verdict("the note that the board is not applied is gone", browser.script(GET_DRAWING_STATE), "")
     show_text(browser, "program")
     browser.script(PUT_INTO_EDITOR, "#program-editor", PROGRAM)
@@ -213,16 +213,16 @@ def check_buzzer(browser):
 
 def check_moving_part(browser):
     """Checks that a part can be dragged to another position, that a reload keeps this position, and that Tidy restores the old one."""
-    position_before = browser.script(GET_POSITION_OF_KEYS)
+    position_before = browser.script(GET_KEYS_POSITION)
     drag(browser, "#wiring-picture .of-keys .title", (-30, 90))
-    eventually(browser, "a part moves when it is dragged", f"{GET_POSITION_OF_KEYS}[1] > {position_before[1] + 40}", True)
-    new_position = browser.script(GET_POSITION_OF_KEYS)
+    eventually(browser, "a part moves when it is dragged", f"{GET_KEYS_POSITION}[1] > {position_before[1] + 40}", True)
+    new_position = browser.script(GET_KEYS_POSITION)
     time.sleep(1)
     browser.reload()
     wait_until_ready(browser)
-    eventually(browser, "a reload keeps the position of the part", GET_POSITION_OF_KEYS, new_position)
+    eventually(browser, "a reload keeps the position of the part", GET_KEYS_POSITION, new_position)
     browser.click("#drawing-tidy")
-    eventually(browser, "Tidy moves the part back", GET_POSITION_OF_KEYS, position_before)
+    eventually(browser, "Tidy moves the part back", GET_KEYS_POSITION, position_before)
 
 
 def check_chain_keeps_its_position(browser):
@@ -289,7 +289,7 @@ def check_drawing_by_keyboard(browser):
     verdict("the text is unchanged after Ctrl+Z", board_text(browser), text_before)
 
 
-GET_WIDTH = "return Math.round(document.querySelector('#wiring-picture svg').getBoundingClientRect().width)"
+GET_PICTURE_WIDTH = "return Math.round(document.querySelector('#wiring-picture svg').getBoundingClientRect().width)"
 GET_ZOOM_BOUNDS = "return ['picture-smaller', 'picture-larger'].map((id) => document.getElementById(id).getAttribute('aria-disabled'))"
 IS_WHOLE_PICTURE_IN_VIEW = """
 const root = document.getElementById("wiring-picture");
@@ -312,44 +312,44 @@ def check_zoom(browser):
     choose_example(browser, "lock")
     browser.script("document.getElementById('wiring-tab').click()")
     browser.scroll_to("#wiring-picture")
-    width_before = browser.script(GET_WIDTH)
+    width_before = browser.script(GET_PICTURE_WIDTH)
     browser.click("#picture-larger")
-    verdict("a button enlarges the picture", abs(browser.script(GET_WIDTH) - width_before * 1.25) <= 1, True)
+    verdict("a button enlarges the picture", abs(browser.script(GET_PICTURE_WIDTH) - width_before * 1.25) <= 1, True)
     for _ in range(30):
         browser.click("#picture-larger")
-    largest_width = browser.script(GET_WIDTH)
+    largest_width = browser.script(GET_PICTURE_WIDTH)
     browser.click("#picture-larger")
-    verdict("the picture has a maximum size", (browser.script(GET_WIDTH), largest_width > width_before * 2), (largest_width, True))
+    verdict("the picture has a maximum size", (browser.script(GET_PICTURE_WIDTH), largest_width > width_before * 2), (largest_width, True))
     verdict("the button for a larger picture is disabled", browser.script(GET_ZOOM_BOUNDS), ["false", "true"])
     browser.click("#picture-fit")
-    verdict("Fit restores the width of the picture", browser.script(GET_WIDTH), width_before)
+    verdict("Fit restores the width of the picture", browser.script(GET_PICTURE_WIDTH), width_before)
     browser.script("document.querySelector('#wiring-picture .of-rom').focus()")
     browser.type_keys("--")
-    verdict("two presses of - reduce the picture", abs(browser.script(GET_WIDTH) - width_before / 1.25 ** 2) <= 1, True)
+    verdict("two presses of - reduce the picture", abs(browser.script(GET_PICTURE_WIDTH) - width_before / 1.25 ** 2) <= 1, True)
     drag(browser, f"{pin_selector('RAM 0.0 · 4002, out 3')} circle", f"{pin_selector('Lamps · 3, alarm')} circle")
     eventually(browser, "a wire can be drawn in the smaller picture", GET_DRAWING_STATUS, "Line ram0.0.3 is wired to lamp 2.")
     browser.click("#drawing-undo")
     eventually(browser, "the wire is undone", GET_DRAWING_STATUS, "Undone.")
     browser.script("document.querySelector('#wiring-picture .of-rom').focus()")
     browser.type_keys("-" * 20, 2, 2)
-    smallest_width = browser.script(GET_WIDTH)
+    smallest_width = browser.script(GET_PICTURE_WIDTH)
     browser.type_keys("-", 2, 2)
-    verdict("the picture has a minimum size, at which the button is disabled", (browser.script(GET_WIDTH), browser.script(GET_ZOOM_BOUNDS)), (smallest_width, ["true", "false"]))
+    verdict("the picture has a minimum size, at which the button is disabled", (browser.script(GET_PICTURE_WIDTH), browser.script(GET_ZOOM_BOUNDS)), (smallest_width, ["true", "false"]))
     verdict("the smallest picture is completely visible, and readable", (browser.script(IS_WHOLE_PICTURE_IN_VIEW), smallest_width >= width_before / 3), (True, True))
     browser.script("document.getElementById('picture-smaller').focus()")
     browser.type_keys([ENTER])
-    verdict("the disabled button does not change the picture, and keeps the focus", (browser.script(GET_WIDTH), browser.script("return document.activeElement.id")),
+    verdict("the disabled button does not change the picture, and keeps the focus", (browser.script(GET_PICTURE_WIDTH), browser.script("return document.activeElement.id")),
             (smallest_width, "picture-smaller"))
     browser.script("document.querySelector('#wiring-picture .of-rom').focus()")
     browser.type_keys("+" * 20, 2, 2)
-    verdict("+ enlarges the picture to the maximum size", browser.script(GET_WIDTH), largest_width)
+    verdict("+ enlarges the picture to the maximum size", browser.script(GET_PICTURE_WIDTH), largest_width)
     browser.type_keys("0")
-    verdict("0 restores the width of the picture", browser.script(GET_WIDTH), width_before)
+    verdict("0 restores the width of the picture", browser.script(GET_PICTURE_WIDTH), width_before)
     browser.script("document.getElementById('picture-fit').click()")
     part_under_pointer = browser.script(GET_PART_AT_POINT, 50, 40)
     verdict("the wheel scrolls the page", browser.script(TURN_WHEEL, -100, False), True)
     verdict("Ctrl and the wheel do not zoom the page", browser.script(TURN_WHEEL, -100, True), False)
-    verdict("Ctrl and the wheel zoom the picture at the pointer", (browser.script(GET_WIDTH) > width_before, browser.script(GET_PART_AT_POINT, 50, 40)), (True, part_under_pointer))
+    verdict("Ctrl and the wheel zoom the picture at the pointer", (browser.script(GET_PICTURE_WIDTH) > width_before, browser.script(GET_PART_AT_POINT, 50, 40)), (True, part_under_pointer))
     browser.click("#picture-fit")
 
 
@@ -384,10 +384,10 @@ def drag_from_shelf(browser, part, target, kind="mouse", key=""):
     points = [[round(start[axis] + fraction * (target[axis] - start[axis])) for axis in (0, 1)] for fraction in (0, 0.3, 0.7, 1)]
     first_move, *other_moves = [{"type": "pointerMove", "duration": 60, "x": x, "y": y} for x, y in points]
     pause = {"type": "pause", "duration": 60}
-    keys = [{"type": "key", "id": "while dragged", "actions": [
+    key_actions = [{"type": "key", "id": "while dragged", "actions": [
         *[pause] * 5, {"type": "keyDown", "value": key}, {"type": "keyUp", "value": key}]}] if key else []
     browser.perform_actions({"type": "pointer", "id": f"shelf {kind}", "parameters": {"pointerType": kind}, "actions": [
-        first_move, {"type": "pointerDown", "button": 0}, *other_moves, *[pause] * (4 if key else 0), {"type": "pointerUp", "button": 0}]}, *keys)
+        first_move, {"type": "pointerDown", "button": 0}, *other_moves, *[pause] * (4 if key else 0), {"type": "pointerUp", "button": 0}]}, *key_actions)
 
 
 def is_near(point, expected):
@@ -396,8 +396,8 @@ def is_near(point, expected):
 
 
 def check_drag_from_shelf(browser, kind):
-    """Checks that a part dragged from the shelf is added where it is dropped, and is wired if that is a pin. A part that is dropped outside the
-    sheet must not be added."""
+    """Checks that a part dragged from the shelf is added where it is dropped, and is wired if it is dropped on a pin. A part that is dropped outside
+    the sheet must not be added."""
     choose_example(browser, "empty bench")
     show_text(browser, "wiring")
     eventually(browser, "all parts of the shelf are enabled", GET_DISABLED_BUTTONS, [])
@@ -460,7 +460,7 @@ def check_scan(browser):
     choose_example(browser, "empty bench")
     show_text(browser, "wiring")
     browser.click("#shelf-keys")
-    eventually(browser, "the new keys are selected", GET_TITLE, re.compile("^Keys"))
+    eventually(browser, "the new keys are selected", GET_SELECTED_PART_TITLE, re.compile("^Keys"))
     verdict("the pin numbers of the chips", browser.script(GET_PIN_NUMBERS), "16 15 14 13")
     browser.click("#drawing-wire")
     eventually(browser, "the number of keys on the front panel", COUNT_KEYS, 4)
@@ -480,8 +480,8 @@ def check_scan(browser):
 
 
 def check_text_with_errors(browser):
-    """Checks that the picture reports errors in the board's text, and that the report is gone when they are corrected. A title that is typed in the
-    text must appear in the picture."""
+    """Checks that the picture reports errors in the board's text, and that the report disappears when the errors are corrected. A title that is typed
+    in the text must appear in the picture."""
     text = board_text(browser)
     browser.script(PUT_INTO_EDITOR, BOARD_EDITOR, f"{text}\n[[lamp]]\n")
     eventually(browser, "the picture reports that the bench rejects the text", GET_DRAWING_STATE, re.compile("^The bench rejects the board's text"))

@@ -3,7 +3,7 @@
 import re
 import time
 
-from page_basics import GET_ALL_NOTICES, GET_STATUS, GET_TEXT_OF_EDITOR, PUT_INTO_EDITOR, STEPPED, choose_example, reopen_page, show_text, pause_running_time
+from page_basics import GET_ALL_NOTICES, GET_STATUS, GET_TEXT_OF_EDITOR, PUT_INTO_EDITOR, STEPPED_MESSAGE, choose_example, reopen_page, show_text, pause_running_time
 from verdicts import eventually, verdict
 
 CONTROL, SHIFT, ALT, ENTER, ESCAPE, TAB = "\ue009", "\ue008", "\ue00a", "\ue007", "\ue00c", "\ue004"
@@ -20,7 +20,6 @@ GET_ERRORS = "return [...document.querySelectorAll('{} .fault-list li')].map((no
 GET_UNDERLINED_TEXT = "return [...document.querySelectorAll('{} .fault')].map((node) => node.textContent).join(' ')"
 GET_STATUS_OF = "return document.querySelector('{} .status-text').textContent"
 GET_EXPLANATION = "return document.querySelector('{} .meaning').textContent"
-GET_LISTING = "return document.querySelector('#lines-of-program').textContent"
 IS_FOCUS_IN_PROGRAM = "return document.activeElement.closest('.paper') !== null"
 # Scrolls an editor to the end of its text. Returns the last line number, whether the text is wider than its box, and whether each visible line number
 # is beside a line.
@@ -133,8 +132,8 @@ def check_typing(browser):
 
 
 def check_name_commands(browser):
-    """Checks that the keys find a name's definition and its references, and rename it everywhere except in comments. Also checks going to a line,
-    commenting, and replacing."""
+    """Checks that keyboard shortcuts find a name's definition and its references, and rename it everywhere except in comments. Also checks the
+    shortcuts that go to a line, comment lines out, and replace text."""
     text_script = GET_TEXT_OF_EDITOR.replace("arguments[0]", f"'{PROGRAM_EDITOR}'")
     caret_script = GET_CARET.replace("arguments[0]", f"'{PROGRAM_EDITOR}'")
     set_text(browser, PROGRAM_EDITOR, "loop:\tNOP ; loop\n\tFIM P0, loop\n\tJUN loop")
@@ -207,7 +206,7 @@ def check_folding(browser):
     pause_running_time(browser)
     # On a busy machine, time can be paused before the first instruction, whose line is not folded.
     browser.click("#step")
-    browser.wait_until(GET_STATUS, STEPPED)
+    browser.wait_until(GET_STATUS, STEPPED_MESSAGE)
     # Time is paused either at the loop's label or at the line below it. In the first case, the line below the label stays folded.
     eventually(browser, "the line at which the program is paused is unfolded", GET_FOLDED_LINES, re.compile("^\u2026 1 line(,\u2026 1 line){1,2}$"))
 

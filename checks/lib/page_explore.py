@@ -21,12 +21,12 @@ from page_texts import GET_NAME, wait_for_download, rename_session
 from verdicts import eventually, verdict
 from web_driver import Chromium
 
-EDITOR = "#properties-editor"
+PROPERTIES_EDITOR = "#properties-editor"
 GET_PROPERTIES_STATUS = "return document.querySelector('#properties-editor .status-text').textContent"
 GET_BUTTON_LABEL = "return document.getElementById('explore').textContent"
-GET_ROWS = """return [...document.querySelectorAll('#property-list > li')].map((node) => [...node.querySelector('p').children]
+GET_PROPERTY_ROWS = """return [...document.querySelectorAll('#property-list > li')].map((node) => [...node.querySelector('p').children]
   .map((child) => child.textContent).filter(Boolean).join(' | '))"""
-GET_MARK = "return document.querySelector('#properties-tab .mark').textContent"
+GET_TAB_MARK = "return document.querySelector('#properties-tab .mark').textContent"
 GET_ERRORS = GET_TESTS_FAULTS.replace("tests", "properties")
 GET_FIGURES = "return document.getElementById('explore-figures').textContent"
 GET_CYCLES = "return Number(document.getElementById('cycles').textContent.match(/[\\d,]+/)[0].replace(/,/g, ''))"
@@ -88,13 +88,13 @@ def check_counterexample(browser, folder, mcs4):
     eventually(browser, "the search reports its steps", GET_FIGURES, re.compile("^[1-9][0-9,]* steps"))
     cycles_before = browser.script(GET_CYCLES)
     eventually(browser, "the status reports the broken property during the search", GET_PROPERTIES_STATUS, "1 property is broken so far.")
-    verdict("the tab reports the broken property", browser.script(GET_MARK), "1 broken")
+    verdict("the tab reports the broken property", browser.script(GET_TAB_MARK), "1 broken")
     eventually(browser, "the session continues during the search", f"{GET_CYCLES.replace('return ', 'return (')}) > {cycles_before}", True)
     eventually(browser, "the search ends", GET_BUTTON_LABEL, "Search", SEARCH_SECONDS + 30)
     verdict("the status reports the broken property after the search", browser.script(GET_PROPERTIES_STATUS), "1 property is broken.")
     tool = start_explore_tool(folder, program, mcs4)
     output, _ = tool.communicate()
-    rows = browser.script(GET_ROWS)
+    rows = browser.script(GET_PROPERTY_ROWS)
     verdict("the number of rows, one for each property", len(rows), 8)
     verdict("the row shows how the property is broken", rows[0], re.compile(r"^not ok \| lamp open on only after press 4, .* \| broken by \d+ steps?, [\d,]+ cycles"))
     verdict("the other properties are not broken", rows[1:3], ["ok | never lamp open on and lamp locked on", "ok | never lamp open on and lamp alarm on"])
@@ -133,7 +133,7 @@ def check_test_added(browser):
 
 
 def check_counterexample_opened(browser):
-    """Checks that the counterexample opens as a session, and that the old session can be opened again and still shows its results."""
+    """Checks that the counterexample opens as a session, and that the old session can be opened again and still shows the search results."""
     browser.click("#property-list .bar button:nth-of-type(1)")
     eventually(browser, "the counterexample is opened as a session", GET_NAME, re.compile("^lamp open on only after press 4"))
     eventually(browser, "a notice offers to go back to the session", GET_NOTICE, re.compile('"lock" is saved'))
@@ -145,7 +145,7 @@ def check_counterexample_opened(browser):
     browser.wait_until("return document.getElementById('sessions').open", True)
     browser.click("#kept button[aria-label='open lock']")
     eventually(browser, "the old session is open again", GET_NAME, "lock")
-    eventually(browser, "the old session still shows its results", GET_ROWS, re.compile("^.'not ok . lamp open on only after"))
+    eventually(browser, "the old session still shows its results", GET_PROPERTY_ROWS, re.compile("^.'not ok . lamp open on only after"))
 
 
 def check_stop_button(browser):
@@ -171,15 +171,15 @@ def check_stop_button(browser):
 
 
 def check_errors(browser):
-    """Checks that errors in properties, in the seconds, in the seed and in the board's text are reported, and that no search starts then. Also
-    checks the sample text."""
+    """Checks that errors in properties, in the seconds, in the seed and in the board's text are reported, and that they prevent a search. Also checks
+    the sample text."""
     set_text(browser, "properties", "wait 0 to 5\nnever lamp purple on\npress A\n")
     show_text(browser, "properties")
     eventually(browser, "errors are reported while the user types", GET_ERRORS,
                ["line 1: write `wait TIME to TIME`, from 1 cycle to 100,000 (1.08 s), as in: wait 1 ms to 20 ms",
                 "line 2: the board has no lamp purple; it has: locked open alarm (column 7)",
                 "line 3: the board has no key A; it has: 1 2 3 4 5 6 7 8 9 * 0 #"])
-    verdict("the tab shows the number of errors", browser.script(GET_MARK), "3 errors")
+    verdict("the tab shows the number of errors", browser.script(GET_TAB_MARK), "3 errors")
     browser.click("#explore")
     eventually(browser, "no search starts if the text has errors", GET_PROPERTIES_STATUS, re.compile("^Nothing was run: Properties, line 1: write .* and 2 more.$"))
     for seconds, seed, message in ((0, 1, "Seconds must be a number from 1 to 86,400."), ("x", -1, re.compile("^Seconds .* The seed must be a number"))):
@@ -195,7 +195,7 @@ def check_errors(browser):
     browser.click("#first-properties")
     start_search(browser, 3)
     eventually(browser, "the search reaches the goals of the sample text", GET_PROPERTIES_STATUS, "Nothing was found that breaks a property.", 20)
-    verdict("the row of a goal shows how it is reached", browser.script(GET_ROWS)[0], re.compile(r"^ok \| reach lamp locked on \| reached by \d+ steps?, "))
+    verdict("the row of a goal shows how it is reached", browser.script(GET_PROPERTY_ROWS)[0], re.compile(r"^ok \| reach lamp locked on \| reached by \d+ steps?, "))
 
 
 BOARD = 'lamp = [{ line = "ram0.0.0" }, { line = "ram0.0.1" }]\n[[rom]]\nchip = 0\nport = "0000"\n[[ram]]\nbank = 0\nchips = 1\n'
@@ -212,7 +212,7 @@ def check_small_program_proved(browser):
     set_text(browser, "properties", "test\nwait 1 to 20\nnever lamp 1 on\nnever lamp 0 on\nreach lamp 1 on\n")
     start_search(browser, 5)
     eventually(browser, "the search ends when all properties are decided", GET_PROPERTIES_STATUS, "1 property is broken. 1 goal was not reached.", 20)
-    verdict("the rows report the proved properties", [row for row in browser.script(GET_ROWS) if "states" in row][:2],
+    verdict("the rows report the proved properties", [row for row in browser.script(GET_PROPERTY_ROWS) if "states" in row][:2],
             ["ok | never lamp 1 on | proved for all inputs (2 states)", "not ok | reach lamp 1 on | never reached, for all inputs (2 states)"])
 
 
@@ -237,7 +237,7 @@ def check_search_on_phone(browser):
     verdict("the page does not scroll sideways on a phone", browser.script(MEASURE_OVERFLOW), 0)
     start_search(browser, 5)
     eventually(browser, "the search ends on a phone", GET_BUTTON_LABEL, "Search", 20)
-    eventually(browser, "the results on a phone", GET_ROWS, re.compile("never lamp 0 on"))
+    eventually(browser, "the results on a phone", GET_PROPERTY_ROWS, re.compile("never lamp 0 on"))
     verdict("the number of elements outside the phone's width", browser.script("""return [...document.querySelectorAll('#explore-results *')]
       .filter((each) => isShown(each) && each.getBoundingClientRect().right > innerWidth).length"""), 0)
     verdict("the results do not make the page scroll sideways", browser.script(MEASURE_OVERFLOW), 0)
@@ -251,7 +251,7 @@ def check_saving(browser, folder):
     browser.reload()
     browser.wait_until(IS_READY, True)
     show_text(browser, "properties")
-    eventually(browser, "the properties are unchanged after a reload", GET_TEXT_OF_EDITOR.replace("arguments[0]", f"'{EDITOR}'"), "never lamp 1 on")
+    eventually(browser, "the properties are unchanged after a reload", GET_TEXT_OF_EDITOR.replace("arguments[0]", f"'{PROPERTIES_EDITOR}'"), "never lamp 1 on")
     rename_session(browser, "with properties")
     choose_from_file_menu(browser, "#save-button")
     project_file = wait_for_download(folder, "with properties.mcsp")
@@ -259,7 +259,7 @@ def check_saving(browser, folder):
     verdict("a project contains the properties", "\nunended properties\n" in text and "\nproperties\nnever lamp 1 on\n.\n" in text, True)
     browser.click("#sessions-button")
     browser.type_into("#file", str(LOCK / "lock.props"))
-    eventually(browser, "a file of properties is opened in its tab", GET_TEXT_OF_EDITOR.replace("arguments[0]", f"'{EDITOR}'"),
+    eventually(browser, "a file of properties is opened in its tab", GET_TEXT_OF_EDITOR.replace("arguments[0]", f"'{PROPERTIES_EDITOR}'"),
                (LOCK / "lock.props").read_text())
     eventually(browser, "the notice says how to use the file", GET_NOTICE, re.compile("lock.props is in Properties. Search looks for counterexamples"))
 

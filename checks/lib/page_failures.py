@@ -102,7 +102,7 @@ def check_worker_restart(browser):
 
 
 # Puts 20,000,000 bytes of slow lines into the console's field. After a cancellation, the session must be as if none of them had been executed. The
-# field is hidden, because a browser would need minutes for its layout. `longest` becomes the longest time in milliseconds for which the page was
+# field is hidden, because a browser would need minutes for its layout. `longest` is the longest time so far, in milliseconds, for which the page was
 # blocked.
 START_LONG_WORK = """
 document.getElementById("lines").style.display = "none";
@@ -127,15 +127,15 @@ if (location.search === "?hang") {
   block("beforeunload");
   block("pagehide");
 }"""
-# A flag in the browser's storage marks a session that is being opened. A flag that remains shows that the page hung. AGE_FLAGS makes all flags old.
+# A flag in the browser's storage marks a session that is being opened. A flag that remains shows that the page hung. BACKDATE_FLAGS ages all flags.
 COUNT_FLAGS = "return Object.keys(localStorage).filter((key) => key.startsWith('fethsaim.opening')).length"
-AGE_FLAGS = "for (const key of Object.keys(localStorage)) if (key.startsWith('fethsaim.opening')) localStorage.setItem(key, '1')"
+BACKDATE_FLAGS = "for (const key of Object.keys(localStorage)) if (key.startsWith('fethsaim.opening')) localStorage.setItem(key, '1')"
 # Removes all flags, because a busy page that the user left can have left its flag behind.
 REMOVE_FLAGS = "for (const key of Object.keys(localStorage)) if (key.startsWith('fethsaim.opening')) localStorage.removeItem(key)"
 UNFINISHED_NOTICE = 'The session "die" was not opened automatically: the last time, opening it did not finish.'
-GET_LAST_ENTRY = "return document.getElementById('log').lastElementChild.textContent"
-HAS_PROGRESS = "return document.querySelector('#work progress').value > 0"
-GET_LONGEST_BLOCK = "clearInterval(window.ticking); return window.longest"
+GET_LAST_LOG_ENTRY = "return document.getElementById('log').lastElementChild.textContent"
+IS_PROGRESS_SHOWN = "return document.querySelector('#work progress').value > 0"
+GET_LONGEST_BLOCKED_TIME = "clearInterval(window.ticking); return window.longest"
 
 
 def check_long_work(browser, page):
@@ -148,10 +148,10 @@ def check_long_work(browser, page):
     answer_before = send_lines(browser, "seq")
     browser.script(START_LONG_WORK)
     browser.script("document.getElementById('send').click()")
-    eventually(browser, "long work shows its progress", HAS_PROGRESS, True, 60)
+    eventually(browser, "long work shows its progress", IS_PROGRESS_SHOWN, True, 60)
     browser.click("#cancel")
     eventually(browser, "long work can be cancelled", GET_NOTICE, re.compile("It was cancelled. The session is as it was before."), 30)
-    print(f"during long work the page answers at least every {browser.script(GET_LONGEST_BLOCK):.0f} ms in {browser.name}")
+    print(f"during long work the page answers at least every {browser.script(GET_LONGEST_BLOCKED_TIME):.0f} ms in {browser.name}")
     browser.script("const area = document.getElementById('lines'); area.value = ''; area.style.display = ''")
     verdict("cancelled work has no effect", send_lines(browser, "seq"), answer_before)
     dismiss_notice(browser)
@@ -159,10 +159,10 @@ def check_long_work(browser, page):
     browser.script("document.getElementById('send').click()")
     eventually(browser, "work in pieces is completed", "return document.getElementById('lines').value", "", 60)
     send_lines(browser, "seq")
-    verdict("each line of the work is executed once", browser.script(GET_LAST_ENTRY), f"seqseq {int(answer_before.rsplit(' ', 1)[1]) + 20000}")
+    verdict("each line of the work is executed once", browser.script(GET_LAST_LOG_ENTRY), f"seqseq {int(answer_before.rsplit(' ', 1)[1]) + 20000}")
 
 
-SHORTEN_WAIT = """
+SHORTEN_STORE_WAIT = """
 const wait = setTimeout;
 window.setTimeout = (handler, time, ...rest) => wait(handler, time === 10000 ? 300 : time, ...rest);
 """
@@ -171,12 +171,12 @@ window.setTimeout = (handler, time, ...rest) => wait(handler, time === 10000 ? 3
 def page_without_feature(page, folder, code):
     """Writes a copy of the page in which `code` removes a feature of the browser, and returns its path. The copy waits for a store for 0.3 seconds
     instead of ten."""
-    return write_altered_page(page, folder, f"{SHORTEN_WAIT}{code}")
+    return write_altered_page(page, folder, f"{SHORTEN_STORE_WAIT}{code}")
 
 
 def notice_after_reopening(browser, page, code=GET_NOTICE, expected=re.compile(".")):
-    """Opens a blank page and then the page. Waits until the script `code`, by default for the notice, returns an expected result. Returns this
-    result."""
+    """Opens a blank page and then the page. Waits until the script `code` returns an expected result, and returns this result. By default, the
+    script returns the notice."""
     browser.open("about:blank")
     browser.open(page.as_uri())
     return browser.wait_until(code, expected)
@@ -190,7 +190,8 @@ def check_calculator_works(browser, description):
 
 
 def check_missing_features(browser, page, folder):
-    """Checks that the page shows only a notice if WebAssembly lacks bulk memory, and that it works without a store of sessions or without locks."""
+    """Checks that the page shows only a notice if WebAssembly lacks bulk memory. The page must work in browsers where it can store nothing, and in
+    browsers without the Web Locks API."""
     verdict("the notice about a browser without bulk memory", notice_after_reopening(browser, page_without_feature(page, folder, "WebAssembly.validate = () => false")),
             re.compile(r"This browser has no WebAssembly with bulk memory.*97.*102.*16"))
     verdict("the buttons of a page without a module", browser.script(GET_SHOWN_CONTROLS), ["Dismiss"])
@@ -207,7 +208,7 @@ def check_missing_features(browser, page, folder):
 
 
 def check_no_locks(browser, page, folder):
-    """Checks that in a browser without locks, two tabs with the same session do not overwrite each other's changes. A closed tab must not block the
+    """Checks that without the Web Locks API, two tabs with the same session do not overwrite each other's changes. A closed tab must not block the
     session."""
     notice_after_reopening(browser, write_altered_page(page, folder, "Object.defineProperty(Navigator.prototype, 'locks', { value: undefined })"), IS_READY, True)
     address = browser.script("return location.href")
@@ -262,11 +263,11 @@ def reopen(browser, address):
 
 
 def open_hanging_session(browser, address):
-    """Opens a session in a page that never finishes opening it. Makes the flag of this opening old, as if the page had hung for a long time."""
+    """Opens a session in a page that never finishes opening it. Then backdates the page's opening flag, as if the page had hung for a long time."""
     browser.open("about:blank")
     browser.open(address.replace("html", "html?hang", 1))
     browser.wait_until("return Boolean(window.hung)", True)
-    browser.script(AGE_FLAGS)
+    browser.script(BACKDATE_FLAGS)
 
 
 def check_leaving_early(browser, address, session):

@@ -6,7 +6,7 @@ import re
 import time
 
 from page_editor import GET_CARET, GET_ERRORS, GET_STATUS_OF, PROGRAM_EDITOR, SET_CARET
-from page_basics import DOWN, ENTER, ESCAPE, GET_NOTICE, GET_STATUS, GET_TEXT_OF_EDITOR, STEPPED, TAB, move_focus_until, send_lines, wait_until_ready
+from page_basics import DOWN, ENTER, ESCAPE, GET_NOTICE, GET_STATUS, GET_TEXT_OF_EDITOR, STEPPED_MESSAGE, TAB, move_focus_until, send_lines, wait_until_ready
 from page_names import GET_BREAKPOINT_LINES, GET_SOURCE_STATUS
 from page_texts import GET_NAME, GET_PROGRAM_TEXT, GET_QUESTION, GET_TEXTS, wait_for_download
 from verdicts import eventually, verdict
@@ -114,7 +114,7 @@ def check_breakpoint(browser):
     browser.type_keys([F8])
     eventually(browser, "the program stops at the breakpoint", GET_STATUS, re.compile("^Paused at 002, at a breakpoint"))
     browser.type_keys([F11])
-    eventually(browser, "F11 executes one instruction", GET_STATUS, STEPPED)
+    eventually(browser, "F11 executes one instruction", GET_STATUS, STEPPED_MESSAGE)
     verdict("the next instruction is WMP", browser.script(GET_REGISTERS), re.compile("pc003"))
     browser.type_keys([F9])
     eventually(browser, "F9 clears the breakpoint", GET_BREAKPOINT_LINES, "")
@@ -171,8 +171,8 @@ def check_project_file(browser, folder):
 
 
 def check_example(browser):
-    """Checks that the texts of an example that is a project have their comments, and that its session is in the state that they describe. Then
-    corrects the error in its program."""
+    """Opens an example that is a project. Checks that its texts have their comments, and that its session is in the state that these describe. Then
+    corrects the error in the example's program."""
     browser.script("for (const each of document.querySelectorAll('#notice .dismiss')) each.click()")
     choose_by_keyboard(browser, "a fault to find")
     verdict("the example's source has its comments", browser.script(GET_PROGRAM_TEXT), re.compile("^; Four lamps should count from 0 to 9"))

@@ -11,9 +11,9 @@ from verdicts import eventually, verdict
 
 TAB = "\ue004"
 # Returns the title without the panel's buttons, which are in the same heading.
-GET_TITLE = """const heading = document.getElementById('front-title');
+GET_PANEL_TITLE = """const heading = document.getElementById('front-title');
 return (heading.querySelector('.fold') || heading).textContent"""
-GET_NAMES = "return [...document.querySelectorAll('#front .bulb')].map((bulb) => bulb.getAttribute('aria-label')).join('; ')"
+GET_LAMP_NAMES = "return [...document.querySelectorAll('#front .bulb')].map((bulb) => bulb.getAttribute('aria-label')).join('; ')"
 IS_PRESSED = "return document.querySelector(arguments[0]).getAttribute('aria-pressed')"
 TEST_KEY = "#keys .at-test"
 IS_TEST_PRESSED = f"return document.querySelector('{TEST_KEY}').getAttribute('aria-pressed')"
@@ -77,8 +77,8 @@ def check_traffic_light(browser):
     """Checks that the traffic light's panel has its title, that its lamps have the names, positions and colours of the board's text, and that its
     TEST button works."""
     choose_example(browser, "traffic light")
-    eventually(browser, "the title of the front panel", GET_TITLE, "Traffic light")
-    eventually(browser, "each lamp has a name and a state", GET_NAMES,
+    eventually(browser, "the title of the front panel", GET_PANEL_TITLE, "Traffic light")
+    eventually(browser, "each lamp has a name and a state", GET_LAMP_NAMES,
                lamps_pattern("red, dark; amber, dark; stand, lit; green, lit; walk, dark"))
     positions = browser.script(GET_LAMP_POSITIONS)
     verdict("red and amber, and red and green, have the same horizontal position", [positions["red"][0], positions["red"][0]], [positions["amber"][0], positions["green"][0]])
@@ -102,8 +102,8 @@ def check_test_button(browser):
                    "attributeFilter: ['aria-pressed'] })")
     browser.touch_together([TEST_KEY], 300)
     eventually(browser, "the button is down while a finger holds it, and then up", "return window.presses.join(' ')", "true false")
-    eventually(browser, "the cars' light changes to amber or red", GET_NAMES, re.compile("red, lit.*stand, lit|amber, lit.*stand, lit"))
-    eventually(browser, "the pedestrians' light changes to walk", GET_NAMES, re.compile("red, lit.*walk, lit"))
+    eventually(browser, "the cars' light changes to amber or red", GET_LAMP_NAMES, re.compile("red, lit.*stand, lit|amber, lit.*stand, lit"))
+    eventually(browser, "the pedestrians' light changes to walk", GET_LAMP_NAMES, re.compile("red, lit.*walk, lit"))
     browser.type_keys(["w"], 100)
     eventually(browser, "its letter presses the button", "return window.presses.join(' ')", "true false true false")
     browser.script("document.getElementById('run').focus()")
@@ -122,7 +122,7 @@ def check_stopwatch(browser):
     """Checks that the stopwatch's TEST is a switch, and that its display counts, has the correct segments, and is announced only after it has
     stopped."""
     choose_example(browser, "stopwatch")
-    eventually(browser, "the title of the stopwatch's front panel", GET_TITLE, "Stopwatch")
+    eventually(browser, "the title of the stopwatch's front panel", GET_PANEL_TITLE, "Stopwatch")
     verdict("the switch has its name and is off", [browser.text_of(f"{TEST_KEY} b"), browser.script(IS_TEST_PRESSED)], ["RUN", "false"])
     eventually(browser, "the display shows 0 at the beginning", GET_DIGITS, "0")
     browser.script(WATCH_ANNOUNCEMENTS)
@@ -179,12 +179,12 @@ def check_port_names(browser):
 
 
 def check_board_without_panel(browser):
-    """Checks that a board without comments about its front panel shows its lamps with their lines as names, a default title, and the TEST button."""
+    """Checks the front panel of a board without comments about the panel: a default title, the TEST button, and lamps named after their I/O lines."""
     status_of(browser, "#board-editor", board_of_lamps(16))
     eventually(browser, "sixteen lamps without a front panel are not a display", "return document.getElementById('display').hidden", True)
-    names = re.sub(", (lit|dark)", "", browser.script(GET_NAMES))
+    names = re.sub(", (lit|dark)", "", browser.script(GET_LAMP_NAMES))
     verdict("the lamps have the names of their lines", names, "; ".join(f"chain0.{number}" for number in range(16)))
-    verdict("the front panel has the default title", browser.script(GET_TITLE), "Lamps and keys")
+    verdict("the front panel has the default title", browser.script(GET_PANEL_TITLE), "Lamps and keys")
     verdict("the TEST button is visible if no comment describes TEST", browser.script("return document.getElementById('test').hidden"), False)
 
 
@@ -200,29 +200,29 @@ def check_panel_errors(browser):
         (5, "the display needs lamps up to number 18, but the board has 16"),
         (6, "no lamp is named ghost"))))
     eventually(browser, "the editor of the board shows the errors at their lines", GET_COLOUR_ERRORS, "line 2: pink is not a colour")
-    verdict("the title without errors is shown, as plain text", [browser.script(GET_TITLE), browser.script("return document.querySelector('#front i, #front h2 b')")],
+    verdict("the title without errors is shown, as plain text", [browser.script(GET_PANEL_TITLE), browser.script("return document.querySelector('#front i, #front h2 b')")],
             ["Odd <b>one</b>", None])
-    verdict("the lamp without an error has its name", browser.script(GET_NAMES).split("; ")[0], re.compile("^here, (lit|dark)$"))
+    verdict("the lamp without an error has its name", browser.script(GET_LAMP_NAMES).split("; ")[0], re.compile("^here, (lit|dark)$"))
     show_text(browser, "board")
     browser.script(PUT_INTO_EDITOR, "#board-editor", "# title: Another\n" + board_of_lamps(16))
-    eventually(browser, "a typed front panel is shown before the board is applied", GET_TITLE, "Another")
+    eventually(browser, "a typed front panel is shown before the board is applied", GET_PANEL_TITLE, "Another")
     eventually(browser, "the errors are gone", GET_PANEL_ERRORS, "")
     # The page saves the board's text, and updates the names from it, 600 ms after the last edit.
     for description, text in (("of another board", board_of_lamps(15)), ("with an error", board_of_lamps(16) + "[[lamp\n")):
         browser.script(PUT_INTO_EDITOR, "#board-editor", "# title: Third\n# lamp 16: nobody\n" + text)
         time.sleep(1.5)
-        verdict(f"the front panel of a text {description} is shown only after the board is applied", [browser.script(GET_TITLE), browser.script(GET_PANEL_ERRORS)], ["Another", ""])
+        verdict(f"the front panel of a text {description} is shown only after the board is applied", [browser.script(GET_PANEL_TITLE), browser.script(GET_PANEL_ERRORS)], ["Another", ""])
     browser.reload()
     wait_until_ready(browser)
-    eventually(browser, "a reload does not show the new front panel", GET_TITLE, "Another")
+    eventually(browser, "a reload does not show the new front panel", GET_PANEL_TITLE, "Another")
     status_of(browser, "#board-editor", "# title: Third\n" + board_of_lamps(15))
-    eventually(browser, "the new front panel is shown after the board is applied", GET_TITLE, "Third")
+    eventually(browser, "the new front panel is shown after the board is applied", GET_PANEL_TITLE, "Third")
 
 
 def check_forced_colours(browser):
     """Checks that in forced colours, lamps have one colour and show their own colours as letters, and that only lamps that are on are filled."""
     choose_example(browser, "traffic light")
-    eventually(browser, "the traffic light is green", GET_NAMES, re.compile("green, lit"))
+    eventually(browser, "the traffic light is green", GET_LAMP_NAMES, re.compile("green, lit"))
     browser.send_command("Emulation.setEmulatedMedia", features=[{"name": "forced-colors", "value": "active"}])
     verdict("in forced colours all lamps have one colour", len(set(browser.script(GET_RINGS))), 1)
     verdict("in forced colours only lamps that are on are filled", browser.script(ARE_ONLY_LIT_LAMPS_FILLED), True)
@@ -235,7 +235,7 @@ def check_three_lamps(browser):
     """Checks that the lamps in the example `three lamps` have their names."""
     board_text = (TOP / "examples/three_lamps/board.toml").read_text()
     status_of(browser, "#board-editor", board_text)
-    eventually(browser, "the names and states of three lamps", GET_NAMES, re.compile("^left, (lit|dark); middle, (lit|dark); right, (lit|dark)$"))
+    eventually(browser, "the names and states of three lamps", GET_LAMP_NAMES, re.compile("^left, (lit|dark); middle, (lit|dark); right, (lit|dark)$"))
 
 
 def check(browser, page, _folder, _mcs4):

@@ -9,13 +9,13 @@ from verdicts import eventually, verdict
 F1, UP, DOWN, CONTROL = "\ue031", "\ue013", "\ue015", "\ue009"
 IS_HELP_SHOWN = "return !document.getElementById('help').hidden"
 GET_HINT = "return document.getElementById('lines-hint').textContent"
-GET_LINES = "return document.getElementById('lines').value"
+GET_CONSOLE_FIELD = "return document.getElementById('lines').value"
 GET_TOUR_STATUS = "return document.getElementById('tour-status').textContent"
 GET_TOUR_TITLE = "return document.getElementById('tour-title').textContent"
 COUNT_ROWS = "return document.querySelectorAll('#help-sections tbody tr').length"
 SHOW_IN_BOARD = "#chosen [aria-label='Show in text']"
 COUNT_HIGH_LINES = "return [...document.querySelectorAll('#wiring-picture .high')].length"
-GET_SELECTED = "return document.querySelector('#board-editor .cm-editor').lineEditor.getSelection()"
+GET_SELECTED_TEXT = "return document.querySelector('#board-editor .cm-editor').lineEditor.getSelection()"
 
 
 def check_help(browser):
@@ -40,18 +40,18 @@ def check_console_input(browser):
     eventually(browser, "the commands with the typed beginning are shown below the field", GET_HINT, re.compile(r"^release r c: .*\nreset: .*\nregs: "))
     browser.script("document.getElementById('lines').value = ''")
     browser.type_into("#lines", "poke r5 9" + ENTER)
-    eventually(browser, "Enter sends the line and empties the field", GET_LINES, "")
+    eventually(browser, "Enter sends the line and empties the field", GET_CONSOLE_FIELD, "")
     browser.type_into("#lines", "seq" + ENTER)
-    eventually(browser, "Enter sends the second line", GET_LINES, "")
+    eventually(browser, "Enter sends the second line", GET_CONSOLE_FIELD, "")
     browser.type_keys([UP, UP])
-    eventually(browser, "the Up arrow recalls the line before the last one", GET_LINES, "poke r5 9")
+    eventually(browser, "the Up arrow recalls the line before the last one", GET_CONSOLE_FIELD, "poke r5 9")
     browser.type_keys([DOWN])
-    eventually(browser, "the Down arrow recalls the last line", GET_LINES, "seq")
+    eventually(browser, "the Down arrow recalls the last line", GET_CONSOLE_FIELD, "seq")
     browser.type_keys([DOWN])
-    eventually(browser, "the Down arrow after the last line empties the field", GET_LINES, "")
+    eventually(browser, "the Down arrow after the last line empties the field", GET_CONSOLE_FIELD, "")
     browser.type_into("#lines", "unb")
     browser.press_chord(CONTROL, " ")
-    eventually(browser, "Ctrl+Space completes a word", GET_LINES, "unbreak ")
+    eventually(browser, "Ctrl+Space completes a word", GET_CONSOLE_FIELD, "unbreak ")
     browser.script("document.getElementById('lines').value = ''")
     browser.type_into("#lines", "help watch" + ENTER)
     eventually(browser, "the line `help WORD` opens the help", IS_HELP_SHOWN, True)
@@ -71,12 +71,12 @@ def check_wiring(browser):
     browser.script("document.querySelector('#wiring-picture .part.of-rom').focus()")
     browser.type_keys([ENTER])
     browser.click(SHOW_IN_BOARD)
-    eventually(browser, "a part that was selected with Enter is shown in the board's text", GET_SELECTED, re.compile(r"^\[\[rom\]\]\nchip = 0\n"))
+    eventually(browser, "a part that was selected with Enter is shown in the board's text", GET_SELECTED_TEXT, re.compile(r"^\[\[rom\]\]\nchip = 0\n"))
     browser.click("#wiring-tab")
     browser.script("document.querySelector('#wiring-picture .of-test').focus()")
     browser.type_keys([ENTER])
     browser.click(SHOW_IN_BOARD)
-    eventually(browser, "the button at TEST is shown in the board's text", GET_SELECTED, "# test: button WALK")
+    eventually(browser, "the button at TEST is shown in the board's text", GET_SELECTED_TEXT, "# test: button WALK")
     browser.click("#wiring-tab")
     verdict("the part at the caret is marked in the picture",
             browser.script("return document.querySelectorAll('#wiring-picture .marked').length") >= 1, True)

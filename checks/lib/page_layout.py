@@ -4,7 +4,7 @@ covers the marks of changes, cells that are edited in place, printing, and acces
 import re
 import time
 
-from page_basics import (ENTER, ESCAPE, GET_STATUS, IS_AT_COUNTER, STEPPED, choose_example, key, send_lines, reopen_page, show_text,
+from page_basics import (ENTER, ESCAPE, GET_STATUS, IS_COUNTER_ROW_SHOWN, STEPPED_MESSAGE, choose_example, key, send_lines, reopen_page, show_text,
                          step_with_marks, pause_running_time, wait_until_ready)
 from page_workbench import (check_arrangement, check_touch_targets, check_first_glance, check_phone_details, check_first_tasks, check_layout_shifts,
                             check_details)
@@ -87,15 +87,15 @@ def check_folds(browser):
 
 # --- the disassembly ---
 
-GET_ROWS = "return [...document.querySelectorAll('#lines-of-program button')].filter((node) => !node.hidden).map((node) => node.textContent)"
+GET_DISASSEMBLY_ROWS = "return [...document.querySelectorAll('#lines-of-program button')].filter((node) => !node.hidden).map((node) => node.textContent)"
 GET_FOCUSED_ROW = "return document.activeElement.closest('#lines-of-program') ? document.activeElement.textContent.replace(/\\W/g, '').slice(0, 3) : ''"
-GET_LAST_ROW = GET_ROWS.replace("return", "return (") + ").pop().replace(/\\W/g, '').slice(0, 3)"
+GET_LAST_ROW_ADDRESS = GET_DISASSEMBLY_ROWS.replace("return", "return (") + ").pop().replace(/\\W/g, '').slice(0, 3)"
 GET_SCROLL_TOP = "return document.getElementById('lines-of-program').scrollTop"
 
 
 def shown_addresses(browser):
     """Returns the addresses of the visible rows of the disassembly."""
-    return [re.sub(r"\W", "", line)[:3] for line in browser.script(GET_ROWS)]
+    return [re.sub(r"\W", "", line)[:3] for line in browser.script(GET_DISASSEMBLY_ROWS)]
 
 
 def focus_row(browser, index):
@@ -121,9 +121,9 @@ def check_disassembly_keys(browser):
         last_address = shown_addresses(browser)[-1]
         browser.type_keys([PAGE_DOWN], 1, 1)
         browser.wait_until(GET_FOCUSED_ROW, re.compile("."))
-        browser.wait_until(GET_LAST_ROW, re.compile(f"^(?!{last_address})"), 5)
-        rows = shown_addresses(browser)
-        seen_addresses.update(rows)
+        browser.wait_until(GET_LAST_ROW_ADDRESS, re.compile(f"^(?!{last_address})"), 5)
+        addresses = shown_addresses(browser)
+        seen_addresses.update(addresses)
         if last_address > "2FF":
             break
     verdict("the instructions of the program that PageDown did not show", program_addresses(browser) - seen_addresses, set())
@@ -147,11 +147,11 @@ def program_addresses(browser):
 def check_scroll_bar(browser):
     """Checks that the scroll bar and the field Go to bring an address into view."""
     browser.script("document.getElementById('lines-of-program').scrollTop = arguments[0] * 24", 0x100)
-    eventually(browser, "the scroll bar shows address 100", GET_ROWS, re.compile(r"^\['\W*10[0-3]"))
+    eventually(browser, "the scroll bar shows address 100", GET_DISASSEMBLY_ROWS, re.compile(r"^\['\W*10[0-3]"))
     browser.script("document.getElementById('lines-of-program').scrollTop = 1e9")
-    eventually(browser, "the scroll bar shows the last address", GET_ROWS, re.compile(r"FF[EF][^,]*\]$"))
+    eventually(browser, "the scroll bar shows the last address", GET_DISASSEMBLY_ROWS, re.compile(r"FF[EF][^,]*\]$"))
     browser.type_into("#go-to", f"0x010{ENTER}")
-    eventually(browser, "Go to shows an address in the first row", GET_ROWS, re.compile(r"^\['\W*010"))
+    eventually(browser, "Go to shows an address in the first row", GET_DISASSEMBLY_ROWS, re.compile(r"^\['\W*010"))
     eventually(browser, "the scroll position after Go to", GET_SCROLL_TOP, 16 * 24)
 
 
@@ -161,16 +161,16 @@ GET_NEXT_LINE = "const next = document.querySelector('#lines-of-program .next');
 def check_follow(browser):
     """Checks that the disassembly moves with the program counter only if Follow is on."""
     browser.click("#step")
-    value_before = shown_addresses(browser)
+    addresses_before = shown_addresses(browser)
     browser.click("#step")
-    verdict("the disassembly does not move without Follow", shown_addresses(browser), value_before)
+    verdict("the disassembly does not move without Follow", shown_addresses(browser), addresses_before)
     browser.click("#follow")
     eventually(browser, "Follow shows the row of the program counter", GET_NEXT_LINE, re.compile("."))
     for _ in range(5):
-        value_before = cell_text(browser, "pc")
+        addresses_before = cell_text(browser, "pc")
         browser.click("#step")
-        eventually(browser, "a step changes the program counter", f"return document.getElementById('value-pc').textContent !== '{value_before}'", True)
-        eventually(browser, "a row begins at the program counter after each step", IS_AT_COUNTER, True)
+        eventually(browser, "a step changes the program counter", f"return document.getElementById('value-pc').textContent !== '{addresses_before}'", True)
+        eventually(browser, "a row begins at the program counter after each step", IS_COUNTER_ROW_SHOWN, True)
     browser.click("#run")
     eventually(browser, "Follow shows the row of the program counter while the program is running", GET_NEXT_LINE, re.compile("."))
     pause_running_time(browser)
@@ -205,7 +205,7 @@ def check_change_marks(browser):
     verdict("a register that changed at the beginning of the run is marked", "R5" in browser.script(GET_MARKED_REGISTERS).split(), True)
     verdict("a register that has its old value again is not marked", "R0" in browser.script(GET_MARKED_REGISTERS).split(), False)
     browser.click("#step")
-    browser.wait_until(GET_STATUS, STEPPED)
+    browser.wait_until(GET_STATUS, STEPPED_MESSAGE)
     verdict("a step removes the mark of a register that it does not change", "R5" in browser.script(GET_MARKED_REGISTERS).split(), False)
     browser.click("#reset")
     eventually(browser, "the status after Reset", GET_STATUS, "The board was reset; the program counter is at 000.")
@@ -311,7 +311,7 @@ def check_accessible_names(browser):
     verdict("at most six announcements in three seconds of running", browser.script("return window.said") <= 6, True)
 
 
-SWIPE_KEY = """
+CANCEL_KEY_TOUCH = """
 const key = document.querySelector(arguments[0]);
 const fire = (kind) => key.dispatchEvent(new PointerEvent(kind, { bubbles: true, cancelable: true, pointerId: 77, pointerType: "touch",
   isPrimary: true, button: kind === "pointerdown" ? 0 : -1 }));
@@ -328,12 +328,12 @@ def check_swipe(browser):
     answer_before = send_lines(browser, "seq")
     verdict("a finger can scroll on a key", browser.script("return getComputedStyle(document.querySelector('.key')).touchAction"), "pan-y")
     for speed, milliseconds in (("quick", 20), ("slow", 200)):
-        browser.script(SWIPE_KEY, key("7"), milliseconds)
+        browser.script(CANCEL_KEY_TOUCH, key("7"), milliseconds)
         time.sleep(0.5)
         eventually(browser, f"no key is down after a {speed} swipe while running", COUNT_KEYS_DOWN, 0)
     pause_running_time(browser)
     for speed, milliseconds in (("quick", 20), ("slow", 200)):
-        browser.script(SWIPE_KEY, key("7"), milliseconds)
+        browser.script(CANCEL_KEY_TOUCH, key("7"), milliseconds)
         time.sleep(0.5)
         eventually(browser, f"no key is down after a {speed} swipe while paused", COUNT_KEYS_DOWN, 0)
     verdict("the swipes have pressed keys", send_lines(browser, "seq") != answer_before, True)
@@ -376,15 +376,15 @@ return Object.fromEntries(ids.map((id) => {
   const box = element.getBoundingClientRect();
   return [id, isShown(element) ? { left: box.left, right: box.right, top: box.top, bottom: box.bottom } : null];
 }))"""
-# The toolbar controls that overlap.
+# Finds the controls in the toolbar that overlap each other.
 FIND_OVERLAPS = """
 const shown = [...document.querySelectorAll("#toolbar :is(button, input, select, h1):not([role=menu] *)")].filter(isShown);
 const boxes = shown.map((each) => [each.id, each.getBoundingClientRect()]);
 return boxes.flatMap(([id, a], k) => boxes.slice(k + 1)
   .filter(([, b]) => Math.min(a.right, b.right) - Math.max(a.left, b.left) > 1 && Math.min(a.bottom, b.bottom) - Math.max(a.top, b.top) > 1)
   .map(([other]) => `${id} ${other}`))"""
-# The controls of the toolbar and the status bar that are partly outside the window or their bar while there is a notice.
-FIND_OUTSIDE = """
+# While a notice is shown, finds the controls of the toolbar and the status bar that are partly outside the window or their bar.
+FIND_CONTROLS_OUTSIDE = """
 document.getElementById("notices-button").hidden = false;
 return [...document.querySelectorAll("#toolbar :is(button, input, select):not([role=menu] *), #statusbar button")].filter(isShown).filter((control) => {
   const [{ left, right }, room] = [control, control.closest("#cycles, #toolbar, #statusbar")].map((node) => node.getBoundingClientRect());
@@ -410,7 +410,7 @@ def check_sizes(browser):
         verdict(f"the page does not scroll at {width}", browser.script(TRY_TO_SCROLL), [0, 0, 0, 0])
         verdict(f"the height of the toolbar at {width}", boxes["toolbar"]["bottom"] - boxes["toolbar"]["top"], 44)
         verdict(f"toolbar controls that overlap at {width}", browser.script(FIND_OVERLAPS), [])
-        verdict(f"controls that are partly outside the window at {width}", browser.script(FIND_OUTSIDE), [])
+        verdict(f"controls that are partly outside the window at {width}", browser.script(FIND_CONTROLS_OUTSIDE), [])
         verdict(f"the front panel, the texts and the debugger are side by side at {width}",
                 boxes["front"]["right"] <= boxes["texts"]["left"] and boxes["texts"]["right"] <= boxes["side"]["left"], True)
         verdict(f"the dock is below the texts at {width}", boxes["texts"]["bottom"] <= boxes["dock"]["top"], True)
@@ -436,10 +436,10 @@ def check_controls_in_view(browser, *widths):
         set_size(browser, width, 800)
         verdict(f"the page does not scroll at {width}", browser.script(TRY_TO_SCROLL), [0, 0, 0, 0])
         verdict(f"toolbar controls that overlap at {width}", browser.script(FIND_OVERLAPS), [])
-        verdict(f"controls that are partly outside the window at {width}", browser.script(FIND_OUTSIDE), [])
+        verdict(f"controls that are partly outside the window at {width}", browser.script(FIND_CONTROLS_OUTSIDE), [])
 
 
-# Describes the controls of the visible bars that are cut off or overlap.
+# In the visible bars, finds the controls that are cut off or overlap each other, and describes them.
 FIND_WRONG_CONTROLS = """
 const rows = [...document.querySelectorAll("#wave-bar, .editor > .bar, #wiring > .bar, #statusbar")].filter(isShown);
 return rows.flatMap((row) => {

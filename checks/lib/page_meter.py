@@ -1,7 +1,7 @@
 """Scripts that measure a page from outside without changing its own scripts."""
 
-# A script to insert before the page's own. For each real-time frame, it adds a pair to `frames`: the milliseconds of work on the main thread and in
-# the worker. A handler's work continues in promises, so the script waits for eight more promises before it stops the clock.
+# A script to insert before the page's own scripts. For each real-time frame, it adds a pair to `frames`: the milliseconds of work on the main thread
+# and in the worker. A handler's work continues in promises, so the script waits for eight more promises before it stops the clock.
 INSTALL_PAGE_METER = """
 window.frames = [];
 let workTime = 0;
@@ -28,7 +28,7 @@ Worker.prototype.addEventListener = function (kind, handler) {
 };"""
 GET_FRAMES = "return window.frames"
 
-# A script to insert before the worker's own. It adds to each reply the milliseconds since the request.
+# A script to insert before the worker's own script. It adds the milliseconds since the request to each reply.
 INSTALL_WORKER_METER = """
 let start = 0;
 addEventListener("message", () => { start = performance.now(); });
@@ -36,8 +36,8 @@ const post = postMessage.bind(self);
 self.postMessage = (message, transfer) => post({ ...message, requestTime: performance.now() - start }, transfer);
 """
 
-# A script to insert before the worker's own. At full speed, it reports to the page twice a second the fraction of the time that the worker has spent
-# in the module.
+# A script to insert before the worker's own script. At full speed, it reports twice a second to the page what fraction of the time the worker has
+# spent in the module.
 INSTALL_MODULE_METER = """
 (() => {
   const OriginalInstance = WebAssembly.Instance;
@@ -58,7 +58,7 @@ INSTALL_MODULE_METER = """
     return { exports: { ...exports, bench_serve_and_settle } };
   };
 })();"""
-# A script to insert before the page's own. It stores the fractions that INSTALL_MODULE_METER reports in `fractions`.
+# A script to insert before the page's own scripts. It stores the fractions that INSTALL_MODULE_METER reports in `fractions`.
 INSTALL_FRACTION_METER = """
 window.fractions = [];
 const listen = Worker.prototype.addEventListener;

@@ -7,7 +7,7 @@ import time
 from page_basics import GET_STATUS, choose_example, reopen_page, show_text, status_of, pause_running_time, wait_until_ready
 from verdicts import eventually, verdict
 
-GET_ROWS = "return [...document.querySelectorAll('#usual-list li .words')].map((node) => node.textContent)"
+GET_MISTAKE_ROWS = "return [...document.querySelectorAll('#usual-list li .words')].map((node) => node.textContent)"
 IS_PANEL_SHOWN = "return isShown(document.getElementById('usual'))"
 BOARD = """rom = [{ chip = 0, port = "0000" }, { chip = 1, port = "iiii" }]
 ram = [{ bank = 0, chips = 1 }]
@@ -31,14 +31,14 @@ def check(browser, page, _folder, _mcs4):
     choose_example(browser, "empty bench")
     status_of(browser, "#board-editor", BOARD)
     status_of(browser, "#program-editor", PROGRAM)
-    eventually(browser, "the mistake is reported with its line", GET_ROWS, [f"004 (keys + 4, line 4) {MISTAKE_MESSAGE}"])
+    eventually(browser, "the mistake is reported with its line", GET_MISTAKE_ROWS, [f"004 (keys + 4, line 4) {MISTAKE_MESSAGE}"])
     verdict("the tab counts the mistake", browser.text_of("#problems-tab .mark"), "1")
     verdict("the program is still running", browser.script(GET_STATUS), re.compile("^Running"))
     browser.click("#usual-list input")
     pause_running_time(browser)
     browser.click("#run")
     eventually(browser, "with the check box on, the program pauses before the mistake", GET_STATUS, "Paused at 004, before a mistake that is reported.")
-    verdict("the mistake is reported again", browser.script(GET_ROWS), [f"004 (keys + 4, line 4) {MISTAKE_MESSAGE}"])
+    verdict("the mistake is reported again", browser.script(GET_MISTAKE_ROWS), [f"004 (keys + 4, line 4) {MISTAKE_MESSAGE}"])
     browser.click("#run")
     eventually(browser, "the program continues, and pauses before the next mistake", GET_STATUS, re.compile("^Paused at 004"))
     browser.reload()
@@ -48,7 +48,7 @@ def check(browser, page, _folder, _mcs4):
     browser.click("#usual-list input")
     browser.click("#run")
     eventually(browser, "the program does not pause with the check box off", GET_STATUS, re.compile("^Running"))
-    eventually(browser, "the mistake is reported once in a run", GET_ROWS, [f"004 (keys + 4, line 4) {MISTAKE_MESSAGE}"])
+    eventually(browser, "the mistake is reported once in a run", GET_MISTAKE_ROWS, [f"004 (keys + 4, line 4) {MISTAKE_MESSAGE}"])
     time.sleep(0.5)
-    verdict("the number of reports after half a second", len(browser.script(GET_ROWS)), 1)
+    verdict("the number of reports after half a second", len(browser.script(GET_MISTAKE_ROWS)), 1)
     browser.click("#run")

@@ -20,7 +20,7 @@ GET_STACK = "return [...document.querySelectorAll('.stack button')].map((row) =>
 # The addresses in the disassembly.
 GET_ADDRESSES = "return [...document.querySelectorAll('#lines-of-program button:not([hidden])')].map((row) => row.textContent.match(/[0-9A-F]{3}/)[0])"
 # The breakpoint marks in the source's margin and in the disassembly.
-GET_MARKS = """
+GET_BREAKPOINT_MARKS = """
 const marks = [...document.querySelectorAll(".mark-breakpoints")].map((mark) => `${mark.textContent} ${mark.title}`);
 const rows = [...document.querySelectorAll("#lines-of-program button[aria-pressed='true']")].filter((row) => !row.hidden);
 return [marks.join(), rows.map((row) => row.querySelector("i").textContent).join()]"""
@@ -28,8 +28,8 @@ GET_LABELS = "return [...document.querySelectorAll('#lines-of-program .labels')]
 GET_BREAKPOINT_LINES = """
 return document.querySelector("#program-editor .cm-editor").lineEditor.marksIn("breakpoints").map((line) => line + 1).join(" ")"""
 
-# Executes a number of steps, which is the argument. Returns for each step the program counter, and the marked source line with its number, or `not seen` if
-# the line is out of view.
+# Executes a number of steps, which is the argument. For each step, returns the program counter, and the marked source line with its number. Returns
+# `not seen` in place of a line that is out of view.
 STEP_THROUGH = """
 // Omits the values that the page shows after a line, which are not a part of the line.
 const textOf = (line) => {
@@ -98,10 +98,10 @@ def read_listing(mcs4):
     """Reads the output of `mcs4 listing`. Returns two dictionaries: the number and text of the source line that begins at each address, and the
     value of each name."""
     listing = listing_of(mcs4).splitlines()
-    # Continuation rows of a line have no text.
+    # If a source line has several rows, only its first row has text.
     rows = [row for row in listing if row[17:] or not re.match("[0-9A-F]{3} ", row)]
-    lines = {row[:3]: (number, row[17:]) for number, row in enumerate(rows, 1) if re.match("[0-9A-F]{3} [0-9A-F]{2}", row)}
-    return lines, dict(line.split() for line in listing_of(mcs4, "--names").splitlines())
+    lines_by_address = {row[:3]: (number, row[17:]) for number, row in enumerate(rows, 1) if re.match("[0-9A-F]{3} [0-9A-F]{2}", row)}
+    return lines_by_address, dict(line.split() for line in listing_of(mcs4, "--names").splitlines())
 
 
 def with_single_spaces(text):
@@ -139,9 +139,9 @@ def check_breakpoint_at_name(browser, source, values, lines):
     eventually(browser, "a breakpoint that is set at a name is in the source's margin", GET_BREAKPOINT_LINES, str(line))
     browser.click("#run")
     eventually(browser, "the program stops at the name", GET_STATUS, f"Paused at {values['scan']}, at a breakpoint.")
-    call = next(number for number, text in enumerate(lines, 1) if "JMS scan" in text.expandtabs(1))
+    call_line = next(number for number, text in enumerate(lines, 1) if "JMS scan" in text.expandtabs(1))
     eventually(browser, "the counter and the return addresses are shown with names", GET_STACK, re.compile(
-        rf"^\['pc {values['scan']} scan, line {line}', 'ret 1 {int(values['await'], 16) + 2:03X} await \+ 2, call in line {call}', "
+        rf"^\['pc {values['scan']} scan, line {line}', 'ret 1 {int(values['await'], 16) + 2:03X} await \+ 2, call in line {call_line}', "
         r"'ret 2 ... stale', 'ret 3 ... stale'\]$"))
     browser.click("#break-there")
     eventually(browser, "the same button clears the breakpoint", GET_BREAKPOINT_LINES, "")
@@ -150,13 +150,13 @@ def check_breakpoint_at_name(browser, source, values, lines):
 def check_margin_clicks(browser, source, values):
     """Checks that clicks in the source's margin set and clear breakpoints. At a line without bytes, the breakpoint must move to the next
     instruction."""
-    show_line = source[values["show"]][0]
-    browser.script(CLICK_MARGIN, show_line)
-    eventually(browser, "a click in the margin sets a breakpoint", GET_BREAKPOINT_LINES, str(show_line))
+    line_of_show = source[values["show"]][0]
+    browser.script(CLICK_MARGIN, line_of_show)
+    eventually(browser, "a click in the margin sets a breakpoint", GET_BREAKPOINT_LINES, str(line_of_show))
     browser.click("#reset")
     browser.click("#run")
     eventually(browser, "the program stops at the breakpoint's line", GET_STATUS, f"Paused at {values['show']}, at a breakpoint.")
-    browser.script(CLICK_MARGIN, show_line)
+    browser.script(CLICK_MARGIN, line_of_show)
     eventually(browser, "another click clears the breakpoint", GET_BREAKPOINT_LINES, "")
     browser.script(CLICK_MARGIN, 1)
     eventually(browser, "a breakpoint at a line without bytes moves to the next instruction, with a message", GET_POPUP,
@@ -176,7 +176,7 @@ def check_breakpoint_inside_instruction(browser, source, values, lines):
     send_lines(browser, f"break 0x{second_address}")
     browser.script(SHOW_MARGIN, call)
     eventually(browser, "a breakpoint inside an instruction moves to the next instruction", GET_BREAKPOINT_LINES, str(source[next_address][0]))
-    eventually(browser, "the mark of the breakpoint in the source and in the disassembly", GET_MARKS, ["\u25cf breakpoint", "\u25cf"])
+    eventually(browser, "the mark of the breakpoint in the source and in the disassembly", GET_BREAKPOINT_MARKS, ["\u25cf breakpoint", "\u25cf"])
     verdict("the address of the breakpoint in the bench", send_lines(browser, "breaks"), re.compile(f"breaks {next_address}$"))
     browser.script(CLICK_MARGIN, source[next_address][0])
     eventually(browser, "a click in the margin clears the breakpoint", GET_BREAKPOINT_LINES, "")

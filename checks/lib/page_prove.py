@@ -9,7 +9,7 @@ import subprocess
 import time
 
 from page_commands import press_chord
-from page_explore import GET_MARK, GET_PROPERTIES_STATUS, set_text, text_of_tab
+from page_explore import GET_TAB_MARK, GET_PROPERTIES_STATUS, set_text, text_of_tab
 from page_basics import GET_NOTICE, GET_STATUS, TOP, choose_example, send_lines, reopen_page, show_text
 from page_layout import MEASURE_OVERFLOW, set_size
 from page_texts import GET_NAME
@@ -18,8 +18,8 @@ from web_driver import Chromium
 
 GET_BUTTON_LABEL = "return document.getElementById('prove').textContent"
 GET_PROGRESS = "return document.getElementById('proof-progress').textContent.trim()"
-GET_BAR = "const bar = document.querySelector('#proof-progress progress'); return [bar.value, bar.max]"
-GET_ROWS = """return [...document.querySelectorAll('#proof-list > li')].map((node) => [...node.querySelector('p').children]
+GET_PROGRESS_BAR = "const bar = document.querySelector('#proof-progress progress'); return [bar.value, bar.max]"
+GET_PROOF_ROWS = """return [...document.querySelectorAll('#proof-list > li')].map((node) => [...node.querySelector('p').children]
   .map((child) => child.textContent).filter(Boolean).join(' | '))"""
 COUNT_LAMPS_ON = "return document.querySelectorAll('.bulb.lit').length"
 COUNT_LIT_ROWS = "return [...document.querySelectorAll('#proof-list .lit')].length"
@@ -53,10 +53,10 @@ def prove_to_end(browser, description, states=1000000):
 def prove_with_tool(browser, folder, mcs4):
     """Runs `mcs4 prove` with the page's texts. Returns the description and the number of states of each proved property, and then of each kind of
     mistake."""
-    names = [("board", "board.toml"), ("program", "program.asm"), ("properties", "some.props")]
-    for name, file in names:
+    tab_files = [("board", "board.toml"), ("program", "program.asm"), ("properties", "some.props")]
+    for name, file in tab_files:
         (folder / file).write_text(text_of_tab(browser, name))
-    command = ["./mcs4", "prove", *(folder / file for _, file in names)]
+    command = ["./mcs4", "prove", *(folder / file for _, file in tab_files)]
     result = subprocess.run(command, cwd=TOP, env=dict(os.environ, MCS4=str(mcs4)), stdout=subprocess.PIPE, text=True, check=False)
     return re.findall(r"^ok \d+ - (.*) # proved for all inputs \((.*)\)$", result.stdout, re.M)
 
@@ -73,13 +73,13 @@ def check_example(browser, folder, mcs4):
     eventually(browser, "the button has the label Cancel during the proof", GET_BUTTON_LABEL, "Cancel")
     progress = f"Property 1 of {len(results_of_tool)}: more than 10,000 states so far"
     eventually(browser, "the progress reports the number of states", GET_PROGRESS, progress, MAX_SECONDS)
-    verdict("the progress bar", browser.script(GET_BAR), [10000, 1000000])
+    verdict("the progress bar", browser.script(GET_PROGRESS_BAR), [10000, 1000000])
     eventually(browser, "the proof ends", GET_BUTTON_LABEL, "Prove", MAX_SECONDS)
-    verdict("each property is proved, with the number of states of mcs4 prove", browser.script(GET_ROWS),
+    verdict("each property is proved, with the number of states of mcs4 prove", browser.script(GET_PROOF_ROWS),
             [f"proved | {text} | for all inputs: {states}" for text, states in results_of_tool])
     verdict("the number of marked rows", browser.script(COUNT_LIT_ROWS), len(results_of_tool))
     verdict("the status counts the proved properties", browser.script(GET_PROPERTIES_STATUS), f"{len(results_of_tool)} proved.")
-    verdict("the tab counts the proved properties", browser.script(GET_MARK), f"{len(results_of_tool)} proved")
+    verdict("the tab counts the proved properties", browser.script(GET_TAB_MARK), f"{len(results_of_tool)} proved")
 
 
 def check_marks_after_edits(browser):
@@ -89,15 +89,15 @@ def check_marks_after_edits(browser):
         text = text_of_tab(browser, name)
         set_text(browser, name, f"{text}{comment_sign} another one\n")
         eventually(browser, f"an edit of the {name} removes the marks", COUNT_LIT_ROWS, 0)
-        verdict("the rows report the reason", {row.split(" | ")[-1] for row in browser.script(GET_ROWS)}, {CHANGED_NOTE})
-        verdict("the tab shows nothing", browser.script(GET_MARK), "")
+        verdict("the rows report the reason", {row.split(" | ")[-1] for row in browser.script(GET_PROOF_ROWS)}, {CHANGED_NOTE})
+        verdict("the tab shows nothing", browser.script(GET_TAB_MARK), "")
         set_text(browser, name, text)
         eventually(browser, "undoing the edit restores the marks", COUNT_LIT_ROWS, count)
     properties = text_of_tab(browser, "properties")
-    first_property, second_property = [row.split(" | ")[1] for row in browser.script(GET_ROWS)][:2]
+    first_property, second_property = [row.split(" | ")[1] for row in browser.script(GET_PROOF_ROWS)][:2]
     set_text(browser, "properties", f"# one more\nnever r0 = 1 and r0 = 2\n{properties.replace(first_property, first_property.replace('9', '8'))}")
     eventually(browser, "an edited property loses its mark, and the others keep theirs", COUNT_LIT_ROWS, count - 1)
-    verdict("the next property keeps its verdict", [row.split(" | ")[0] for row in browser.script(GET_ROWS)][:2], [first_property, "proved"])
+    verdict("the next property keeps its verdict", [row.split(" | ")[0] for row in browser.script(GET_PROOF_ROWS)][:2], [first_property, "proved"])
     browser.click("#proof-list li:nth-of-type(2) .name")
     verdict("a click on a property selects its line", browser.script("""
 const editor = document.querySelector('#properties-editor .cm-editor').lineEditor;
@@ -140,7 +140,7 @@ def check_all_verdicts(browser):
         "lamp lit on only after press WALK\n")
     prove_to_end(browser, "the proof of all kinds of properties ends")
     verdict("the status counts the verdicts", browser.script(GET_PROPERTIES_STATUS), f"{2 + MISTAKE_COUNT} proved, 1 can fail, 1 reached, 1 never reached, 1 not decided.")
-    rows = browser.script(GET_ROWS)
+    rows = browser.script(GET_PROOF_ROWS)
     verdict("the verdicts on the properties", rows[:5], [
         "proved | never lamp 1 on | for all inputs: 32 states", "can fail | never lamp lit on | broken by 1 step, 4 cycles",
         "reached | reach lamp lit on | reached by 1 step, 4 cycles", "never reached | reach lamp 1 on | for all inputs: 32 states",
@@ -154,7 +154,7 @@ def check_all_verdicts(browser):
     browser.click("#kept button[aria-label='open empty bench']")
     eventually(browser, "the old session still has its verdicts", COUNT_LIT_ROWS, 2 + MISTAKE_COUNT)
     prove_to_end(browser, "the proof with at most 20 states ends", 20)
-    verdict("too few states decide nothing", browser.script(GET_ROWS), re.compile("'not decided . never lamp 1 on . more than 20 states; enter a larger number"))
+    verdict("too few states decide nothing", browser.script(GET_PROOF_ROWS), re.compile("'not decided . never lamp 1 on . more than 20 states; enter a larger number"))
     browser.click("#clear-finds")
     verdict("Clear removes the results", browser.script("return isShown(document.getElementById('proof-results'))"), False)
 
@@ -173,7 +173,7 @@ def check_input_errors(browser):
     set_text(browser, "program", "        JUN 256\n")
     prove_to_end(browser, "the proof for a program with a mistake ends")
     verdict("the status reports the mistake", browser.script(GET_PROPERTIES_STATUS), f"{MISTAKE_COUNT - 1} proved, 1 can fail.")
-    verdict("the only row that is not proved", [row for row in browser.script(GET_ROWS) if not row.startswith("proved")], ["can fail | no ROM that is absent | broken by 0 steps, 2 cycles"])
+    verdict("the only row that is not proved", [row for row in browser.script(GET_PROOF_ROWS) if not row.startswith("proved")], ["can fail | no ROM that is absent | broken by 0 steps, 2 cycles"])
 
 
 def check_cancelling(browser):

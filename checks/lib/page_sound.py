@@ -52,17 +52,17 @@ COUNT_PLAYED = "return window.played.length"
 MIN_LEAD_SECONDS, MAX_RETRIES = 0.08, 5
 
 
-def is_first_block_early(browser, block):
+def is_first_block_early(browser, first_block):
     """Returns true if the first block arrives early enough. Makes several attempts, because other work on the machine can delay the page."""
     for _ in range(MAX_RETRIES):
-        if block["when"] - block["now"] > MIN_LEAD_SECONDS:
+        if first_block["when"] - first_block["now"] > MIN_LEAD_SECONDS:
             return True
         browser.click("#sound-button")
         browser.script("window.played = []")
         browser.click("#sound-button")
         browser.wait_until(COUNT_PLAYED, re.compile("^[1-9]"))
-        block = browser.script("return window.played[0]")
-    return block["when"] - block["now"] > MIN_LEAD_SECONDS
+        first_block = browser.script("return window.played[0]")
+    return first_block["when"] - first_block["now"] > MIN_LEAD_SECONDS
 
 
 def check_tone(browser):

@@ -11,7 +11,7 @@ from verdicts import eventually, verdict
 from web_driver import Chromium
 
 STORY_NAME = "printing%20calculator"
-GET_TITLE = "return document.getElementById('tour').hidden ? '-' : document.getElementById('tour-title').textContent"
+GET_STEP_TITLE = "return document.getElementById('tour').hidden ? '-' : document.getElementById('tour-title').textContent"
 GET_TOUR_STATUS = "return document.getElementById('tour-status').textContent"
 GET_SESSION_NAME = "return document.getElementById('name').value"
 GET_TAB = "return document.querySelector('#text-tabs [aria-selected=true]').textContent"
@@ -41,12 +41,12 @@ def click_link(browser, label, wait_seconds=0.2):
 def next_step(browser, title):
     """Opens the next step of the story, and checks its title."""
     browser.click("#tour-next")
-    eventually(browser, f"the next step is {title}", GET_TITLE, re.compile(f"^[1-6] of 6: {title}$"))
+    eventually(browser, f"the next step is {title}", GET_STEP_TITLE, re.compile(f"^[1-6] of 6: {title}$"))
 
 
 def check_sum_step(browser):
     """Checks that the story opens its example at the first step, and that the links of this step press the keys of a sum."""
-    eventually(browser, "the story opens at its first step", GET_TITLE, "1 of 6: A sum")
+    eventually(browser, "the story opens at its first step", GET_STEP_TITLE, "1 of 6: A sum")
     verdict("the story opens its example", browser.script(GET_SESSION_NAME), "printing calculator")
     for label in ("1", "2", "+", "3", "0", "="):
         click_link(browser, label)
@@ -149,7 +149,7 @@ def check_last_step(browser):
     """Checks that Enter opens the last step and follows its links, and that a link to a label that the program lacks is reported."""
     browser.script("document.getElementById('tour-next').focus()")
     browser.type_keys([ENTER])
-    eventually(browser, "Enter opens the last step", GET_TITLE, "6 of 6: Further")
+    eventually(browser, "Enter opens the last step", GET_STEP_TITLE, "6 of 6: Further")
     for label, query in (("Release =", GET_KEYS_DOWN), ("tests", GET_TAB), ("Waves", GET_DOCK_TAB), ("Source", GET_TAB)):
         browser.script(FOCUS_LINK, browser.script(GET_LINKS).index(label))
         browser.type_keys([ENTER])
@@ -168,10 +168,10 @@ def check_leaving(browser):
     """Checks that a reload opens the story at its first step, and that Leave closes it."""
     browser.reload()
     wait_until_ready(browser)
-    eventually(browser, "a reload opens the story at its first step", GET_TITLE, "1 of 6: A sum")
+    eventually(browser, "a reload opens the story at its first step", GET_STEP_TITLE, "1 of 6: A sum")
     verdict("the address still names the session", browser.script("return location.hash"), re.compile("^#session="))
     browser.click("#tour-close")
-    verdict("Leave closes the story", browser.script(GET_TITLE), "-")
+    verdict("Leave closes the story", browser.script(GET_STEP_TITLE), "-")
 
 
 def check_other_sessions(browser, page):
@@ -183,11 +183,11 @@ def check_other_sessions(browser, page):
     browser.click("#sessions-button")
     browser.wait_until("return document.getElementById('sessions').open", True)
     browser.click("#examples button[aria-label='new session with its story: printing calculator']")
-    eventually(browser, "the list of examples opens the story", GET_TITLE, "1 of 6: A sum")
+    eventually(browser, "the list of examples opens the story", GET_STEP_TITLE, "1 of 6: A sum")
     page_in_window_script = "return document.documentElement.scrollWidth <= innerWidth"
     verdict("the page is not wider than the window", browser.script(page_in_window_script), True)
     choose_example(browser, "traffic light")
-    eventually(browser, "another session has no story", GET_TITLE, "-")
+    eventually(browser, "another session has no story", GET_STEP_TITLE, "-")
 
 
 def check(browser, page, _folder, _mcs4):

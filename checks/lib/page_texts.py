@@ -22,9 +22,9 @@ document.body.dispatchEvent(event);
 return event.defaultPrevented"""
 GET_TEXTS = "return ['board', 'program'].map((name) => document.querySelector(`#${name}-editor .cm-editor`).lineEditor.getValue())"
 GET_PROGRAM_TEXT = "return document.querySelector('#program-editor .cm-editor').lineEditor.getValue()"
-GET_LINES = "return document.getElementById('lines').value"
+GET_CONSOLE_FIELD = "return document.getElementById('lines').value"
 GET_QUESTION = "return document.getElementById('ask').open ? document.getElementById('ask-title').textContent : ''"
-COUNT_SAVED = "return document.querySelectorAll('#kept li').length"
+COUNT_LISTED_SESSIONS = "return document.querySelectorAll('#kept li').length"
 UNDO_BUTTON = "#notice button:not(.dismiss)"
 
 # A board and a program with comments, names and non-ASCII letters, which are lost unless the page saves the texts themselves.
@@ -133,7 +133,7 @@ def count_saved_sessions(browser):
     """Returns the number of sessions in the dialog, and leaves the dialog open."""
     browser.click("#sessions-button")
     browser.wait_until("return document.getElementById('sessions').open", True)
-    return browser.script(COUNT_SAVED)
+    return browser.script(COUNT_LISTED_SESSIONS)
 
 
 def check_example_saved_later(browser):
@@ -152,12 +152,12 @@ def check_example_saved_later(browser):
     rename_session(browser, "my die")
     verdict("the title of the browser tab has the new name", browser.script("return document.title"), "my die - Fethsaim")
     choose_example(browser, "lamps")
-    verdict("the example's lines are in the console's field", browser.script(GET_LINES) != "", True)
+    verdict("the example's lines are in the console's field", browser.script(GET_CONSOLE_FIELD) != "", True)
     choose_example(browser, "die")
-    verdict("another example removes these lines", browser.script(GET_LINES), "")
+    verdict("another example removes these lines", browser.script(GET_CONSOLE_FIELD), "")
     browser.script("document.getElementById('lines').value = 'poke r5 9'")
     choose_example(browser, "traffic light")
-    verdict("another example keeps typed lines", browser.script(GET_LINES), "poke r5 9")
+    verdict("another example keeps typed lines", browser.script(GET_CONSOLE_FIELD), "poke r5 9")
     browser.script("document.getElementById('lines').value = ''")
     return count_before + 1
 
@@ -167,15 +167,15 @@ def check_deleting(browser, count):
     verdict("the number of saved sessions after more examples were opened", count_saved_sessions(browser), count)
     browser.click("#choose-all")
     browser.click("#delete-chosen")
-    eventually(browser, "all chosen sessions are deleted", COUNT_SAVED, 0)
+    eventually(browser, "all chosen sessions are deleted", COUNT_LISTED_SESSIONS, 0)
     verdict("the focus stays in the dialog", browser.script("return document.activeElement.closest('#sessions') !== null"), True)
     browser.click(UNDO_BUTTON)
-    eventually(browser, "Undo restores the sessions", COUNT_SAVED, count)
+    eventually(browser, "Undo restores the sessions", COUNT_LISTED_SESSIONS, count)
     browser.click("#kept li button[aria-label^='delete']")
-    eventually(browser, "the number of sessions after one was deleted", COUNT_SAVED, count - 1)
+    eventually(browser, "the number of sessions after one was deleted", COUNT_LISTED_SESSIONS, count - 1)
     browser.click("#notice .dismiss")
     browser.click("#deleted button")
-    eventually(browser, "the list of deleted sessions restores the session", COUNT_SAVED, count)
+    eventually(browser, "the list of deleted sessions restores the session", COUNT_LISTED_SESSIONS, count)
     browser.click("#close-sessions")
 
 
@@ -205,8 +205,8 @@ def check_notices(browser, folder):
 
 
 def check_many_notices(browser, folder):
-    """Checks that each file causes one notice and that the newest three are visible. They disappear automatically, and the list can show and undo
-    them."""
+    """Checks that each file causes one notice and that the newest three notices are visible. Notices disappear automatically, and the list of notices
+    can show and undo them."""
     notices = [f"{number}.asm is in Source. Assemble and run puts it into ROM." for number in range(4)]
     for number in range(4):
         text = folder / f"{number}.asm"
@@ -231,7 +231,8 @@ def open_link(browser, page, link):
 
 
 def check_link(browser, page):
-    """Checks that a link contains the name and the texts, that a preview appears before it is opened, and that an incomplete link is rejected."""
+    """Checks that a link contains a session's name and texts, that a preview appears before a linked session is opened, and that an incomplete link
+    is rejected."""
     status_of(browser, "#board-editor", BOARD)
     status_of(browser, "#program-editor", PROGRAM)
     rename_session(browser, "my light")
@@ -374,8 +375,8 @@ def check_opened_and_exported_files(browser, folder, mcs4):
     choose_from_file_menu(browser, "#save-session-button")
     session = wait_for_download(folder, "my light.mcs")
     rom, size = [TOP / "mcs4", "rom"], str(len(image))
-    questions = subprocess.run([*rom, "ask", "0", size], stdout=subprocess.PIPE, check=True, text=True).stdout
-    answers = answers_in_copy(mcs4, session, questions)
+    rom_queries = subprocess.run([*rom, "ask", "0", size], stdout=subprocess.PIPE, check=True, text=True).stdout
+    answers = answers_in_copy(mcs4, session, rom_queries)
     for arguments, suffix, expected in ((["save"], ".bin", image), (["save", "--hex"], ".hex", None)):
         expected_file = subprocess.run([*rom, *arguments, "0", size], input=answers.encode(), stdout=subprocess.PIPE, check=True).stdout
         verdict(f"the exported {suffix} file is the output of mcs4 rom", expected or export_file(browser, folder, suffix), expected_file)
@@ -389,9 +390,9 @@ def check_rom_image(browser, folder, image):
     browser.type_into("#file", str(changed_image))
     eventually(browser, "an image is loaded into ROM", GET_NOTICE, re.compile(f"^{len(image):,} bytes of other.bin are in ROM, from 000; nothing was reset\\."))
     verdict("the exported ROM is the image", export_file(browser, folder, ".bin"), changed_image.read_bytes())
-    large = folder / "large.hex"
-    large.write_text(":010F0000D11F\n:00000001FF\n")
-    browser.type_into("#file", str(large))
+    large_file = folder / "large.hex"
+    large_file.write_text(":010F0000D11F\n:00000001FF\n")
+    browser.type_into("#file", str(large_file))
     eventually(browser, "an image for a missing ROM chip is rejected with a message", GET_NOTICE, re.compile("^Cannot open large.hex: the board has no ROM 15"))
     browser.script("for (const each of document.querySelectorAll('#notice .dismiss')) each.click()")
 

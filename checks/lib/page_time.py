@@ -6,11 +6,11 @@ import pathlib
 import re
 import subprocess
 
-from page_basics import GET_DIGITS, GET_RATE, GET_STATUS, SET_SPEED, STEPPED, choose_example, key, send_lines, pause_running_time, wait_until_ready
+from page_basics import GET_DIGITS, GET_RATE, GET_STATUS, SET_SPEED, STEPPED_MESSAGE, choose_example, key, send_lines, pause_running_time, wait_until_ready
 from verdicts import eventually, verdict
 
 TOP = pathlib.Path(__file__).resolve().parent.parent.parent
-GET_MARKED = "return document.querySelector('#cycles span:last-child').textContent"
+GET_CYCLES_BETWEEN_MARKS = "return document.querySelector('#cycles span:last-child').textContent"
 GET_CYCLES_SINCE_STOP = "return document.querySelector('#cycles span:nth-child(2) b').textContent"
 GET_CYCLES_SINCE_RESET = "return document.querySelector('#cycles span:first-child b').textContent"
 CHANGE_FIELD = """
@@ -39,10 +39,10 @@ class Program:
         self.mcs4 = mcs4
         self.environment = dict(os.environ, MCS4=str(mcs4))
 
-    def tool(self, name, *arguments, lines=""):
+    def run_tool(self, name, *arguments, lines=""):
         """Returns the output of a tool of mcs4 with `lines` as its input."""
-        tool = [TOP / "mcs4", name, *map(str, arguments)]
-        return subprocess.run(tool, input=lines, stdout=subprocess.PIPE, text=True, check=True, env=self.environment).stdout
+        run_tool = [TOP / "mcs4", name, *map(str, arguments)]
+        return subprocess.run(run_tool, input=lines, stdout=subprocess.PIPE, text=True, check=True, env=self.environment).stdout
 
     def session(self, name, lines):
         """Creates a new session and serves lines in it. Returns its file and the answers."""
@@ -53,7 +53,7 @@ class Program:
     def cycles(self, answers):
         """Returns the number of cycles of the last run in these answers, as `mcs4 cycles` counts it."""
         line = len(answers.splitlines())
-        return int(self.tool("cycles", line, line, lines=answers).split(" ")[0])
+        return int(self.run_tool("cycles", line, line, lines=answers).split(" ")[0])
 
 
 def setup_lines_of(name):
@@ -64,10 +64,10 @@ def setup_lines_of(name):
 
 
 def first_call(program, name):
-    """Finds the first JMS that an example executes. Returns the cycles before the JMS, the cycles until its subroutine returns, its address, and its
-    return address."""
+    """Finds the first JMS that an example executes. Returns the number of cycles before the JMS, the number of cycles until the called subroutine
+    returns, the address of the JMS, and the return address."""
     file, _ = program.session(name, setup_lines_of(name))
-    lines = [line for line in program.tool("trace", file, 3000).splitlines() if re.match(r" *\d+  [0-9A-F]{3} ", line)]
+    lines = [line for line in program.run_tool("trace", file, 3000).splitlines() if re.match(r" *\d+  [0-9A-F]{3} ", line)]
     index = next(index for index, line in enumerate(lines) if " JMS " in line)
     cycles, address = lines[index].split()[:2]
     return_address = f"{int(address, 16) + 2:03X}"
@@ -125,7 +125,7 @@ def check_step_over(browser, program, name, example):
 def step_into_and_out(browser):
     """Steps into a subroutine with F11, and out of it with Shift+F11."""
     browser.script(PRESS_KEY, "F11", False)
-    browser.wait_until(GET_STATUS, STEPPED)
+    browser.wait_until(GET_STATUS, STEPPED_MESSAGE)
     browser.script(PRESS_KEY, "F11", True)
 
 
@@ -160,7 +160,7 @@ def check_many_steps(browser, program):
     """Checks that a step of several instructions takes the number of cycles that the trace shows, and that an invalid number of instructions is
     rejected."""
     file, _ = program.session("many", setup_lines_of("three_lamps"))
-    lines = [line for line in program.tool("trace", file, 400).splitlines() if re.match(r" *\d+  [0-9A-F]{3} ", line)]
+    lines = [line for line in program.run_tool("trace", file, 400).splitlines() if re.match(r" *\d+  [0-9A-F]{3} ", line)]
     open_paused_example(browser, "three lamps")
     browser.script(CHANGE_FIELD, "#step-count", "50")
     browser.click("#step-many")
@@ -197,8 +197,8 @@ def check_delay(browser):
 
 
 def check_stopwatch(browser):
-    """Checks that a hundredth of a second of the stopwatch is 926 cycles, measured between two marks. Also checks going back to a change of the
-    lamps, and the message about an unknown name."""
+    """Checks that a hundredth of a second on the stopwatch takes 926 cycles, measured between two marks. Also checks that the user can go back to a
+    change of the lamps, and that an unknown name is reported."""
     open_paused_example(browser, "stopwatch")
     send_lines(browser, "test 0")
     browser.script(CHANGE_FIELD, "#change-place", "lamps")
@@ -207,13 +207,13 @@ def check_stopwatch(browser):
         browser.click("#until-change")
         browser.wait_until(GET_STATUS, re.compile("after lamps changed, after"))
         browser.click("#mark")
-    verdict("the cycles between two changes of the lamps", browser.script(GET_MARKED), re.compile(r"Between the marks 926 cycles, 10\.001 ms$"))
+    verdict("the cycles between two changes of the lamps", browser.script(GET_CYCLES_BETWEEN_MARKS), re.compile(r"Between the marks 926 cycles, 10\.001 ms$"))
     lamps = send_lines(browser, "lamps")
     browser.click("#back-change")
     eventually(browser, "going back to the change of the lamps", GET_STATUS, re.compile("^Back at ..., 1 cycle, 0.011 ms earlier: this instruction changes lamps"))
     verdict("the lamps have not changed yet", send_lines(browser, "lamps") != lamps, True)
     browser.click("#step")
-    browser.wait_until(GET_STATUS, STEPPED)
+    browser.wait_until(GET_STATUS, STEPPED_MESSAGE)
     verdict("the next step changes the lamps", send_lines(browser, "lamps"), lamps)
     browser.script(CHANGE_FIELD, "#change-place", "chain2.0")
     browser.click("#until-change")
@@ -224,8 +224,8 @@ def check_stopwatch(browser):
 
 
 def check_going_back(browser):
-    """Checks that going back past key presses and forward again leads to the same answers and the same saved file. After a new command, going forward
-    must no longer be possible."""
+    """Checks that the user can go back past key presses and forward again, with the same answers and the same saved file afterwards. After a new
+    command, going forward must no longer be possible."""
     open_paused_example(browser, "calculator")
     browser.click("#run")
     for legend in "12":

@@ -136,10 +136,10 @@ def check_invalid_numbers(browser):
     show_text(browser, "program")
 
 
-CLICK_MANY = """
+CLICK_REPEATEDLY = """
 for (let turn = 0; turn < 40; turn++) for (const id of arguments[0]) document.getElementById(id).click()"""
 CLICK_EXAMPLES = "for (const each of [...document.querySelectorAll('#examples .card, #examples button')].slice(0, 12)) each.click()"
-IS_SAME_SESSION = """
+IS_SESSION_SHOWN = """
 return document.getElementById("name").value !== "" && document.title.startsWith(document.getElementById("name").value)
   && document.getElementById("status").textContent !== "" """
 
@@ -147,12 +147,12 @@ return document.getElementById("name").value !== "" && document.title.startsWith
 def check_many_clicks(browser):
     """Checks that the bench still answers after 240 clicks on its buttons, and after twelve examples were opened at once."""
     choose_example(browser, "calculator")
-    browser.script(CLICK_MANY, ["run", "step", "reset", "back-stop", "forward", "test"])
+    browser.script(CLICK_REPEATEDLY, ["run", "step", "reset", "back-stop", "forward", "test"])
     check_bench_answers(browser, "240 clicks in one go")
     browser.click("#sessions-button")
     browser.script(CLICK_EXAMPLES)
     browser.script("document.getElementById('sessions').close()")
-    eventually(browser, "one of twelve examples that were opened at once is shown", IS_SAME_SESSION, True)
+    eventually(browser, "one of twelve examples that were opened at once is shown", IS_SESSION_SHOWN, True)
     check_bench_answers(browser, "twelve examples at once")
 
 

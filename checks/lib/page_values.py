@@ -27,7 +27,7 @@ sum:    RDM
         BBL 0
 """
 LINES = PROGRAM.split("\n")
-GET_TIP = "const tip = document.querySelector('.value-tip:not(#change-tip)'); return tip.hidden ? '' : tip.textContent"
+GET_VALUE_TIP = "const tip = document.querySelector('.value-tip:not(#change-tip)'); return tip.hidden ? '' : tip.textContent"
 SET_CARET = """
 const editor = document.querySelector("#program-editor .cm-editor").lineEditor;
 editor.focus();
@@ -54,7 +54,7 @@ def point_until_shown(browser, line, word, query, expected):
             return
 
 
-def run_to_add(browser):
+def run_to_add_instruction(browser):
     """Runs the program to ADD, the instruction after RDM. R5 is then 1, and the nibble that the program writes is 7. Also checks words that the page
     shows in the new session."""
     browser.script("document.getElementById('change-place').value = 'nonsense'")
@@ -83,10 +83,10 @@ def check_values_at_pointer(browser):
             ("FIM P0", "digit", re.compile(r"^digit = 0x12, 18, 0001 0010; sent by SRC, it selects ROM 1; bank 0, chip 0, register 1, char")),
             ("JUN turn", "turn", "turn: address 0x002, line 3"),
             ("LDM 7", "7", "7 = 0x7, 0111")):
-        point_until_shown(browser, line_of(text), word, GET_TIP, expected)
-        eventually(browser, f"the value of {word} at the pointer", GET_TIP, expected)
+        point_until_shown(browser, line_of(text), word, GET_VALUE_TIP, expected)
+        eventually(browser, f"the value of {word} at the pointer", GET_VALUE_TIP, expected)
     point_at(browser, line_of("INC R5"), "INC")
-    eventually(browser, "an instruction without further operands has no value", GET_TIP, "")
+    eventually(browser, "an instruction without further operands has no value", GET_VALUE_TIP, "")
 
 
 def check_edited_value(browser):
@@ -202,7 +202,7 @@ def check_heat_map(browser):
 
 def check(browser, page, _folder, _mcs4):
     reopen_page(browser, page)
-    run_to_add(browser)
+    run_to_add_instruction(browser)
     check_values_at_pointer(browser)
     check_edited_value(browser)
     check_watched_values(browser)

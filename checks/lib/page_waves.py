@@ -17,10 +17,10 @@ GET_SCOPE_STATUS = "return document.getElementById('scope-status').textContent"
 GET_CURSOR_DISTANCE = "return document.getElementById('wave-between').textContent"
 GET_FIRST_CYCLE = "return document.getElementById('wave-first').textContent"
 GET_SPOKEN_VALUE = "return document.getElementById('wave-canvas').getAttribute('aria-valuetext')"
-GET_NAMES = "return [...document.querySelectorAll('#wave-table th')].map((node) => node.textContent).join(' ')"
+GET_ROW_NAMES = "return [...document.querySelectorAll('#wave-table th')].map((node) => node.textContent).join(' ')"
 LEFT, RIGHT, DOWN, HOME, END, ENTER = "\ue012", "\ue014", "\ue015", "\ue011", "\ue010", "\ue007"
 
-# Selects only the lines whose names are in the argument.
+# Selects the I/O lines whose names are in the argument, and no others, for the recording.
 CHOOSE_LINES = """
 document.getElementById("wave-choice").open = true;
 document.getElementById("wave-choice").dispatchEvent(new Event("toggle"));
@@ -85,7 +85,7 @@ def check_stopwatch(browser):
     verdict("the status after a recording", record(browser, 30000), "30,000 cycles recorded, 324.000 ms.")
     verdict("the program is paused after the recording", browser.text_of("#run"), "Continue")
     browser.script(CHOOSE_LINES, ["lamp15"])
-    eventually(browser, "the selected line", GET_NAMES, "lamp15")
+    eventually(browser, "the selected line", GET_ROW_NAMES, "lamp15")
     browser.script(FOCUS_CANVAS)
     browser.type_keys(["n", "n", "b", HOME, "n"], 1, 1)
     eventually(browser, "the distance of two edges", GET_CURSOR_DISTANCE, "A to B: 926 cycles, 10.001 ms")
@@ -141,7 +141,7 @@ def check_saved_recording(browser, folder, mcs4):
     session.write_bytes(save_file(browser, folder, "#save-session-button", "calculator.mcs"))
     board, program = TOP / "examples/calculator/board.toml", TOP / "examples/calculator/calculator.asm"
     verdict("the status after recording the calculator", record(browser, 3000), re.compile("^3,000 cycles recorded"))
-    verdict("the lines that are selected by default", browser.script(GET_NAMES),
+    verdict("the lines that are selected by default", browser.script(GET_ROW_NAMES),
             re.compile(r"^rom0\.0 rom0\.1 chain0\.0 .*shift\.chain0 .*scan\.keys pc label$"))
     browser.script(CHOOSE_LINES, ["acc", "cy", "r5", "p2", "dcl", "src"])
     for name in ("ram 0 0x12", "st 0 1 2"):
@@ -152,7 +152,7 @@ def check_saved_recording(browser, folder, mcs4):
                "acc, cy, r5 .. are recorded from the next recording on.")
     verdict("the status after recording with values", record(browser, 3000), re.compile("^3,000 cycles recorded"))
     browser.script("document.getElementById('waves-all').click()")
-    names = browser.script(GET_NAMES).split(" ")
+    names = browser.script(GET_ROW_NAMES).split(" ")
     values = {"acc", "cy", "r5", "p2", "dcl", "src", "ram.0.0x12", "st.0.1.2", "rom0[3:0]", "ram0.0[3:0]", "chain1[39:0]"}
     verdict("the selected values", values <= set(names), True)
     verdict("all lines are selected", {"rom1.3", "ram0.0.3", "chain1.39", "lamp.minus", "lamp42", "key.CE", "key3.3", "test", "shift.chain1"} <= set(names), True)
@@ -185,7 +185,7 @@ def check_past_cycles(browser):
 
 # Sets the values of fields. The argument maps the fields' ids to values.
 FILL_FIELDS = "for (const [id, value] of Object.entries(arguments[0])) document.getElementById(id).value = value"
-GET_COUNT = "return document.getElementById('scope-count').textContent"
+GET_SCOPE_COUNT = "return document.getElementById('scope-count').textContent"
 
 
 def check_live_recording(browser, folder, mcs4):
@@ -199,7 +199,7 @@ def check_live_recording(browser, folder, mcs4):
     verdict("the status before the program is running", record(browser, 1000000, "live"), "Records as soon as the machine runs.")
     browser.click("#run")
     eventually(browser, "the status while recording", GET_SCOPE_STATUS, "Recording.")
-    eventually(browser, "the number of recorded cycles is shown", GET_COUNT, re.compile(r"^[0-9,]{4,} cycles, [0-9.]+ m?s$"))
+    eventually(browser, "the number of recorded cycles is shown", GET_SCOPE_COUNT, re.compile(r"^[0-9,]{4,} cycles, [0-9.]+ m?s$"))
     eventually(browser, "the program is running", GET_STATUS, re.compile("^Running \""))
     eventually(browser, "the tab reports that it records", "return document.getElementById('waves-tab').textContent", "Wavesrecords")
     browser.click("#keys button")
@@ -217,7 +217,7 @@ def check_live_recording(browser, folder, mcs4):
                 for id in ("wave-first", "wave-second"))
     names = ["rom0.0", "rom0[3:0]", "chain0[9:0]", "chain1.39", "lamp.minus", "pc"]
     browser.script(CHOOSE_LINES, names)
-    names = browser.script(GET_NAMES).split(" ")
+    names = browser.script(GET_ROW_NAMES).split(" ")
     saved_bytes = save_file(browser, folder, "#save-waves", "calculator.vcd")
     board = TOP / "examples/calculator/board.toml"
     expected = output_of_wave(mcs4, "--board", board, session, count, *names)
@@ -234,7 +234,7 @@ def check_live_recording(browser, folder, mcs4):
 
 
 def changes_after(file, cycle):
-    """Returns the changes in a VCD file after a cycle. Each is a pair of the number of cycles since that cycle and the file's line."""
+    """Returns the changes in a VCD file after a cycle. Each is a pair: the number of cycles since that cycle, and the file's line with the change."""
     lines = file.decode().split("$enddefinitions $end\n")[1].split("\n")
     changes, time = [], 0
     for line in lines:
@@ -373,7 +373,7 @@ def check_pointer_actions(browser):
     send_lines(browser, "test 0")
     record(browser, 5000)
     browser.script(CHOOSE_LINES, ["lamp13", "lamp14", "lamp15"])
-    eventually(browser, "the selected rows", GET_NAMES, "lamp13 lamp14 lamp15")
+    eventually(browser, "the selected rows", GET_ROW_NAMES, "lamp13 lamp14 lamp15")
     width = browser.script("return document.getElementById('wave-canvas').clientWidth")
     act_at_row(browser, 150 + (width - 150) * 0.5, 2)
     eventually(browser, "the measurement under the pointer", GET_MEASUREMENT,
@@ -391,15 +391,15 @@ def check_pointer_actions(browser):
     verdict("Fit shows the whole recording", abs(cycles_between(browser, 250, 350) - cycles_before) < 2, True)
     target = dict(zip(("x", "y"), browser.script(GET_ROW_CENTRE, 40, 0)))
     act_at_row(browser, 40, 2, {"type": "pointerDown", "button": 0}, {"type": "pointerMove", "duration": 50, **target}, {"type": "pointerUp", "button": 0})
-    eventually(browser, "dragging the name moves a row", GET_NAMES, "lamp15 lamp13 lamp14")
-    browser.click_secondary(*browser.script(GET_ROW_CENTRE, 40, 1))
+    eventually(browser, "dragging the name moves a row", GET_ROW_NAMES, "lamp15 lamp13 lamp14")
+    browser.right_click(*browser.script(GET_ROW_CENTRE, 40, 1))
     eventually(browser, "the secondary button opens the menu of a row", "return document.activeElement.textContent", "Rename")
     browser.type_keys([ENTER])
     browser.type_keys([*"tens", ENTER])
-    eventually(browser, "Rename changes the name of a row", GET_NAMES, "lamp15 tens lamp14")
+    eventually(browser, "Rename changes the name of a row", GET_ROW_NAMES, "lamp15 tens lamp14")
     browser.press_chord("\ue00a", DOWN)
-    eventually(browser, "Alt and the Down arrow move the row at the cursor", GET_NAMES, "lamp15 lamp14 tens")
-    browser.click_secondary(*browser.script(GET_ROW_CENTRE, 40, 0))
+    eventually(browser, "Alt and the Down arrow move the row at the cursor", GET_ROW_NAMES, "lamp15 lamp14 tens")
+    browser.right_click(*browser.script(GET_ROW_CENTRE, 40, 0))
     browser.wait_until("return document.activeElement.textContent", "Rename")
     browser.type_keys([DOWN, ENTER])
     browser.type_keys([*"digit", ENTER])
@@ -407,15 +407,15 @@ def check_pointer_actions(browser):
     browser.type_keys(["\ue013"])
     eventually(browser, "the Up arrow moves to the heading of the group", GET_SPOKEN_VALUE, re.compile("^group digit, cycle "))
     browser.type_keys([ENTER])
-    eventually(browser, "Enter folds the group", GET_NAMES, "lamp14 tens")
+    eventually(browser, "Enter folds the group", GET_ROW_NAMES, "lamp14 tens")
     browser.type_keys([ENTER])
-    eventually(browser, "Enter unfolds the group", GET_NAMES, "lamp15 lamp14 tens")
+    eventually(browser, "Enter unfolds the group", GET_ROW_NAMES, "lamp15 lamp14 tens")
     eventually(browser, "the saved arrangement of the rows", READ_STORED_ROWS, ["lamp15", "lamp14", "lamp13", "tens", "digit"])
     browser.reload()
     wait_until_ready(browser)
     record(browser, 5000)
     browser.script(CHOOSE_LINES, ["lamp13", "lamp14", "lamp15"])
-    eventually(browser, "the arrangement of the rows after a reload", GET_NAMES, "lamp15 lamp14 tens")
+    eventually(browser, "the arrangement of the rows after a reload", GET_ROW_NAMES, "lamp15 lamp14 tens")
 
 
 def check_pictures(browser, folder):

@@ -143,7 +143,7 @@ for (let node = walker.nextNode(); node; node = walker.nextNode()) {
   }
 }
 return words"""
-COUNT_LINES = """
+COUNT_VISIBLE_LINES = """
 const room = document.querySelector("#program-editor .cm-scroller").getBoundingClientRect();
 return [...document.querySelectorAll("#program-editor .cm-line")].map((line) => line.getBoundingClientRect())
   .filter(({ top, bottom }) => top >= room.top && bottom <= room.bottom).length"""
@@ -175,7 +175,7 @@ def check_first_glance(browser, page, set_size):
     browser.script("document.getElementById('record-where').value = 'before'")
     browser.click("#record")
     eventually(browser, "the recording is large", IS_TRACE_LARGE, True)
-    verdict(f"at least {MIN_LINES} lines of the source are visible", browser.script(COUNT_LINES) >= MIN_LINES, True)
+    verdict(f"at least {MIN_LINES} lines of the source are visible", browser.script(COUNT_VISIBLE_LINES) >= MIN_LINES, True)
     verdict("the debugger's panels are completely visible", browser.script(GET_WHOLE_PANELS, DEBUGGER_PANELS), DEBUGGER_PANELS)
     show_text(browser, "disassembly")
     for text in ("board", "wiring", "tests", "properties", "program"):
@@ -192,7 +192,7 @@ return [...document.querySelectorAll("#chosen :is(button, input, select)")].filt
   .map((each) => each.getAttribute("aria-label"))"""
 GET_DIGIT_FILL = """
 return getComputedStyle(document.querySelector(`#examples button[aria-label='new session: ${arguments[0]}'] .digits`)).fill"""
-GET_OFFERS = """
+GET_SHOWN_OFFERS = """
 return ["board-offer", "hello"].filter((id) => isShown(document.getElementById(id)))"""
 COUNT_BUTTONS_AT_EDGE = """
 const { left, right } = document.getElementById("history").getBoundingClientRect();
@@ -221,7 +221,7 @@ def check_details(browser, set_size):
             == browser.script(GET_DIGIT_FILL, "counter"), False)
     browser.click("#close-sessions")
     choose_example(browser, "empty bench")
-    verdict("the only offer on an empty bench", browser.script(GET_OFFERS), ["board-offer"])
+    verdict("the only offer on an empty bench", browser.script(GET_SHOWN_OFFERS), ["board-offer"])
     choose_example(browser, "first")
     verdict("a session without texts shows the field for lines", browser.script(FIND_SHOWN, ["lines"]), ["lines"])
     choose_example(browser, "three lamps")
@@ -340,7 +340,7 @@ def run_test(browser):
     """Runs the sample test of the board."""
     browser.click("#tests-tab")
     browser.click("#first-test")
-    # Running the board creates the test, which takes a while on a busy machine.
+    # The page runs the board to create the test. This takes a while on a busy machine.
     eventually(browser, "a sample test is in the editor", GET_TESTS, re.compile("^ *expect", re.M))
     browser.click("#tests-editor .send")
     eventually(browser, "the number of test results", "return document.querySelectorAll('#test-list li').length", 1)
@@ -397,7 +397,7 @@ def check_layout_shifts(browser, page, set_size):
 
 
 def check_touch_targets(browser, set_size):
-    """Checks that on a phone and on a tablet every visible control has at least 44 pixels, with the board and with the wiring."""
+    """Checks that on a phone and on a tablet every visible control is at least 44 pixels wide and high, in the board view and in the wiring view."""
     browser.send_command("Emulation.setTouchEmulationEnabled", enabled=True)
     for width, height in ((390, 844), (820, 1180)):
         set_size(browser, width, height, True)

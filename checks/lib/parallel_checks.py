@@ -142,8 +142,8 @@ GATE = Check("lib/gate", "rt", 3000)
 
 @dataclass
 class RunningCheck:
-    """A running check: its process, the file for its output, and its start time. Its mark is a variable in the environment of all processes that the
-    check starts. After its end, `processor_seconds` is its processor time, with that of the processes for which it has waited."""
+    """A running check: its process, the file for its output, and its start time. Its mark is an environment variable that all its processes inherit.
+    After the check has ended, `processor_seconds` is its processor time, including that of the child processes for which it waited."""
 
     check: Check
     process: subprocess.Popen

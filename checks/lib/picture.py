@@ -67,14 +67,14 @@ def write_picture(data, path):
     """Reduces the colours of a screenshot, and writes it to a PNG file."""
     rows = list(rows_of(data))
     palette = palette_of(rows)
-    nearest = {}
+    number_by_colour = {}
     lines = bytearray()
     for row in rows:
         lines.append(0)
         for colour in row:
-            if colour not in nearest:
-                nearest[colour] = min(range(len(palette)), key=lambda number: colour_distance(colour, palette[number]))
-            lines.append(nearest[colour])
+            if colour not in number_by_colour:
+                number_by_colour[colour] = min(range(len(palette)), key=lambda number: colour_distance(colour, palette[number]))
+            lines.append(number_by_colour[colour])
     header = struct.pack(">IIBBBBB", len(rows[0]), len(rows), 8, 3, 0, 0, 0)
     colours = bytes(value for colour in palette for value in colour)
     png_chunks = [(b"IHDR", header), (b"PLTE", colours), (b"IDAT", zlib.compress(bytes(lines), 9)), (b"IEND", b"")]

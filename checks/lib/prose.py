@@ -44,7 +44,7 @@ EXCEPTIONS = {
     "continue takes no argument; run TIME": "`run TIME` is a command",
     "*Whatever bytes the shell reads, and wherever the machine stops,": "the headline of PROOF stays word for word",
 }
-# Matches a piece of code, or a list of them, which counts as one word.
+# Matches a piece of code in backticks, or a list of such pieces. A match counts as one word.
 CODE_SPANS = r"`[^`]*`(?:(?:,| and|, and)? \(?`[^`]*`\)?)*"
 # The beginning of a new block: a table row, a list item, a heading.
 BLOCK_BEGIN = r"\s*(?:\||- |\d+\. )|#"

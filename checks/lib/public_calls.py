@@ -83,26 +83,26 @@ def fields_of(lines, index):
 
 @functools.cache
 def declarations_of_file(path):
-    """Returns the public declarations in a file, as pairs of a name and its public form."""
+    """Returns the public declarations in a file, as pairs: the name of the item, and its line in public_calls.txt."""
     lines = without_comments(path.read_text()).splitlines()
-    items = []
+    declarations = []
     for index, line in enumerate(lines):
         if match := re.match(r"pub (?:enum|struct) (\w+)", line):
             fields = fields_of(lines, index)
             signature = re.sub(r"\s+", " ", signature_at(lines, index)).partition("(")[0].partition(" where ")[0].strip().removeprefix("pub ")
-            items.append((match[1], signature + (": " + ", ".join(fields) if fields else "")))
+            declarations.append((match[1], signature + (": " + ", ".join(fields) if fields else "")))
         elif match := re.match(r"pub (?:const|type) (\w+)", line):
-            items.append((match[1], re.sub(r"\s+", " ", signature_at(lines, index)).removeprefix("pub ").strip()))
+            declarations.append((match[1], re.sub(r"\s+", " ", signature_at(lines, index)).removeprefix("pub ").strip()))
         elif match := re.match(r"pub trait (\w+)", line):
-            items += [(match[1], f"{match[1]}::{call}") for call in calls_in(lines, index, "")]
+            declarations += [(match[1], f"{match[1]}::{call}") for call in calls_in(lines, index, "")]
         elif match := re.match(r"impl(?:<.*?>)? (?:(\w+)(?:<.*>)? for )?(\w+)", line):
             if match[1]:
-                items.append((match[2], f"impl {match[1]} for {match[2]}"))
+                declarations.append((match[2], f"impl {match[1]} for {match[2]}"))
             else:
-                items += [(match[2], f"{match[2]}::{call}") for call in calls_in(lines, index, "pub (?:const )?")]
+                declarations += [(match[2], f"{match[2]}::{call}") for call in calls_in(lines, index, "pub (?:const )?")]
         elif match := re.match(r"pub (?:const )?fn (\w+)", line):
-            items.append((match[1], call_of(signature_at(lines, index))))
-    return items
+            declarations.append((match[1], call_of(signature_at(lines, index))))
+    return declarations
 
 
 def reexported_names(text):
@@ -116,11 +116,11 @@ def calls_of(crate):
     """Yields the public interface of a crate, line by line."""
     source = TOP / "crates" / crate / "src"
     text = without_comments((source / "lib.rt").read_text())
-    open_modules = set(re.findall(r"^pub mod (\w+);", text, re.M)) | {"lib"}
+    public_modules = set(re.findall(r"^pub mod (\w+);", text, re.M)) | {"lib"}
     reexports = set(reexported_names(text))
     names = {name for _, name in reexports}
     for path in sorted(source.rglob("*.rt")):
-        yield from (line for name, line in declarations_of_file(path) if path.stem in open_modules or name in names)
+        yield from (line for name, line in declarations_of_file(path) if path.stem in public_modules or name in names)
     yield from (f"use {name}" for first_word, name in reexports if not (source / f"{first_word}.rt").exists())
 
 

@@ -73,7 +73,7 @@ static int must_fail(const char *change) {
     return 1;
 }
 
-/* Returns true and sets errno if a call on a file must fail with EINTR. With CALL_AGAIN, every second call on a file does. */
+/* Returns true and sets errno if a call on a file must fail with EINTR. With CALL_AGAIN, every second such call must fail. */
 static int must_interrupt(int fd) {
     static int answered;
     answered = !answered && *name_of(fd) && getenv("CALL_AGAIN");

@@ -45,8 +45,8 @@ def condition_lines(word: str, rows: list[Row]) -> list[str]:
 class InputLimits:
     """The inputs that a question allows. At most `together` keys are down at a time, or any number if it is None. If `only` is true, a key can be
     pressed only if it is one of `keys`, and TEST can be 1 only if `test` is true. Otherwise all keys can be pressed, and TEST can be 0 or 1. Two
-    changes of the levels are at least `wait` cycles apart. With `held`, no key is down for more than `held` cycles in succession. `search` ignores
-    `wait` and `held`, and second_waits.py does not. Without `wait`, the program ignores `held`, too."""
+    changes of the levels are at least `wait` cycles apart. With `held`, no key is down for more than `held` cycles in succession. Only the searches
+    in second_waits.py use `wait` and `held`; `search` ignores them. Without `wait`, the program ignores `held`, too."""
 
     together: int | None = None
     only: bool = False
@@ -56,12 +56,12 @@ class InputLimits:
     held: int = 0
 
     def lines(self) -> list[str]:
-        """Returns the lines of a question for these limits."""
+        """Returns the lines that state these limits in a question."""
         return [*([] if self.together is None else [f"together {self.together}"]), *(["only"] if self.only else []),
                 *(f"press {row} {column}" for row, column in self.keys), *(["test"] if self.test else []),
                 *([f"wait {self.wait}"] if self.wait else []), *([f"held {self.held}"] if self.held else [])]
 
-    def allow(self, levels: Levels) -> bool:
+    def allows(self, levels: Levels) -> bool:
         """Returns true if the limits allow these levels of keys and TEST."""
         if self.together is not None and len(levels[0]) > self.together:
             return False
@@ -108,8 +108,8 @@ class Question:
 
 @dataclass
 class SearchResult:
-    """The result of a search: a verdict (`holds`, `may fail` or `too many`), the number of states found, and the values that the program reads on the
-    way to the failure."""
+    """The result of a search: a verdict (`holds`, `may fail` or `too many`), the number of states found, and the values that the program reads before
+    the failure."""
 
     verdict: str
     states: int
@@ -138,7 +138,7 @@ def chain_bit(board: QuestionBoard, n: int, index: int) -> int:
     return chain[index] if index < len(chain) else 0
 
 
-# The readers of the cells in each list.
+# For each list of cells, the function that reads the cell with an index.
 CELL_READERS: dict[str, Callable[[QuestionBoard, int], int]] = {
     "character": lambda board, index: board.chips.ram[index // 256][index % 256],
     "status": lambda board, index: board.chips.status[index // 64][index // 4 % 16][index % 4],
@@ -191,9 +191,9 @@ class MarkSequence:
 
 
 class QuestionBoard(Board):
-    """The board of a question, with what the search adds to it. `elapsed` is the number of cycles that the stopwatch shows, or 0 if it does not run.
-    `seen_count` is the number of marks seen. While the condition of the marks is true, and in the cycle after that, it is the number of all marks
-    plus 1. A question can have no stopwatch and no marks."""
+    """The board of a question, with state that the search needs. `elapsed` is the number of cycles that the stopwatch shows, or 0 if it does not run.
+    `seen_count` is the number of marks seen. While the condition `opens` is true, and in the cycle after that, `seen_count` is the number of all
+    marks plus 1. A question need not have a stopwatch or marks."""
 
     def __init__(self, limits: InputLimits) -> None:
         super().__init__()
@@ -203,13 +203,13 @@ class QuestionBoard(Board):
         self.mark_sequence: MarkSequence | None = None
 
 
-def value_with(board: QuestionBoard, keys_down: Iterable[Key]) -> int:
+def value_with_keys(board: QuestionBoard, keys_down: Iterable[Key]) -> int:
     """Returns the value of the selected port with these keys down."""
     chips = board.chips
     previous_keys, chips.pressed_keys = chips.pressed_keys, set(keys_down)
-    value = chips.read_port(chips.rom_src >> 4)
+    port_value = chips.read_port(chips.rom_src >> 4)
     chips.pressed_keys = previous_keys
-    return value
+    return port_value
 
 
 def all_keys(board: QuestionBoard) -> list[Key]:
@@ -228,7 +228,7 @@ def is_mark_shown(board: QuestionBoard, mark: Mark) -> bool:
     if kind != "rom" or chip != chips.rom_src >> 4:
         return False
     line_levels = [value >> line & 1 for value in (
-        chips.read_port(chip), value_with(board, [key]), value_with(board, [other_key for other_key in all_keys(board) if other_key != key]))]
+        chips.read_port(chip), value_with_keys(board, [key]), value_with_keys(board, [other_key for other_key in all_keys(board) if other_key != key]))]
     return line_levels[0] == 1 and line_levels[2] == 0 if level == "down" else line_levels[0] == 0 and line_levels[1] == 1
 
 
@@ -372,14 +372,14 @@ def is_reading(board: QuestionBoard) -> bool:
 
 def port_values(board: QuestionBoard) -> dict[int, Levels]:
     """Returns the values that RDR can read, each with allowed levels that produce it. Tries all sets of allowed keys up to the maximum number of
-    keys. Keys that pull the same lines are interchangeable, so the sets contain one of them. Keys that pull no line are omitted."""
-    test, value_without_keys = allowed_test_levels(board)[-1], value_with(board, [])
-    keys_by_value = {value_with(board, [key]): key for key in allowed_keys(board)}
+    keys. Keys that pull the same lines to 1 are interchangeable, so the sets contain only one of them. Keys that pull no line are omitted."""
+    test, value_without_keys = allowed_test_levels(board)[-1], value_with_keys(board, [])
+    keys_by_value = {value_with_keys(board, [key]): key for key in allowed_keys(board)}
     keys = [key for value, key in keys_by_value.items() if value != value_without_keys]
     values: dict[int, Levels] = {}
     for count in range(min(len(keys), max_keys_down(board)) + 1):
         for keys_down in itertools.combinations(keys, count):
-            values.setdefault(value_with(board, keys_down), (frozenset(keys_down), test))
+            values.setdefault(value_with_keys(board, keys_down), (frozenset(keys_down), test))
     return values
 
 
@@ -399,9 +399,9 @@ def values_by_enumeration(board: QuestionBoard, max_keys: int) -> set[int] | Non
     if len(keys) > max_keys:
         return None
     all_levels = [(frozenset(itertools.compress(keys, pattern)), test) for pattern in itertools.product((0, 1), repeat=len(keys)) for test in (0, 1)]
-    allowed = [levels for levels in all_levels if board.limits.allow(levels)]
+    allowed = [levels for levels in all_levels if board.limits.allows(levels)]
     if name == "RDR":
-        return {value_with(board, keys_down) for keys_down, _test in allowed}
+        return {value_with_keys(board, keys_down) for keys_down, _test in allowed}
     return {test for _keys_down, test in allowed} if name == "JCN" and low % 2 == 1 else {0}
 
 
@@ -490,7 +490,8 @@ def search(question: Question) -> SearchResult:
 
 
 def values_leading_to(origins: list[tuple[int, int]], index: int) -> list[int]:
-    """Returns the values that the program reads on the way to a state."""
+    """Returns the values that the program reads before it reaches the state with this index. `origins` has, for each state, the index of its
+    predecessor, and the value that was read there."""
     values = []
     while index:
         index, value = origins[index]
@@ -514,7 +515,7 @@ def is_met_when_driven(question: Question, rng: random.Random, cycles: int) -> b
 
 # ---- replaying a counterexample
 
-def commands(levels: Levels, previous: Levels) -> list[str]:
+def level_commands(levels: Levels, previous: Levels) -> list[str]:
     """Returns the session lines that change keys and TEST from the previous levels to new ones."""
     lines = [f"release {row} {column}" for row, column in sorted(previous[0] - levels[0])]
     lines += [f"press {row} {column}" for row, column in sorted(levels[0] - previous[0])]
@@ -522,8 +523,8 @@ def commands(levels: Levels, previous: Levels) -> list[str]:
 
 
 def replay_lines(question: Question, path: list[int]) -> tuple[list[str], str]:
-    """Returns the session lines that replay a counterexample up to the cycle in which the property fails, and a description of the error, or "" if
-    there is none."""
+    """Returns the session lines that replay a counterexample up to the cycle in which the property fails. Also returns a description of the error in
+    the counterexample, or "" if it has none."""
     board, is_failure, levels_before = power_on(question), failure_condition(question), LEVELS_AT_POWER_ON
     lines, has_failed = [*itertools.chain(*question.texts()), "reset"], is_failure(board)
     for index, value in enumerate(path):
@@ -532,7 +533,7 @@ def replay_lines(question: Question, path: list[int]) -> tuple[list[str], str]:
             return lines, f"value {index + 1} of the way {path}: " + ("it is met before" if has_failed else f"only {sorted(readable_values)} can be read at {board.pc:03X}")
         levels = readable_values[value]
         cycles, has_failed = run_to_next_state(board, levels, is_failure, question.pause)
-        lines += commands(levels, levels_before) + [f"run {part}" for part in run_lengths(cycles)]
+        lines += level_commands(levels, levels_before) + [f"run {part}" for part in run_lengths(cycles)]
         levels_before = levels
     return lines, "" if has_failed else f"nothing is met on the way {path}"
 
@@ -548,7 +549,7 @@ def excluded_input(limits: InputLimits, lines: list[str]) -> str:
             keys_down = keys_down | {key} if command == "press" else keys_down - {key}
         elif command == "test":
             test = int(words[0])
-        elif command == "run" and not limits.allow((keys_down, test)):
+        elif command == "run" and not limits.allows((keys_down, test)):
             return f"the limits exclude the keys {sorted(keys_down)} with TEST at {test}"
     return ""
 

@@ -1,6 +1,6 @@
-"""A second implementation of the search of mcs4-prove with `wait` and `held`. It shares no code with the program. The levels of keys and TEST change
-at moments that are at least `wait` cycles apart. The levels before the first cycle are no change. With `held`, each key is up at some moment of any
-`held` + 1 successive moments, so that no key is down for more than `held` cycles in succession.
+"""A second implementation of the search of mcs4-prove with `wait` and `held`. It shares no code with the program. Successive changes of the levels of
+keys and TEST are at least `wait` cycles apart. The levels before the first cycle do not count as a change. With `held`, each key is up in at least
+one of any `held` + 1 successive cycles, so that no key is down for more than `held` cycles in succession.
 
 Two searches answer whether a property can fail:
 
@@ -8,9 +8,9 @@ Two searches answer whether a property can fail:
   allowed. Its states contain the machine, the levels, the number of cycles since the last change, and the number of cycles for which each key has
   been down. It does not know which cycles read an input.
 - The search by steps works like the program. Its steps are those of second_search.py. A step begins at levels that the search chooses. If they differ
-  from those of the last step, the change between the two steps was made as early as possible. It counts the states, as the program does.
+  from the levels of the previous step, the change between the two steps was made as early as possible. This search counts states as the program does.
 
-A counterexample has the levels at the beginning of each step. `replay_steps` finds moments for its changes.
+A counterexample has the levels at the beginning of each step. `replay_steps` finds the cycles in which the levels can change.
 
 Without `held`, the two verdicts must agree. With `held`, the search by steps allows more inputs than the definition. If it answers `holds`, the
 property also holds by the definition. But it can answer `may fail` although the property holds, because it does not remember
@@ -19,7 +19,8 @@ property also holds by the definition. But it can answer `may fail` although the
 - what happened in a step that is longer than `wait`: the key can have been up during the step, but then the next change is later;
 - that a key that was pressed must be released. If `wait` is more than `held`, no change can release it in time.
 
-It is exact on a way that `is_simple` describes. On such a way, there must be moments for the changes. On another way, there may be none.
+`is_search_exact` describes the sequences of steps for which the search by steps is exact. For these, there must be possible times of all changes. For
+other sequences, there may be none.
 """
 
 from __future__ import annotations
@@ -30,18 +31,18 @@ from dataclasses import dataclass, field, replace
 from typing import NamedTuple
 
 from second_search import (
-    LEVELS_AT_POWER_ON, InputLimits, Levels, Question, QuestionBoard, all_keys, allowed_keys, allowed_test_levels, commands, failure_condition, load_state,
+    LEVELS_AT_POWER_ON, InputLimits, Levels, Question, QuestionBoard, all_keys, allowed_keys, allowed_test_levels, level_commands, failure_condition, load_state,
     max_keys_down, power_on, run_cycle, run_lengths, run_to_next_state, set_levels, state_of)
 
-# The maximum number of levels that the program tries. It gives up if there are more.
+# The maximum number of combinations of levels that the program tries. The program gives up if there are more.
 MAX_LEVELS = 255
 
 
 # ---- levels
 
 def all_levels(board: QuestionBoard) -> list[Levels]:
-    """Returns the levels of the keys and TEST of a board that its limits allow, in the program's order: by TEST, then by each key. Returns at most
-    MAX_LEVELS + 1."""
+    """Returns the combinations of key and TEST levels that the board's limits allow, sorted as mcs4-prove sorts them: by TEST, then by each key.
+    Returns at most MAX_LEVELS + 1 of them."""
     keys = allowed_keys(board)
     sets_of_keys = (keys_down for count in range(min(len(keys), max_keys_down(board)) + 1) for keys_down in itertools.combinations(keys, count))
     levels = ((frozenset(keys_down), test) for keys_down in sets_of_keys for test in allowed_test_levels(board))
@@ -63,30 +64,31 @@ def max_word(board: QuestionBoard) -> str:
 
 # ---- the literal search
 
-# The number of cycles for which each key of a board has been down, or 0 if it is up. It is empty if the question does not limit this time.
+# For each key of a board, the number of cycles for which it has been down, or 0 if it is up. Has no elements if the question has no `held`.
 DownTimes = tuple[int, ...]
 
 
 class LiteralSearch:
-    """All states that the machine of a question reaches. A state has a machine, its levels for the next cycle, the age of the last change in cycles,
-    at most `wait`, and the times for which keys are down. If there was no change yet, the age is `wait`, too: both allow a change. The ages of all
-    states that are otherwise the same are the bits of one number."""
+    """A search that visits all reachable states, cycle by cycle. A state consists of the machine, its levels in the next cycle, the times for which
+    keys have been down, and the age of the last change in cycles. `wait` is the maximum age, and also the age if there was no change yet: both allow
+    a change. States that differ only in their ages are stored as one number, which has a bit for each age."""
 
     def __init__(self, question: Question) -> None:
         self.board, self.is_failure = power_on(question), failure_condition(question)
         self.wait, self.held = question.limits.wait, question.limits.held
         self.levels = all_levels(self.board)
         self.limited_keys = all_keys(self.board) if self.held else []
-        # The states of the machine that were seen, with a number for each, and the next one for each machine and levels (-1 if the property fails).
+        # The states of the machine that were seen, and the number of each. `successors` has the number of the next state, by the number of the state
+        # and the index of the levels (-1 if the property fails).
         self.machines: list[tuple] = []
         self.numbers: dict[tuple, int] = {}
         self.successors: dict[tuple[int, int], int] = {}
-        # The ages that were reached for each machine, levels and times. Those in `new_ages` have not been continued yet.
+        # For each combination of machine, levels and times, the ages that were reached. The search has not continued from those in `new_ages` yet.
         self.ages: dict[tuple[int, int, DownTimes], int] = {}
         self.new_ages: dict[tuple[int, int, DownTimes], int] = {}
 
     def number_of(self, machine: tuple) -> int:
-        """Returns the number of a machine's state."""
+        """Returns the number of a state of the machine. A new state gets the next number."""
         if machine not in self.numbers:
             self.numbers[machine] = len(self.machines)
             self.machines.append(machine)
@@ -102,27 +104,27 @@ class LiteralSearch:
         return self.successors[number, levels]
 
     def reach(self, number: int, levels: int, times: DownTimes, ages: int) -> None:
-        """Adds states with this machine, these levels, these times and these ages."""
+        """Adds the states with this machine, these levels and times, and one of these ages. Those that are new are also added to `new_ages`."""
         if added := ages & ~self.ages.get((number, levels, times), 0):
             self.ages[number, levels, times] = self.ages.get((number, levels, times), 0) | added
             self.new_ages[number, levels, times] = self.new_ages.get((number, levels, times), 0) | added
 
     def times_after(self, times: DownTimes, levels: int) -> DownTimes:
-        """Returns the times for which keys are down after one cycle at these levels."""
+        """Returns what `times` becomes after one more cycle at these levels: the times for which keys have been down."""
         keys_down = self.levels[levels][0]
         return tuple(time + 1 if key in keys_down else 0 for key, time in zip(self.limited_keys, times, strict=True))
 
     def ages_after(self, ages: int, times: DownTimes) -> int:
-        """Returns the ages after one cycle, with these times after it. Each change is one cycle older, and all ages from `wait` on are the same. Omits
-        the ages that allow no inputs for all later cycles. There are such inputs if the next change can release all keys in time."""
+        """Returns the ages after one cycle. `times` has the times for which keys have been down after this cycle. Each age grows by one cycle, up to
+        `wait`. Omits the ages at which the next change would be too late to release a key that is down."""
         older_ages = ages << 1
         older_ages = older_ages & (1 << self.wait + 1) - 1 | (older_ages >> self.wait + 1) << self.wait
         lowest_age = self.wait - self.held + max(times) if any(times) else 0
         return older_ages >> max(lowest_age, 0) << max(lowest_age, 0)
 
     def verdict(self, max_cycles: int) -> str:
-        """Returns the verdict `holds` or `may fail`. Returns `too many` after `max_cycles` different cycles, or if there are several times as many
-        states."""
+        """Returns the verdict `holds` or `may fail`. Returns `too many` if the search runs more than `max_cycles` cycles from different states, or
+        reaches several times as many states."""
         if self.is_failure(self.board):
             return "may fail"
         for levels in range(len(self.levels)):
@@ -133,16 +135,16 @@ class LiteralSearch:
             ages = self.ages_after(ages, times)
             if not ages:
                 continue
-            following = self.next_machine(number, levels)
-            if following < 0:
+            next_number = self.next_machine(number, levels)
+            if next_number < 0:
                 return "may fail"
             if len(self.successors) > max_cycles or len(self.ages) > 4 * max_cycles:
                 return "too many"
-            self.reach(following, levels, times, ages)
+            self.reach(next_number, levels, times, ages)
             if ages >> self.wait:
                 for other_levels in range(len(self.levels)):
                     if other_levels != levels:
-                        self.reach(following, other_levels, times, 1)
+                        self.reach(next_number, other_levels, times, 1)
         return "holds"
 
 
@@ -154,9 +156,9 @@ def literal_verdict(question: Question, max_cycles: int) -> str:
 # ---- the search by steps
 
 class Spacing(NamedTuple):
-    """The levels at which the last step began, or None before the first step, and two numbers. The age is `wait` at the first moment at which the
-    levels can change again. It is never above twice `wait`. `down` is the number of cycles, at most `held`, for which a key has certainly been down
-    if the keys have the same levels when the next step begins. It is 0 if no key is down at these levels."""
+    """What the search remembers of earlier changes. `last` is the levels at which the last step began, or None before the first step. `age` is at
+    most twice `wait`; as soon as it is `wait`, the levels can change again. `down` is at most `held`. If the keys are unchanged when the next step
+    begins, a key has been down for at least this number of cycles. `down` is 0 if no key is down at these levels."""
 
     last: Levels | None
     age: int
@@ -169,7 +171,7 @@ def can_begin_at(wait: int, spacing: Spacing, levels: Levels) -> bool:
 
 
 def age_at_begin(wait: int, spacing: Spacing, levels: Levels) -> int:
-    """Returns the age at the beginning of a step at these levels. The next change is later, so that the age is below `wait`."""
+    """Returns the age at the beginning of a step at these levels. It is below `wait`, because the next change is after the beginning of the step."""
     if spacing.last is None:
         return wait - 1
     return min(spacing.age if levels == spacing.last else spacing.age - wait, wait - 1)
@@ -181,13 +183,13 @@ def age_after(wait: int, age: int, cycles: int) -> int:
 
 
 def down_at_begin(spacing: Spacing, levels: Levels) -> int:
-    """Returns the number of cycles for which a key has certainly been down at the beginning of a step at these levels."""
+    """Returns a number of cycles: for at least this time, a key has been down at the beginning of a step at these levels."""
     return spacing.down if spacing.last is not None and levels[0] == spacing.last[0] else 0
 
 
 def down_after(limits: InputLimits, down: int, levels: Levels, cycles: int) -> int:
-    """Returns this number after a step at these levels, which began with `down`. The levels can change twice during a step of more than `wait`
-    cycles."""
+    """Returns what `down_at_begin` becomes after a step at these levels, if it was `down` before. Returns 0 after a step of more than `wait` cycles,
+    because the levels can change twice during such a step."""
     return min(down + cycles, limits.held) if levels[0] and cycles <= limits.wait else 0
 
 
@@ -198,8 +200,8 @@ def is_held_too_long(held: int, spacing: Spacing, levels: Levels) -> bool:
 
 @dataclass
 class StepsResult:
-    """The result of a search by steps: its verdict (`holds`, `may fail`, `too many` or `gave up`), and the number of states found. `path` has the
-    levels at the beginning of each step on the way to the failure."""
+    """The result of StepSearch: the verdict (`holds`, `may fail`, `too many` or `gave up`), and the number of states found. If the property can
+    fail, `path` has the levels at the beginning of each step that leads to the failure."""
 
     verdict: str
     states: int
@@ -217,7 +219,7 @@ class StepSearch:
         self.question, self.limits = question, question.limits
         self.board, self.is_failure = power_on(question), failure_condition(question)
         self.levels = all_levels(self.board)
-        # The steps that ran, by machine and levels: the next machine (None if the property failed) and the number of cycles.
+        # The steps that were run, by machine and levels: the machine after the step (None if the property failed), and the number of cycles.
         self.steps: dict[tuple[tuple, Levels], tuple[tuple | None, int]] = {}
 
     def step(self, machine: tuple, levels: Levels) -> tuple[tuple | None, int]:
@@ -229,20 +231,20 @@ class StepSearch:
         return self.steps[machine, levels]
 
     def next_states(self, machine: tuple, spacing: Spacing) -> Iterator[tuple[Levels, tuple | None, Spacing]]:
-        """Yields the levels at which the next step can begin, each with the next state. Its machine is None if the property fails. A step that reads
-        no input also begins at levels that the search chooses, as in the program."""
+        """Yields the levels at which the next step can begin, each with the machine and the spacing after the step. The machine is None if the
+        property fails. As in the program, the search also chooses levels for a step that reads no input."""
         for levels in self.levels:
             if can_begin_at(self.limits.wait, spacing, levels) and not is_held_too_long(self.limits.held, spacing, levels):
                 following, cycles = self.step(machine, levels)
                 yield levels, following, self.spacing_after(spacing, levels, cycles)
 
     def spacing_after(self, spacing: Spacing, levels: Levels, cycles: int) -> Spacing:
-        """Returns the spacing after a step at these levels."""
+        """Returns the spacing after a step at these levels, from the spacing before the step."""
         age = age_after(self.limits.wait, age_at_begin(self.limits.wait, spacing, levels), cycles)
         return Spacing(levels, age, down_after(self.limits, down_at_begin(spacing, levels), levels, cycles))
 
     def result(self) -> StepsResult:
-        """Searches, and returns the result."""
+        """Runs the search, and returns its result."""
         if self.is_failure(self.board):
             return StepsResult("may fail", 1)
         if len(self.levels) > MAX_LEVELS:
@@ -265,8 +267,8 @@ class StepSearch:
 
 
 def levels_leading_to(origins: list[tuple[int, Levels]], index: int) -> list[Levels]:
-    """Returns the levels at the beginning of each step on the way to a state. Each state has the index of the state before it, and the levels at the
-    beginning of the step between them."""
+    """Returns the levels at the beginning of each step that leads to the state with this index. `origins` has, for each state, the index of its
+    predecessor, and the levels at the beginning of the step from there."""
     path = []
     while index:
         index, levels = origins[index]
@@ -281,30 +283,30 @@ def search_by_steps(question: Question) -> StepsResult:
 
 # ---- replaying a counterexample
 
-# A moment and the levels from that moment on.
+# A change of the levels: its time in cycles, and the levels from then on.
 Change = tuple[int, Levels]
 
 
 def steps_of(question: Question, path: list[Levels]) -> tuple[list[Change], int, str]:
-    """Returns the moments at which the steps of a counterexample begin, with their levels. Also returns the number of all cycles, and a description
-    of the error, or "" if the property fails after the last one."""
-    board, is_failure, moment, begins = power_on(question), failure_condition(question), 0, []
+    """Replays a counterexample. Returns the levels of each step and the cycle at which the step begins, the total number of cycles, and a description
+    of the error. The description is "" if the property fails after the last cycle, as it must."""
+    board, is_failure, moment, step_starts = power_on(question), failure_condition(question), 0, []
     has_failed = is_failure(board)
     for index, levels in enumerate(path):
-        if has_failed or not question.limits.allow(levels) or not levels[0] <= set(all_keys(board)):
-            return begins, moment, f"step {index + 1}: " + ("the property fails before" if has_failed else f"{levels} is not allowed")
-        begins.append((moment, levels))
+        if has_failed or not question.limits.allows(levels) or not levels[0] <= set(all_keys(board)):
+            return step_starts, moment, f"step {index + 1}: " + ("the property fails before" if has_failed else f"{levels} is not allowed")
+        step_starts.append((moment, levels))
         cycles, has_failed = run_to_next_state(board, levels, is_failure, question.pause, counts_idle_cycles=True)
         moment += cycles
-    return begins, moment, "" if has_failed else "the property does not fail"
+    return step_starts, moment, "" if has_failed else "the property does not fail"
 
 
-def is_simple(begins: list[Change], limits: InputLimits) -> bool:
-    """Returns true if the search by steps is exact on a way with these begins of steps. Without `held`, it always is. With `held`, keys may be down
-    at two successive begins only if they are the same keys and the begins are at most `wait` cycles apart."""
+def is_search_exact(step_starts: list[Change], limits: InputLimits) -> bool:
+    """Returns true if the search by steps is exact for steps that begin at these times with these levels. Without `held`, it is always exact. With
+    `held`, keys may be down in two successive steps only if they are the same keys and the steps begin at most `wait` cycles apart."""
     return not limits.held or limits.wait <= limits.held and all(
         not (before[0] and levels[0]) or before[0] == levels[0] and moment - previous <= limits.wait
-        for (previous, before), (moment, levels) in itertools.pairwise(begins))
+        for (previous, before), (moment, levels) in itertools.pairwise(step_starts))
 
 
 def presses_of(changes: list[Change]) -> list[tuple[int, int]]:
@@ -316,47 +318,47 @@ def presses_of(changes: list[Change]) -> list[tuple[int, int]]:
     return presses
 
 
-def possible_changes(begins: list[Change], limits: InputLimits) -> tuple[list[Change], list[int]]:
-    """Returns the changes between steps, each at its earliest possible moment. Also returns the latest possible moment of each. `begins` has the
-    moment and the levels at the beginning of each step. The first change is at moment 0. With `held`, a last change releases all keys after the
-    beginning of the last step."""
-    changes, latest = begins[:1], [0] * len(begins[:1])
-    for (before, levels_before), (moment, levels) in itertools.pairwise(begins):
+def possible_changes(step_starts: list[Change], limits: InputLimits) -> tuple[list[Change], list[int]]:
+    """Returns the changes between steps, each in the earliest possible cycle. Also returns the latest possible cycle of each change. `step_starts`
+    has the first cycle and the levels of each step. The first change is in cycle 0. With `held`, a last change releases all keys after the beginning
+    of the last step."""
+    changes, latest = step_starts[:1], [0] * len(step_starts[:1])
+    for (before, levels_before), (moment, levels) in itertools.pairwise(step_starts):
         if levels != levels_before:
             changes.append((before + 1, levels))
             latest.append(moment)
     if limits.held and changes and changes[-1][1][0]:
-        moment, (_keys_down, test) = begins[-1]
+        moment, (_keys_down, test) = step_starts[-1]
         changes.append((moment + 1, (frozenset(), test)))
         latest.append(moment + limits.held)
     return changes, latest
 
 
-def earliest_changes(begins: list[Change], limits: InputLimits) -> list[Change] | None:
-    """Returns changes that are within the limits, and for which the levels at the beginning of each step are right. Each change is as early as
-    possible. Returns None if there are no such changes."""
-    changes, latest = possible_changes(begins, limits)
-    # The indexes of two changes and a number of cycles: the first change is not before the second one plus this number.
+def earliest_changes(step_starts: list[Change], limits: InputLimits) -> list[Change] | None:
+    """Returns changes that are within the limits and produce the levels at the beginning of each step. Each change is as early as possible. Returns
+    None if there are no such changes."""
+    changes, latest = possible_changes(step_starts, limits)
+    # Each constraint (i, j, cycles) means: change `i` happens at least `cycles` cycles after change `j`.
     constraints = [(index, index - 1, limits.wait) for index in range(2, len(changes))]
     constraints += [(pressed, released, -limits.held) for pressed, released in presses_of(changes) if limits.held]
-    moments = [moment for moment, _levels in changes]
-    previous_moments: list[int] = []
-    while moments != previous_moments:
-        previous_moments = [*moments]
+    change_cycles = [moment for moment, _levels in changes]
+    previous_cycles: list[int] = []
+    while change_cycles != previous_cycles:
+        previous_cycles = [*change_cycles]
         for index, other, cycles in constraints:
-            moments[index] = max(moments[index], moments[other] + cycles)
-        if any(moment > last for moment, last in zip(moments, latest, strict=True)):
+            change_cycles[index] = max(change_cycles[index], change_cycles[other] + cycles)
+        if any(moment > last for moment, last in zip(change_cycles, latest, strict=True)):
             return None
-    return [(moment, levels) for moment, (_earliest, levels) in zip(moments, changes, strict=True)]
+    return [(moment, levels) for moment, (_earliest, levels) in zip(change_cycles, changes, strict=True)]
 
 
 def limit_error(limits: InputLimits, changes: list[Change]) -> str:
     """Returns a description of the error in changes that the limits do not allow, or "" if they are allowed. The levels are constant after the last
-    change. The first change sets the levels from moment 0 on, and is none of the limits' changes."""
+    change. The limits do not apply to the first change, which sets the levels from cycle 0 on."""
     moments = [moment for moment, _levels in changes[1:]]
     if any(earlier + limits.wait > later for earlier, later in itertools.combinations(moments, 2)):
         return f"the changes at {moments} are less than {limits.wait} cycles apart"
-    if excluded := [levels for _moment, levels in changes if not limits.allow(levels)]:
+    if excluded := [levels for _moment, levels in changes if not limits.allows(levels)]:
         return f"{excluded} is not allowed"
     if limits.held and (changes and changes[-1][1][0] or any(
             changes[released][0] - changes[pressed][0] > limits.held for pressed, released in presses_of(changes))):
@@ -378,28 +380,28 @@ def change_error(question: Question, changes: list[Change], cycle_count: int) ->
     return "" if is_failure(board) else "the property does not fail with these changes"
 
 
-def has_changes(question: Question, path: list[Levels]) -> bool:
-    """Returns true if there are moments for the changes of a counterexample."""
+def are_changes_possible(question: Question, path: list[Levels]) -> bool:
+    """Returns true if the levels can change as a counterexample requires, within the limits."""
     return earliest_changes(steps_of(question, path)[0], question.limits) is not None
 
 
 def replay_steps(question: Question, path: list[Levels]) -> tuple[list[str], str]:
-    """Returns the session lines that replay a counterexample up to the cycle in which the property fails, and a description of the error, or "" if
-    there is none. If there are no moments for the changes because of `held`, and the way is not simple, replays it without `held`."""
-    begins, cycle_count, error = steps_of(question, path)
+    """Returns the session lines that replay a counterexample up to the cycle in which the property fails. Also returns a description of the error in
+    the counterexample, or "" if it has none. If `held` makes the changes impossible, and the search is not exact for these steps, ignores `held`."""
+    step_starts, cycle_count, error = steps_of(question, path)
     lines, limits = [*itertools.chain(*question.texts()), "reset"], question.limits
     if error:
         return lines, error
-    changes = earliest_changes(begins, limits)
-    if changes is None and not is_simple(begins, limits):
+    changes = earliest_changes(step_starts, limits)
+    if changes is None and not is_search_exact(step_starts, limits):
         limits = replace(limits, held=0)
-        changes = earliest_changes(begins, limits)
+        changes = earliest_changes(step_starts, limits)
     if changes is None:
-        return lines, f"the levels at {begins} need changes that are not allowed"
+        return lines, f"the levels at {step_starts} need changes that are not allowed"
     levels_before = LEVELS_AT_POWER_ON
     shown_changes = [(moment, levels) for moment, levels in changes if moment < cycle_count]
     for (moment, levels), (next_moment, _levels) in itertools.pairwise([*shown_changes, (cycle_count, LEVELS_AT_POWER_ON)]):
-        lines += commands(levels, levels_before) + [f"run {part}" for part in run_lengths(next_moment - moment)]
+        lines += level_commands(levels, levels_before) + [f"run {part}" for part in run_lengths(next_moment - moment)]
         levels_before = levels
     return lines, limit_error(limits, changes) or change_error(question, changes, cycle_count)
 

@@ -13,8 +13,8 @@ from board4004 import Board
 
 INVALID_CODES = [*range(1, 16), 0xE3, 0xFE, 0xFF]
 JUMPS = ("JUN", "JMS", "JCN", "ISZ")
-NAMES = ("inf", "nan", "INFINITY", "infinity", "NaN", "INF", "e0", "E1", "_0E0", "x1e2")
-ORIGINS = (0x00, 0x02, 0x1E, 0x40, 0xD9, 0xDE, 0xE0, 0xE1, 0xF0, 0xF9)
+NUMBER_LIKE_NAMES = ("inf", "nan", "INFINITY", "infinity", "NaN", "INF", "e0", "E1", "_0E0", "x1e2")
+ORG_OFFSETS = (0x00, 0x02, 0x1E, 0x40, 0xD9, 0xDE, 0xE0, 0xE1, 0xF0, 0xF9)
 # The maximum number of bytes in the text of a board or of a program.
 MAX_TEXT_BYTES = 16384
 
@@ -39,19 +39,19 @@ class Wiring:
         self.columns: list[str] = []
         if self.chains and self.inputs:
             self.driver = rng.randrange(len(self.chains))
-            bits = 10 * self.chains[self.driver][2]
-            self.rows = rng.randrange(1, min(10, bits) + 1)
-            self.first = rng.randrange(min(20, bits - self.rows) + 1)
+            bit_count = 10 * self.chains[self.driver][2]
+            self.rows = rng.randrange(1, min(10, bit_count) + 1)
+            self.first = rng.randrange(min(20, bit_count - self.rows) + 1)
             self.columns = rng.choices(self.inputs, k=rng.randrange(1, 9))
         bits_of_chains = [f"chain{n}.{bit}" for n, chain in enumerate(self.chains) for bit in range(10 * chain[2])]
         self.lines = [line for lines in self.outputs for line in lines] + bits_of_chains
         self.lamps = rng.choices(self.lines, k=rng.choice([0, 3, 8, 20])) if self.lines else []
 
     def chain(self) -> tuple[str, str, int]:
-        """Returns the clock and the data of a chain, usually on the same port, and its number of chips."""
-        lines = self.rng.choice(self.outputs)
-        data_lines = lines if self.rng.random() < 0.8 else self.rng.choice(self.outputs)
-        return self.rng.choice(lines), self.rng.choice(data_lines), self.rng.choice([1, 2, 3, 8, 8])
+        """Returns the clock line and the data line of a chain, usually on the same port, and the number of chips in the chain."""
+        clock_lines = self.rng.choice(self.outputs)
+        data_lines = clock_lines if self.rng.random() < 0.8 else self.rng.choice(self.outputs)
+        return self.rng.choice(clock_lines), self.rng.choice(data_lines), self.rng.choice([1, 2, 3, 8, 8])
 
     def text(self) -> list[str]:
         """Returns the text of the board."""
@@ -81,7 +81,7 @@ class Program:
         self.loops: dict[int, int] = {}
         self.free = set(range(ADDRESS_COUNT))
         for page in wiring.pages:
-            for word in {0, *rng.sample(ORIGINS, 2)} if page == 0 else rng.sample(ORIGINS, rng.randrange(1, 4)):
+            for word in {0, *rng.sample(ORG_OFFSETS, 2)} if page == 0 else rng.sample(ORG_OFFSETS, rng.randrange(1, 4)):
                 self.put_phrases(256 * page + word, rng.randrange(4, 30))
             if rng.random() < 0.5:
                 self.put_end_of_page(256 * page)
@@ -91,8 +91,8 @@ class Program:
     def put_phrases(self, address: int, phrase_count: int) -> None:
         """Adds phrases (short sequences of instructions) from an address on, as far as there is room. Usually ends them with a jump, or with a code
         that is not an instruction."""
-        statement = [word for _n in range(phrase_count) for word in self.phrase()]
-        self.put(address, statement + self.rng.choice([["JUN"], ["JUN"], ["BBL 3"], [f"DB 0x{self.rng.choice(INVALID_CODES):02X}"], []]))
+        statements = [word for _n in range(phrase_count) for word in self.phrase()]
+        self.put(address, statements + self.rng.choice([["JUN"], ["JUN"], ["BBL 3"], [f"DB 0x{self.rng.choice(INVALID_CODES):02X}"], []]))
 
     def put(self, address: int, statements: list[str]) -> None:
         """Adds statements from an address on, as far as there is room. `^5` after a jump sets its target to the first of the last five statements,
@@ -147,8 +147,8 @@ class Program:
         selection = [f"FIM P{pair}, 0x{16 * numbers[0] if clock.startswith('rom') else 64 * numbers[1]:02X}", f"SRC P{pair}"]
         if clock.startswith("ram"):
             selection = [f"LDM {numbers[0]}", "DCL", *selection]
-        write = "WRR" if clock.startswith("rom") else "WMP"
-        pulse = [up, write, down, write]
+        write_mnemonic = "WRR" if clock.startswith("rom") else "WMP"
+        pulse = [up, write_mnemonic, down, write_mnemonic]
         return selection + (self.rng.randrange(1, 6) * pulse if self.rng.random() < 0.5 else [*pulse, f"ISZ R{self.rng.randrange(16)} ^5"])
 
     def any_instruction(self, value: int, pair: int) -> str:
@@ -162,10 +162,10 @@ class Program:
     def random_labels(self) -> dict[int, str]:
         """Returns labels for some of the addresses. Some of the labels look like numbers."""
         labelled_addresses = self.rng.sample(self.begins, min(len(self.begins), self.rng.choice([0, 2, 12])))
-        return {address: NAMES[i] if i < len(NAMES) else f"l{address:03X}" for i, address in enumerate(labelled_addresses)}
+        return {address: NUMBER_LIKE_NAMES[i] if i < len(NUMBER_LIKE_NAMES) else f"l{address:03X}" for i, address in enumerate(labelled_addresses)}
 
     def target(self, address: int, name: str) -> str:
-        """Returns the target of a jump as a name or a number, usually that of an instruction."""
+        """Returns the target of a jump as a name or a number. Usually an instruction is at the target."""
         if address in self.loops:
             return self.names.get(self.loops[address], f"0x{self.loops[address]:03X}")
         page = (address + 2) % ADDRESS_COUNT >> 8 if name in ("JCN", "ISZ") else self.rng.choice(self.wiring.pages)
@@ -208,13 +208,13 @@ class SeededSession:
         return ["wire", *self.board_text, ".", "asm", *self.program_text, "."]
 
     def address(self) -> int:
-        """Returns an address, usually of an instruction, and often before a loop that clocks a chain, or at the end of a page."""
+        """Returns an address, usually of an instruction. Often, a loop that clocks a chain follows it, or it is at the end of a page."""
         loops = [target_address - 3 for target_address in self.program.loops.values()]
         if loops and self.rng.random() < 0.3:
             return self.rng.choice(loops)
-        ends = [address for address in self.program.begins if address & 0xFC == 0xFC]
-        if ends and self.rng.random() < 0.2:
-            return self.rng.choice(ends)
+        addresses_at_page_end = [address for address in self.program.begins if address & 0xFC == 0xFC]
+        if addresses_at_page_end and self.rng.random() < 0.2:
+            return self.rng.choice(addresses_at_page_end)
         return self.rng.choice(self.program.begins) if self.rng.random() < 0.95 else self.rng.randrange(ADDRESS_COUNT)
 
     def ram_nibble(self) -> tuple[int, int]:
@@ -235,21 +235,21 @@ class SeededSession:
             kinds += [f"press {key}"] * 3 + [f"release {key}"]
         return rng.choice(kinds)
 
-    def stop_command(self, board: Board) -> str:
-        """Returns a command that sets or removes a breakpoint or a watch, usually one that the program soon reaches, or at which it has stopped."""
+    def breakpoint_or_watch_command(self, board: Board) -> str:
+        """Returns a command that sets or removes a breakpoint or a watch. Usually the program will soon reach it, or has stopped at it."""
         board_ahead, visited, written_nibbles = board.copy(), [board.pc], [self.ram_nibble()]
         board_ahead.breaks = set()
 
-        def note_address(_done: int, address: int) -> None:
+        def record_address(_done: int, address: int) -> None:
             visited.append(address)
             written_nibbles.extend([(board_ahead.dcl, board_ahead.chips.bank_src[board_ahead.dcl])] if board_ahead.rom[address] == 0xE0 else [])
 
-        board_ahead.run(300, note_address)
+        board_ahead.run(300, record_address)
         address, (bank, src) = self.rng.choice([board.pc, self.address(), *visited[-20:]]), self.rng.choice(written_nibbles)
         return self.rng.choice([f"break {address}"] * 2 + [f"unbreak {address}"] + [f"watch {bank} {src}"] * 2 + [f"unwatch {bank} {src}"])
 
     def trace_place(self) -> str:
-        """Returns a place for `trace`, which the board does not always have."""
+        """Returns a place for `trace`. The board may lack this place."""
         rng = self.rng
         bank, src = self.ram_nibble()
         line = rng.choice(self.wiring.lines + self.wiring.inputs + [f"chain{rng.randrange(4)}.{rng.randrange(80)}"])

@@ -32,26 +32,26 @@ def random_program(number):
     undefined_names = list(names)
     rng.shuffle(undefined_names)
 
-    def value(maximum):
+    def random_value(maximum):
         return rng.choice([str(rng.randrange(maximum + 1)), f"0x{rng.randrange(maximum + 1):x}"])
 
-    def target():
-        return rng.choice([*names, value(300)]) if rng.random() < 0.7 else value(300)
+    def random_target():
+        return rng.choice([*names, random_value(300)]) if rng.random() < 0.7 else random_value(300)
 
-    def line():
-        statement = rng.choice(["NOP", "wrr", "ADD R3", "Src p1", "", f"LDM {value(15)}", f"FIM P2, {value(255)}", f"JUN {target()}",
-                              f"JMS {target()}", f"ISZ r4, {value(255)}", f"JCN 4, {value(255)}",
-                              "DB " + ", ".join(value(255) for _ in range(rng.randrange(1, 9)))])
+    def random_line():
+        statement = rng.choice(["NOP", "wrr", "ADD R3", "Src p1", "", f"LDM {random_value(15)}", f"FIM P2, {random_value(255)}", f"JUN {random_target()}",
+                              f"JMS {random_target()}", f"ISZ r4, {random_value(255)}", f"JCN 4, {random_value(255)}",
+                              "DB " + ", ".join(random_value(255) for _ in range(rng.randrange(1, 9)))])
         if rng.random() < 0.02:
             statement = rng.choice(["ORG 4096", "LDM 16", "DB 256", "DB", "NOP NOP", "ORG 4095", "JUN nowhere", "ORG 0", "n0 = 4096", "R1: NOP"])
         if rng.random() < 0.06:
             statement = f"ORG {rng.randrange(0, 4000)}"
         if undefined_names and rng.random() < 0.15:
             name = undefined_names.pop()
-            statement = f"{name}: {statement}" if rng.random() < 0.8 else f"{name} = {value(4095)}"
+            statement = f"{name}: {statement}" if rng.random() < 0.8 else f"{name} = {random_value(4095)}"
         return rng.choice(["", " ", "\t"]) + statement + rng.choice(["", "", " ; a comment", "\t;"])
 
-    lines = [line() for _ in range(rng.randrange(1, 60))]
+    lines = [random_line() for _ in range(rng.randrange(1, 60))]
     return lines + [f"{name}:" for name in undefined_names if rng.random() < 0.98]
 
 

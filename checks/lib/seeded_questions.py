@@ -1,5 +1,5 @@
 """Random questions for mcs4-prove, reproducible from a seed. Each has a random board (seeded_boards.py), a short program that reads keys and TEST in
-loops, and comparisons of values that such a program changes. Some of the comparisons become true, and some never do. Some questions also ask about
+loops, and conditions that compare values that such a program changes. Some of these become true, and some never do. Some questions also ask about
 mistakes in the program. A quarter of the questions have a stopwatch, and a quarter have marks (second_search.py explains these words). The same
 questions can also be asked with limits on the inputs."""
 
@@ -52,9 +52,9 @@ class ReadingProgram(Program):
         selection = [f"FIM P{pair}, 0x{16 * numbers[0] if clock.startswith('rom') else 64 * numbers[1]:02X}", f"SRC P{pair}"]
         if clock.startswith("ram"):
             selection = [f"LDM {numbers[0]}", "DCL", *selection]
-        write = "WRR" if clock.startswith("rom") else "WMP"
+        write_mnemonic = "WRR" if clock.startswith("rom") else "WMP"
         data_bit = 1 << int(data[-1]) if self.rng.random() < 0.7 else 0
-        return selection + self.rng.randrange(1, 4) * [f"LDM {data_bit}", write, f"LDM {data_bit | 1 << numbers[-1]}", write]
+        return selection + self.rng.randrange(1, 4) * [f"LDM {data_bit}", write_mnemonic, f"LDM {data_bit | 1 << numbers[-1]}", write_mnemonic]
 
     def selection_phrases(self, pair: int) -> list[str]:
         """Returns instructions that select a chip, usually one with inputs."""
@@ -67,9 +67,9 @@ class ReadingProgram(Program):
         register = rng.choice(self.registers)
         kind = rng.random()
         if kind < 0.30:
-            return self.selection_phrases(rng.randrange(8)) + ["RDR"] + self.use_phrases(register)
+            return self.selection_phrases(rng.randrange(8)) + ["RDR"] + self.phrases_that_use(register)
         if kind < 0.55:
-            return [f"JCN {rng.choice([1, 1, 9, 9, 3, 5, 7, 11, 13, 15])}", *self.use_phrases(register)]
+            return [f"JCN {rng.choice([1, 1, 9, 9, 3, 5, 7, 11, 13, 15])}", *self.phrases_that_use(register)]
         if kind < 0.65:
             return [f"INC R{register}"] if rng.random() < 0.5 else [f"ISZ R{register}"]
         if kind < 0.75:
@@ -77,10 +77,10 @@ class ReadingProgram(Program):
         if kind < 0.80:
             return [rng.choice(["JMS", "BBL 1", f"LDM {rng.randrange(16)}", "JUN"])]
         if kind < 0.88:
-            return [rng.choice(["RDM", "ADM", "SBM", "RD0", "RD1"]), *self.use_phrases(register)]
+            return [rng.choice(["RDM", "ADM", "SBM", "RD0", "RD1"]), *self.phrases_that_use(register)]
         return [self.any_instruction(register, register // 2)] if rng.random() < 0.3 else [rng.choice(CHIPLESS_INSTRUCTIONS)]
 
-    def use_phrases(self, register: int) -> list[str]:
+    def phrases_that_use(self, register: int) -> list[str]:
         """Returns instructions that use a value that was read."""
         rng = self.rng
         written = [name for name in CODES_WITHOUT_OPERAND if name.startswith("W") and name != "WPM"]
@@ -113,7 +113,7 @@ class KeyReadingProgram(ReadingProgram):
     def loop_phrases(self) -> list[str]:
         """Returns instructions for the loop, which usually read the columns and use the value."""
         if self.rng.random() < 0.6:
-            return self.selection_phrases(self.rng.randrange(8)) + ["RDR"] + self.use_phrases(self.rng.choice(self.registers))
+            return self.selection_phrases(self.rng.randrange(8)) + ["RDR"] + self.phrases_that_use(self.rng.choice(self.registers))
         return super().loop_phrases()
 
 
@@ -158,7 +158,7 @@ def random_comparison(rng: random.Random, wiring: Wiring, boards: list[dict[tupl
 
 
 def comparisons_at_address(recorded_values: dict[tuple[str, int], int]) -> Row:
-    """Returns comparisons that are true when the program counter has the value in a recorded state, between two instructions."""
+    """Returns comparisons that are true when the machine is between two instructions and its program counter has the recorded value."""
     return [("in", "counter", 3, "whole", 0, 0), *(("in", "counter", n, "whole", *[recorded_values["counter", n]] * 2) for n in (4, 5))]
 
 
@@ -182,30 +182,30 @@ def add_stopwatch(question: Question, rng: random.Random, wiring: Wiring, boards
         question.begins = [[random_comparison(rng, wiring, boards)] for _row in range(rng.choice([1, 2]))]
         question.ends = [[random_comparison(rng, wiring, boards), *([("mistake", *MISTAKES)] if rng.random() < 0.2 else [])] for _row in range(rng.choice([1, 2]))]
     if rng.random() < 0.15:
-        # Compare the lowest byte of the number that the stopwatch shows.
+        # Adds a comparison of the lowest byte of the number that the stopwatch shows.
         question.ends.append([("in", "counter", 16, "whole", rng.randrange(1, 6), 255)])
     question.within = max(0, longest_time(question, rng) + rng.choice([-1, 0, 0, 0, 1, 3]))
 
 
 def longest_time(question: Question, rng: random.Random) -> int:
-    """Returns the longest time that the stopwatch of a question shows on several random walks."""
-    shown = [0]
+    """Returns the longest time, in cycles, that the stopwatch of a question shows during some random walks."""
+    shown_times = [0]
 
-    def note(board: QuestionBoard) -> bool:
-        shown.append(board.elapsed)
+    def record_elapsed(board: QuestionBoard) -> bool:
+        shown_times.append(board.elapsed)
         return False
 
     for _walk in range(TIMED_WALKS):
         board = power_on(dataclasses.replace(question, within=0))
         for _n in range(MAX_WALK_STATES):
             values = values_read(board)
-            run_to_next_state(board, values[rng.choice(sorted(values))], note, min(question.pause, 50))
-    return max(shown)
+            run_to_next_state(board, values[rng.choice(sorted(values))], record_elapsed, min(question.pause, 50))
+    return max(shown_times)
 
 
 def add_marks(question: Question, rng: random.Random, wiring: Wiring) -> None:
-    """Adds marks that must be seen before a cell has a certain value. On a random walk, the cell gets this value for the first time after reads that
-    usually show these marks."""
+    """Adds marks that must be seen before a cell has a certain value. The cell gets this value for the first time during a random walk. Usually, the
+    earlier reads of the walk show these marks."""
     if rng.random() < 0.5:
         question.nevers = []
     cells, walk = cells_of(wiring), marks_on_walk(question, rng)
@@ -222,7 +222,7 @@ def add_marks(question: Question, rng: random.Random, wiring: Wiring) -> None:
     chosen_indexes = sorted(rng.sample(range(len(shown)), min(len(shown), rng.choice([1, 1, 1, 2, 2, 3]))))
     question.marks = [shown[index_of_mark] for index_of_mark in chosen_indexes] or [("up", 0, 0), ("down", 0, 0)][:rng.choice([1, 2])]
     if rng.random() < 0.15:
-        # Compare the number of marks that were seen.
+        # Adds a comparison of the number of marks that were seen.
         question.nevers.append([("in", "counter", 17, "whole", rng.randrange(1, len(question.marks) + 2), 255)])
 
 
@@ -250,7 +250,7 @@ def key_waiting_question(rng: random.Random, wiring: Wiring) -> Question:
 
 
 def marks_on_walk(question: Question, rng: random.Random) -> list[tuple[QuestionBoard, list[Mark]]]:
-    """Returns the machine at some states of a random walk, each with the marks that the next cycle shows."""
+    """Returns some of the states that a random walk visits: copies of the machine, each with the marks that its next cycle shows."""
     board, walk = power_on(question), []
     for _n in range(2 * MAX_WALK_STATES):
         values = values_read(board)
@@ -353,22 +353,22 @@ def limited_question(seed: int, max_states: int) -> Question:
     rng = random.Random(f"limits {seed}")
     for _attempt in range(MAX_ATTEMPTS):
         question = random_limited_question(rng, max_states)
-        few_states = dataclasses.replace(question, max_states=30)
-        if search(few_states) != search(without_limits(few_states)):
+        few_states_question = dataclasses.replace(question, max_states=30)
+        if search(few_states_question) != search(without_limits(few_states_question)):
             break
     return question
 
 
 def lines_in_random_order(question: Question, rng: random.Random) -> list[str]:
-    """Returns the lines of a question, with the lines of its limits at random positions outside the texts. One of these lines is repeated. If there
-    is a `together`, `wait` or `held` line, another one with another number precedes it, because only the last one counts."""
+    """Returns the lines of a question, with the lines of its limits at random positions outside the texts. Repeats a `press`, `only` or `test` line.
+    Before each `together`, `wait` or `held` line, inserts another such line with another number, because only the last one counts."""
     limits = question.limits.lines()
-    numbered = [line for line in limits if line.startswith(("together", "wait", "held"))]
-    other_values = [line for line in limits if line not in numbered]
+    numbered_lines = [line for line in limits if line.startswith(("together", "wait", "held"))]
+    other_lines = [line for line in limits if line not in numbered_lines]
     parts = without_limits(question).parts()
-    for line in [*other_values, *rng.sample(other_values, min(len(other_values), 1))]:
+    for line in [*other_lines, *rng.sample(other_lines, min(len(other_lines), 1))]:
         parts.insert(rng.randrange(len(parts)), [line])
-    for line in numbered:
+    for line in numbered_lines:
         position = rng.randrange(len(parts))
         parts.insert(position, [line])
         parts.insert(rng.randrange(position + 1), [f"{line.split()[0]} {rng.randrange(2, 256)}"])

@@ -1,7 +1,7 @@
-"""Random questions for mcs4-prove with `wait`, reproducible from a seed. Most of them are about programs that read an input several times, and that
-look for certain levels, one after another. The time between two changes decides whether these levels are possible. The other questions are those of
-seeded_questions.py. The boards have few keys, or the limits allow few keys, so that a search can try all levels. In half of the questions, `held`
-limits the time for which a key is down, too. Most of these look for a key that is down several times in succession."""
+"""Random questions for mcs4-prove with `wait`, reproducible from a seed. Most of them are about programs that read an input several times, and ask
+whether the reads can return certain levels, one after another. The time between two changes decides whether they can. The other questions are those
+of seeded_questions.py. The boards have few keys, or the limits allow few keys, so that a search can try all levels. In half of the questions, `held`
+also limits the time for which a key is down. Most of these ask whether several reads in succession can find a key down."""
 
 from __future__ import annotations
 
@@ -17,9 +17,9 @@ from second_waits import search_by_steps, with_held, with_wait
 MAX_WAIT, MAX_KEYS = 40, 3
 # The largest `held`.
 MAX_HELD = 70
-# The maximum numbers of states of a search by steps, and of different cycles of a literal search.
+# The maximum number of states in a search by steps, and the maximum number of cycles from different states that a literal search runs.
 MAX_STATES, MAX_CYCLES = 1500, 12000
-# The maximum number of questions that are tried for a seed, until `wait` matters, and the maximum number of states of the searches that decide this.
+# For a seed, questions are tried until the answer to one depends on `wait`. The maximum number of tries, and of states in a search that decides this.
 MAX_ATTEMPTS, FEW_STATES = 6, 300
 
 
@@ -33,7 +33,7 @@ class FewKeyWiring(KeyWiring):
 
 
 def delay_phrases(rng: random.Random) -> list[str]:
-    """Returns instructions between two reads, which take some cycles."""
+    """Returns instructions to put between two reads, so that some cycles pass."""
     kind = rng.random()
     if kind < 0.2:
         register = rng.choice([8, 9])
@@ -42,9 +42,9 @@ def delay_phrases(rng: random.Random) -> list[str]:
 
 
 def pattern_question(rng: random.Random, wiring: KeyWiring, levels: list[int] | None = None, of_test: bool = False) -> Question:
-    """Returns a question about a program that reads an input several times. Usually each read must show the opposite of the read before it. If there
-    are `levels`, the reads must show these levels of one key, or of TEST if `of_test`. Then the program stores a number in a register, or it takes
-    some time. The property excludes this number, or this time, or this number before marks."""
+    """Returns a question about a program that reads an input several times, and continues only if the reads return certain levels. Usually each must
+    be the opposite of the one before it. If there are `levels`, one key must have these levels, or TEST if `of_test` is true. Then the program stores
+    a number in a register, or it waits. The property says that this number, this waiting time, or this number without marks cannot occur."""
     row, register, number = rng.randrange(wiring.rows), rng.randrange(8), rng.randrange(1, 16)
     program = [" FIM P7, 0", " SRC P7"]
     for bit in range(wiring.first + row + 1):
@@ -52,23 +52,23 @@ def pattern_question(rng: random.Random, wiring: KeyWiring, levels: list[int] | 
         program += [f" LDM {data}", " WRR", f" LDM {data + 1}", " WRR"]
     program += [" FIM P6, 0x10", " SRC P6", "loop: CLB", *([f" XCH R{register}"] if rng.random() < 0.8 else [])]
     level, column, reads_test, marks = rng.randrange(2), rng.randrange(len(wiring.columns)), of_test if levels else rng.random() < 0.4, []
-    # At another level, the program begins again, or it ends.
-    other = rng.choice(["loop", "loop", "end"])
+    # If a read returns the wrong level, the program starts again or ends.
+    wrong_level_target = rng.choice(["loop", "loop", "end"])
     for n in range(len(levels) if levels else rng.choice([2, 3, 3, 3, 4])):
         level = levels[n] if levels else level
-        # Some reads are repeated until the level is right.
-        target = other if rng.random() < 0.85 else f"read{n}"
+        # The program repeats some reads until they return the right level.
+        target = wrong_level_target if rng.random() < 0.85 else f"read{n}"
         if reads_test:
             program += [f"read{n}: JCN {1 if level else 9}, {target}"]
         else:
-            to_carry = (int(wiring.columns[column][-1]) + 1) * [" RAR"]
-            program += [f"read{n}: RDR", *to_carry, f" JCN {10 if level else 2}, {target}"]
+            rotate_to_carry = (int(wiring.columns[column][-1]) + 1) * [" RAR"]
+            program += [f"read{n}: RDR", *rotate_to_carry, f" JCN {10 if level else 2}, {target}"]
             marks.append(("down" if level else "up", row, column))
         program += [line.replace("%d", str(n)) for line in delay_phrases(rng)]
         level = 1 - level if rng.random() < 0.9 else level
         column, reads_test = (rng.randrange(len(wiring.columns)), rng.random() < 0.4) if rng.random() < 0.3 and not levels else (column, reads_test)
     question = Question(wiring.text(), program)
-    # Time limits and marks are rarer if there are levels: then the property often fails without them.
+    # If `levels` are given, time limits and marks are rarer, because the property then often fails without them.
     kind = rng.random() * (3 if levels else 1)
     if kind < 0.2:
         question.program += ["late:", *rng.randrange(20, 60) * [" NOP"]]
@@ -85,23 +85,23 @@ def pattern_question(rng: random.Random, wiring: KeyWiring, levels: list[int] | 
 
 
 def add_time_limit(question: Question, rng: random.Random) -> None:
-    """Adds a stopwatch that measures the time of a pass through the program's loop. Its limit is below the time of a pass that sees all levels."""
+    """Adds a stopwatch that measures each pass through the program's loop. If all reads of a pass return the right levels, it exceeds the limit."""
     names = assemble(question.program)[2]
-    begin = comparisons_at_address({("counter", 4): names["loop"] >> 8, ("counter", 5): names["loop"] & 255})
-    question.begins, question.ends = [begin], [begin]
+    loop_start = comparisons_at_address({("counter", 4): names["loop"] >> 8, ("counter", 5): names["loop"] & 255})
+    question.begins, question.ends = [loop_start], [loop_start]
     question.within = names["late"] - names["loop"] + rng.randrange(10, 60)
 
 
 def add_marks(question: Question, rng: random.Random, wiring: KeyWiring, marks: list[Mark]) -> None:
-    """Adds marks: some of those that the program waits for, and usually another one, which it does not wait for."""
+    """Adds some of `marks`, which the program waits for. Usually also adds a mark that the program does not wait for."""
     question.marks = [mark for mark in marks if rng.random() < 0.8]
     if rng.random() < 0.7 or not question.marks:
         mark = rng.choice(["up", "down"]), rng.randrange(wiring.rows), rng.randrange(len(wiring.columns))
         question.marks.insert(rng.randrange(len(question.marks) + 1), mark)
 
 
-def few_inputs(rng: random.Random, keys: list[Key]) -> InputLimits:
-    """Returns limits that allow few levels of the keys of a board."""
+def limits_to_few_inputs(rng: random.Random, keys: list[Key]) -> InputLimits:
+    """Returns limits that allow only a few combinations of key and TEST levels."""
     if len(keys) <= MAX_KEYS and rng.random() < 0.5:
         return InputLimits(rng.choice([None, None, None, 1, 2]))
     return InputLimits(rng.choice([None, None, None, 1, 2]), True, rng.sample(keys, rng.randrange(min(len(keys), MAX_KEYS) + 1)), rng.random() < 0.7)
@@ -119,29 +119,30 @@ def random_spaced_question(rng: random.Random) -> Question:
         question = seeded_question(rng.randrange(100000), MAX_STATES)
         question.pause = min(question.pause, 50)
     question.max_states = MAX_STATES
-    question.limits = few_inputs(rng, all_keys(power_on(question)))
+    question.limits = limits_to_few_inputs(rng, all_keys(power_on(question)))
     return question
 
 
 def largest_failing_wait(question: Question) -> int:
     """Returns the largest `wait` up to MAX_WAIT with which a short search finds a failure. Returns 1 if there is none."""
-    few_states = dataclasses.replace(question, max_states=FEW_STATES)
-    low, high = 1, MAX_WAIT if search(few_states).verdict == "may fail" else 1
+    few_states_question = dataclasses.replace(question, max_states=FEW_STATES)
+    low, high = 1, MAX_WAIT if search(few_states_question).verdict == "may fail" else 1
     while low < high:
         middle = (low + high + 1) // 2
-        low, high = (middle, high) if search_by_steps(with_wait(few_states, middle)).verdict == "may fail" else (low, middle - 1)
+        low, high = (middle, high) if search_by_steps(with_wait(few_states_question, middle)).verdict == "may fail" else (low, middle - 1)
     return low
 
 
 def spaced_question(seed: int) -> Question:
-    """Returns a random question with `wait`. Seven of eight are the first one, among a few attempts, for which `wait` matters. Then `wait` is usually
-    the largest one with which the property can fail, or one more. The search for one in eight may visit only a few states."""
+    """Returns a random question with `wait`. For seven of eight seeds, it tries a few questions and returns the first whose answer depends on `wait`.
+    Then `wait` is usually the largest value with which the property can fail, or one more. For one of eight seeds, the search may visit only a few
+    states."""
     rng = random.Random(f"waits {seed}")
     for _attempt in range(1 if seed % 8 == 7 else MAX_ATTEMPTS):
         question = random_spaced_question(rng)
-        longest = largest_failing_wait(question)
-        question = with_wait(question, min(max(longest + rng.choice([0, 0, 1, 1, 1, rng.randrange(-3, 4)]), 2), MAX_WAIT))
-        if 2 <= longest < MAX_WAIT:
+        largest_wait = largest_failing_wait(question)
+        question = with_wait(question, min(max(largest_wait + rng.choice([0, 0, 1, 1, 1, rng.randrange(-3, 4)]), 2), MAX_WAIT))
+        if 2 <= largest_wait < MAX_WAIT:
             break
     if seed % 8 == 3:
         question.max_states = rng.randrange(4, 30)
@@ -165,26 +166,26 @@ def smallest_failing_held(question: Question) -> int:
 
 
 def levels_of_presses(rng: random.Random) -> list[int]:
-    """Returns the levels that reads of a key show: it is up, and then down several times, once or twice."""
+    """Returns the levels that successive reads of a key return, for one or two presses: 0 while the key is up, and then 1 while it is down."""
     levels = [level for _press in range(rng.choice([1, 1, 2])) for level in rng.randrange(3) * [0] + rng.randrange(2, 5) * [1]]
     return levels + rng.randrange(2) * [0]
 
 
 def random_held_question(rng: random.Random, levels: list[int]) -> Question:
-    """Returns a random question with few levels, which usually looks for these levels of a key. In most questions, only one key is down at a time. In
-    most of these, TEST is constant."""
+    """Returns a random question with few levels. Usually it asks whether a key can have these levels, one after the other. In most questions, at most
+    one key is down at a time, and TEST is usually constant then."""
     question = pattern_question(rng, FewKeyWiring(rng), levels) if rng.random() < 0.9 else random_spaced_question(rng)
     keys = all_keys(power_on(question))
-    question.limits = InputLimits(1, True, keys[:MAX_KEYS], rng.random() < 0.2) if rng.random() < 0.75 else few_inputs(rng, keys)
+    question.limits = InputLimits(1, True, keys[:MAX_KEYS], rng.random() < 0.2) if rng.random() < 0.75 else limits_to_few_inputs(rng, keys)
     return question
 
 
 def question_at_smallest_held(rng: random.Random) -> tuple[Question, bool]:
-    """Returns a random question with `wait`, and with about the smallest `held` with which a search by steps finds a failure. Also returns true if
-    this is more than `wait`."""
+    """Returns a random question with `wait` and `held`. Its `held` is near the smallest value with which a search by steps finds a failure. Also
+    returns true if this smallest value is more than `wait`."""
     question = with_wait(random_held_question(rng, levels_of_presses(rng)), rng.randrange(2, MAX_WAIT // 3))
     if rng.random() < 0.75:
-        # The levels cannot change twice during a step.
+        # With such a pause, every step is shorter than `wait`, so the levels cannot change twice during a step.
         question.pause = min(question.pause, question.limits.wait - 1)
     question.max_states = MAX_STATES
     smallest = smallest_failing_held(question)
@@ -193,15 +194,16 @@ def question_at_smallest_held(rng: random.Random) -> tuple[Question, bool]:
 
 
 def question_at_largest_wait(rng: random.Random) -> tuple[Question, bool]:
-    """Returns a random question with the largest `wait` with which a key can be released and pressed between two reads. With `held`, it cannot be down
-    all the time. Also returns true if there is such a `wait`."""
+    """Returns a random question with the largest `wait` with which a key can be released and pressed between two reads. Its `held` does not allow a
+    key to be down all the time. Also returns true if there is such a `wait`."""
     question = with_held(random_held_question(rng, rng.choice([[1, 1], [0, 1, 1], [1, 1, 0]])), 2)
-    longest = largest_failing_wait(question)
-    return with_held(with_wait(question, max(longest, 2)), max(longest, 2) + rng.randrange(2)), 2 <= longest < MAX_WAIT
+    largest_wait = largest_failing_wait(question)
+    return with_held(with_wait(question, max(largest_wait, 2)), max(largest_wait, 2) + rng.randrange(2)), 2 <= largest_wait < MAX_WAIT
 
 
 def question_without_presses(rng: random.Random) -> tuple[Question, bool]:
-    """Returns a random question about levels that `held` does not limit: a key that is up, or TEST at 1. Also returns true."""
+    """Returns a random question about levels that `held` does not limit: a key that is up, or TEST at 1. Also returns true, because `held_question`
+    must accept each of these questions."""
     of_test = rng.random() < 0.5
     question = pattern_question(rng, FewKeyWiring(rng), rng.randrange(6, 10) * [int(of_test)], of_test)
     keys = [] if of_test else all_keys(power_on(question))[:MAX_KEYS]
@@ -211,10 +213,10 @@ def question_without_presses(rng: random.Random) -> tuple[Question, bool]:
 
 
 def held_question(seed: int) -> Question:
-    """Returns a random question with `wait` and `held`. It is usually the first one, among some attempts, for which `held` matters. The search for one
-    in eight may visit only a few states. One in sixteen has the largest `wait`, with which some properties hold without `held`."""
-    rng, most = random.Random(f"held {seed}"), question_at_smallest_held
-    make_question = (most, most, question_at_largest_wait, most, most, most, question_at_largest_wait, question_without_presses)[seed % 8]
+    """Returns a random question with `wait` and `held`. Tries some questions, and usually returns the first whose answer depends on `held`. For one
+    of eight seeds, the search may visit only a few states. For one of 16 seeds, `wait` is MAX_WAIT, so that some properties hold without `held`."""
+    rng, usual_maker = random.Random(f"held {seed}"), question_at_smallest_held
+    make_question = (usual_maker, usual_maker, question_at_largest_wait, usual_maker, usual_maker, usual_maker, question_at_largest_wait, question_without_presses)[seed % 8]
     for _attempt in range(3 * MAX_ATTEMPTS):
         question, is_chosen = make_question(rng)
         if is_chosen:

@@ -18,7 +18,7 @@ MAX_RECORD_BYTES = 8_192
 MAX_CYCLES = 4_000_000
 
 
-def number(value, count):
+def encoded_number(value, count):
     """Returns a number as `count` bytes, with the most significant byte first."""
     return value.to_bytes(count, "big")
 
@@ -26,12 +26,12 @@ def number(value, count):
 # --- boards and states
 
 def rom_line(chip, line):
-    """Returns the bytes that encode a line of a ROM chip's port."""
+    """Returns the bytes that encode an I/O line of a ROM chip's port."""
     return bytes([0, chip, line, 0])
 
 
 def ram_line(bank, chip, line):
-    """Returns the bytes that encode a line of a RAM chip's port."""
+    """Returns the bytes that encode an I/O line of a RAM chip's port."""
     return bytes([1, bank, chip, line])
 
 
@@ -41,15 +41,15 @@ def chain_line(chain, bit):
 
 
 def name_of(line):
-    """Returns the name of a line in a board's text, for example rom0.3."""
+    """Returns the name of an I/O line in a board's text, for example rom0.3."""
     kind, *numbers = line
     return ("rom{}.{}", "ram{}.{}.{}", "chain{}.{}")[kind].format(*numbers)
 
 
 @dataclasses.dataclass
 class Board:
-    """A board: the ports by the ROM's number, the numbers of RAM chips by bank, chains as (clock, data, chips), keys as (chain, first, rows,
-    columns), and lamps as lines."""
+    """A board. `roms` has the port of each ROM, and `banks` the number of RAM chips in each bank. A chain is (clock, data, chips), and the keys are
+    (chain, first, rows, columns). `lamps` has the I/O lines of the lamps."""
     roms: dict = dataclasses.field(default_factory=dict)
     banks: dict = dataclasses.field(default_factory=dict)
     chains: list = dataclasses.field(default_factory=list)
@@ -122,13 +122,13 @@ class State:
     def bytes(self, version=2):
         """Returns the bytes of the state. Version 1 lacks the version byte, and the watches with their count."""
         assert version == 2 or not self.watches
-        encoded = number(self.seq, 4) + (b"\x02" if version == 2 else b"") + self.board.bytes()
+        encoded = encoded_number(self.seq, 4) + (b"\x02" if version == 2 else b"") + self.board.bytes()
         encoded += self.rom + self.ram + self.status + self.ram_ports + self.rom_ports
         encoded += bytes([self.accumulator, self.carry]) + self.registers
-        encoded += b"".join(number(address, 2) for address in [self.counter, *self.return_addresses])
+        encoded += b"".join(encoded_number(address, 2) for address in [self.counter, *self.return_addresses])
         encoded += bytes([self.bank, self.rom_source]) + self.bank_sources + bytes([self.owed])
         encoded += b"".join(self.chains) + self.keys + bytes([self.test])
-        encoded += bytes([len(self.breakpoints)]) + b"".join(number(address, 2) for address in self.breakpoints)
+        encoded += bytes([len(self.breakpoints)]) + b"".join(encoded_number(address, 2) for address in self.breakpoints)
         if version == 2:
             encoded += bytes([len(self.watches)]) + b"".join(bytes(watch) for watch in self.watches)
         return bytes(encoded)
@@ -139,15 +139,15 @@ class State:
                 f"r {''.join(f'{register:X}' for register in self.registers)} ret {' '.join(f'{address:03X}' for address in self.return_addresses)}")
 
     def cycle(self):
-        """Executes one cycle, with the few instructions that the checks use."""
+        """Executes one cycle. Knows only the few instructions that the checks use."""
         if self.owed:
             self.owed = 0
             return
         code = self.rom[self.counter]
-        second = self.rom[(self.counter + 1) % 4096]
+        second_byte = self.rom[(self.counter + 1) % 4096]
         self.counter = (self.counter + 1) % 4096
         if code >> 4 == 0x4:
-            self.counter = (code & 15) * 256 + second
+            self.counter = (code & 15) * 256 + second_byte
             self.owed = 1
         elif code >> 4 == 0x6:
             self.registers[code & 15] = (self.registers[code & 15] + 1) % 16
@@ -160,20 +160,20 @@ class State:
 
     def run(self, cycles):
         """Runs a number of cycles, or up to a breakpoint. Returns the part of the answer with the number of cycles and the reason for the stop."""
-        start = self.loop_key()
+        start = self.changeable_state()
         done_cycles = skipped = 0
         while done_cycles + skipped < cycles:
             self.cycle()
             done_cycles += 1
             if not self.owed and self.counter in self.breakpoints:
                 return f" ran {done_cycles} break"
-            if self.loop_key() == start and skipped == 0:
+            if self.changeable_state() == start and skipped == 0:
                 # The program loops, so whole iterations are skipped.
                 skipped = (cycles - done_cycles) // done_cycles * done_cycles
         return f" ran {cycles} end"
 
-    def loop_key(self):
-        """Returns the parts of the state that the instructions of the checks can change."""
+    def changeable_state(self):
+        """Returns all parts of the state that the instructions in `cycle` can change. If they repeat, the program loops."""
         return self.counter, self.owed, self.accumulator, self.carry, bytes(self.registers)
 
     def step(self):
@@ -187,10 +187,10 @@ class State:
 
     def reset(self):
         """Performs a power cycle. ROM, keys, TEST, breakpoints, watches and wiring are kept."""
-        new = State()
+        new_state = State()
         for part in ("ram", "status", "ram_ports", "rom_ports", "accumulator", "carry", "registers", "counter", "return_addresses", "bank", "rom_source",
                      "bank_sources", "owed"):
-            setattr(self, part, getattr(new, part))
+            setattr(self, part, getattr(new_state, part))
         self.chains = [bytearray(len(chain)) for chain in self.chains]
 
 
@@ -236,7 +236,7 @@ def load(text, image):
 
 def run(cycles):
     """Returns the command for a run. A log counts all cycles of the command, even if a breakpoint stops the run."""
-    return Command(f"run {cycles}\n", bytes([5]) + number(cycles, 4), lambda state: state.run(cycles), cycles)
+    return Command(f"run {cycles}\n", bytes([5]) + encoded_number(cycles, 4), lambda state: state.run(cycles), cycles)
 
 
 def step():
@@ -258,7 +258,7 @@ def press(row, column):
     return Command(f"press {row} {column}\n", bytes([3, row, column]), apply)
 
 
-def test_level(level):
+def set_test_level(level):
     """Returns the command that sets the level of TEST."""
     def apply(state):
         state.test = level
@@ -269,7 +269,7 @@ def break_at(address):
     """Returns the command that sets a breakpoint."""
     def apply(state):
         state.breakpoints = sorted({*state.breakpoints, address})
-    return Command(f"break {address}\n", bytes([10]) + number(address, 2), apply)
+    return Command(f"break {address}\n", bytes([10]) + encoded_number(address, 2), apply)
 
 
 def watch(bank, source):
@@ -306,13 +306,13 @@ def file_with_snapshot(snapshot):
     """Returns a file with a snapshot in its first slot, and no records."""
     start = SLOTS[0]
     file = bytearray(FORMAT_NAME + bytes(FILE_BYTES - len(FORMAT_NAME)))
-    file[start:start + LENGTH_BYTES + len(snapshot)] = number(len(snapshot), LENGTH_BYTES) + snapshot
+    file[start:start + LENGTH_BYTES + len(snapshot)] = encoded_number(len(snapshot), LENGTH_BYTES) + snapshot
     return file
 
 
 def put_record(file, offset, record):
     """Writes a record to a log, followed by the byte that marks the end of the log."""
-    file[offset:offset + 3 + len(record) + 1] = b"\x01" + number(len(record), 2) + record + b"\x00"
+    file[offset:offset + 3 + len(record) + 1] = b"\x01" + encoded_number(len(record), 2) + record + b"\x00"
 
 
 class ExpectedSession:
@@ -334,7 +334,7 @@ class ExpectedSession:
         snapshot = self.state.bytes(version)
         start = SLOTS[slot]
         end = start + LENGTH_BYTES + len(snapshot)
-        self.file[start:end] = number(len(snapshot), LENGTH_BYTES) + snapshot
+        self.file[start:end] = encoded_number(len(snapshot), LENGTH_BYTES) + snapshot
         self.unused_ranges[slot] = (end, start + SNAPSHOT_AREA_BYTES)
         self.file[start + SNAPSHOT_AREA_BYTES] = 0
         self.slot = slot

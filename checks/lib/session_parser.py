@@ -12,10 +12,10 @@ MAX_COMMANDS = 2**32 - 1
 MAX_CHAINS = {1: 2, 2: 4}
 MAX_CHIPS = {1: 4, 2: 8}
 # The places that `poke` sets, by their numbers in a record: the format of each, the maxima of the numbers in it, and the maximum of its value.
-PLACES = (("acc", 15), ("cy", 1), ("pc", 4095), ("r{}", 15, 15), ("dcl", 7), ("rom.{}", 4095, 255), ("ram.{}.{}", 7, 255, 15),
+POKE_PLACES = (("acc", 15), ("cy", 1), ("pc", 4095), ("r{}", 15, 15), ("dcl", 7), ("rom.{}", 4095, 255), ("ram.{}.{}", 7, 255, 15),
           ("st.{}.{}.{}", 7, 15, 3, 15))
 # The other commands whose operands are all numbers, by the first byte of their record, each with the maxima of its operands.
-COMMANDS = {3: ("press", 255, 255), 4: ("release", 255, 255), 5: ("run", 2**32 - 1), 6: ("step",), 8: ("test", 1), 9: ("reset",),
+NUMERIC_COMMANDS = {3: ("press", 255, 255), 4: ("release", 255, 255), 5: ("run", 2**32 - 1), 6: ("step",), 8: ("test", 1), 9: ("reset",),
             10: ("break", 4095), 11: ("unbreak", 4095), 12: ("watch", 7, 255), 13: ("unwatch", 7, 255)}
 
 
@@ -30,7 +30,7 @@ def require(condition):
 
 
 class Reader:
-    """A reader of numbers and bytes from data, in order. It rejects the file if they are missing or too large."""
+    """Reads numbers and bytes from data, one after another. Rejects the file if the data ends too early, or if a number is too large."""
 
     def __init__(self, data):
         self.data, self.offset = bytes(data), 0
@@ -61,7 +61,7 @@ class Reader:
 # --- boards
 
 def has_line(board, line):
-    """Returns true if a board has a line. The numbers that this kind of line does not use must be 0."""
+    """Returns true if a board has an I/O line. `line` must have 0 for each number that this kind of line does not use."""
     kind, number, second, third = line
     if kind == 0:
         return number in board.roms and second < 4 and third == 0
@@ -71,7 +71,7 @@ def has_line(board, line):
 
 
 def is_input(board, line):
-    """Returns true if a line is an input. The first character of a port is its line 3."""
+    """Returns true if an I/O line is an input. The first character of a port's text is the port's line 3."""
     return has_line(board, line) and line[0] == 0 and board.roms[line[1]][3 - line[2]] == "i"
 
 
@@ -132,7 +132,7 @@ def read_state(snapshot):
 
 
 def absent_parts(state):
-    """Yields the parts of a state that must be 0, because their chip is missing, or because an input line stores nothing."""
+    """Yields the parts of a state that must be 0: the memory and ports of missing chips, and the port bits of input lines, which store nothing."""
     for chip in range(16):
         port = state.board.roms.get(chip, "iiii")
         yield b"" if chip in state.board.roms else state.rom[256 * chip:256 * chip + 256]
@@ -170,20 +170,20 @@ def read_command(record, version):
     """Converts a record to the words of its session line, in which a text is a list of lines. Returns them with the number of cycles that the log
     counts for the record."""
     reader = Reader(record)
-    tag = reader.read_number(13 if version == 2 else 11)
-    if tag == 1:
+    record_kind = reader.read_number(13 if version == 2 else 11)
+    if record_kind == 1:
         words = ["wire", read_board(reader, version).text().splitlines()]
-    elif tag == 2:
+    elif record_kind == 2:
         bitmap = reader.read_bytes(512)
         addresses = [address for address in range(4096) if bitmap[address // 8] >> address % 8 & 1]
         words = ["asm", [line for address in addresses for line in (f"ORG {address}", f"DB {reader.read_number(255)}")]]
-    elif tag == 7:
-        name, *maxima = PLACES[reader.read_number(7)]
+    elif record_kind == 7:
+        name, *maxima = POKE_PLACES[reader.read_number(7)]
         numbers = [reader.read_number(maximum) for maximum in maxima]
         words = ["poke", name.format(*numbers[:-1]), str(numbers[-1])]
     else:
-        require(tag in COMMANDS)
-        name, *maxima = COMMANDS[tag]
+        require(record_kind in NUMERIC_COMMANDS)
+        name, *maxima = NUMERIC_COMMANDS[record_kind]
         words = [name, *(str(reader.read_number(maximum)) for maximum in maxima)]
     reader.expect_end()
     return words, {"run": lambda: int(words[1]), "step": lambda: 2}.get(words[0], lambda: 0)()

@@ -77,9 +77,9 @@ INVALID_RECORDS = [
         [0], [14], [3, 0], [3, 0, 0, 0], [5, 0, 0, 0], [6, 0], [7], [7, 8, 0], [7, 0, 16], [7, 1, 2], [7, 2, 0x10, 0], [7, 3, 16, 0],
         [7, 3, 0, 16], [7, 4, 8], [7, 6, 8, 0, 0], [7, 7, 0, 0, 4, 0], [8, 2], [10, 0x10, 0], [11, 0], [12], [12, 8, 0], [12, 0],
         [13, 0, 0, 0], [13, 8, 0])),
-    # A port of one character, a bank of five chips, one byte fewer.
+    # An invalid board: a port whose text has one character, a bank of five chips, and a record that is one byte too short.
     EMPTY_BOARD_RECORD[:1] + b"i" + EMPTY_BOARD_RECORD[2:], EMPTY_BOARD_RECORD[:65] + b"\5" + EMPTY_BOARD_RECORD[66:], EMPTY_BOARD_RECORD[:75],
-    # A bitmap of two addresses with one byte, and a bitmap of one address with two bytes.
+    # `load` with a bitmap that marks two addresses but only one byte, and with one that marks one address but two bytes.
     LOAD_RECORD[:-1], bytes([2, 1]) + LOAD_RECORD[2:],
 ]
 VALID_RECORDS = [bytes([3, 0, 0]), bytes([5, 0, 0, 0, 1]), bytes([7, 0, 15]), EMPTY_BOARD_RECORD, LOAD_RECORD]

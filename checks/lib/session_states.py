@@ -1,14 +1,14 @@
-"""Valid and invalid states of session files, written manually from docs/FORMAT.md ("Bytes of a state")."""
+"""Valid and invalid states of session files, worked out manually from docs/FORMAT.md ("Bytes of a state")."""
 
 from session_file import Board, State, break_at, chain_line, press, ram_line, rom_line, watch, wire
 
-# The board of the manual's first hour, and a board with the maximum of each part.
+# The board of the manual's first hour, and a board with the maximum number of each kind of part.
 WORKED_BOARD = Board({0: "0000", 1: "iiii", 2: "iiii"}, {0: 1, 1: 1}, [(rom_line(0, 0), rom_line(0, 1), 1)],
                (0, 0, 10, [rom_line(chip, line) for chip in (1, 2) for line in range(4)]),
                [chain_line(0, 0), chain_line(0, 1), ram_line(0, 0, 3)])
 LARGEST_BOARD = Board(dict.fromkeys(range(16), "1i0i"), dict.fromkeys(range(8), 4), [(rom_line(0, 1), rom_line(0, 3), 8)] * 4,
                 (3, 70, 10, [rom_line(15, 0)] * 8), [chain_line(3, 79)] * 64)
-# The first and the last index in each part of a state that is stored as a list.
+# The parts of a state that are lists, each with its first and its last index.
 FIRST_AND_LAST_INDEXES = {"rom": (0, 4_095), "ram": (0, 2_047), "status": (0, 511), "ram_ports": (0, 31), "rom_ports": (0, 15), "bank_sources": (0, 7)}
 
 

@@ -15,10 +15,10 @@ KEYS_PROGRAM = bytes.fromhex("d3e2 d2e2 d3e2 2010 21 ea fc")
 
 
 def file_with(ranges, boards=()):
-    """Returns a file with these ranges, and with the bytes of the worked board at each offset in `boards`."""
+    """Returns a file with these ranges. `boards` has the offsets at which the file also has the bytes of the worked board."""
     file = bytearray(FILE_BYTES)
-    on_boards = [(board + offset, data, times) for board in boards for offset, data, times in BOARD_RANGES]
-    for offset, data, times in [*NEW_BENCH_RANGES, *on_boards, *ranges]:
+    board_ranges = [(board + offset, data, times) for board in boards for offset, data, times in BOARD_RANGES]
+    for offset, data, times in [*NEW_BENCH_RANGES, *board_ranges, *ranges]:
         file[offset:offset + len(data) * times] = data * times
     return file
 

@@ -198,7 +198,7 @@ export function standIn(folder, settings = {}) {
     };
     return view;
   }
-  /** Opens a document as the editor does: first with the language that package.json assigns to its name. */
+  /** Opens a file as the editor does, which gives it a language by its name. (The extension can then choose another language.) */
   function open(name, languageId) {
     const uri = Uri.file(join(folder, name));
     const text = readFileSync(uri.fsPath, "utf8");

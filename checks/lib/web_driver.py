@@ -12,16 +12,16 @@ import time
 import urllib.error
 import urllib.request
 
-from browser_driver import BEFORE_SCRIPTS, ELEMENT_KEY, BrowserDriver, DriverError
+from browser_driver import SCRIPT_PRELUDE, ELEMENT_KEY, BrowserDriver, DriverError
 
-# Scripts that dispatch the events of a touch, and of a click with the secondary mouse button, for drivers that cannot perform these actions.
+# Scripts that dispatch the events of a touch, and of a click with the right mouse button, for drivers that cannot perform these actions.
 TOUCH_ELEMENT = """
 const [selector, time] = arguments;
 const node = document.querySelector(selector);
 const send = (kind) => node.dispatchEvent(new PointerEvent(kind, { pointerType: "touch", bubbles: true, cancelable: true }));
 send("pointerdown");
 return new Promise((done) => setTimeout(() => done(["pointerup", "click"].forEach(send)), time))"""
-CLICK_SECONDARY = """
+RIGHT_CLICK = """
 const [clientX, clientY] = arguments;
 const at = { clientX, clientY, pointerType: "mouse", button: 2, bubbles: true, cancelable: true };
 for (const kind of ["pointerdown", "contextmenu", "pointerup"]) {
@@ -69,7 +69,7 @@ class WebDriver(BrowserDriver):
 
     def script(self, code, *arguments):
         """Runs a script in the page, and returns its result."""
-        return self._request_session("POST", "/execute/sync", {"script": BEFORE_SCRIPTS + code, "args": list(arguments)})
+        return self._request_session("POST", "/execute/sync", {"script": SCRIPT_PRELUDE + code, "args": list(arguments)})
 
     def find(self, selector):
         """Returns the id of the first element that a selector matches."""
@@ -200,9 +200,9 @@ class WebKit(WebDriver):
     def touch(self, selector, milliseconds_down):
         self.script(TOUCH_ELEMENT, selector, milliseconds_down)
 
-    def click_secondary(self, x, y):
+    def right_click(self, x, y):
         # Dispatch the events by script, because after a press of this button the driver would type every character without Shift.
-        self.script(CLICK_SECONDARY, x, y)
+        self.script(RIGHT_CLICK, x, y)
 
     def _start_display(self):
         """Starts Xvfb, which chooses the number of its display. Returns the name of the display."""

@@ -2,9 +2,9 @@
 
 import random
 
-from board_spellings import TEXT_ENDS, EQUALS, KINDS, RawValue, seeded_board, random_tables_text
+from board_spellings import TEXT_ENDS, EQUAL_SIGNS, KINDS, RawValue, seeded_board, random_tables_text
 
-# Invalid values for each key, besides INVALID_VALUES, which are invalid for every key.
+# Invalid values for each TOML key. (The values in INVALID_VALUES are invalid for every key.)
 INVALID_VALUES_BY_KEY = {
     "chip": [16, -1, 99], "port": ["000", "00000", "iii2", "IIII", "o000"], "bank": [8, -1], "chips": [0, 9, 5], "clock": ["chain0.0", "rom00.1"],
     "data": ["ram0.4.0", "rom0"], "chain": [4, -1], "first": [80, -1], "rows": [0, 11], "line": ["rom16.0", "chain4.0", "ram8.0.0", "led"],
@@ -16,7 +16,7 @@ CHARACTERS = "\"'[]{}=.,#\\ \t0123456789abcdeiorxINF_-+:"
 
 
 def random_line_name(rng, tables):
-    """Returns the name of a line, usually one of a part that the board has."""
+    """Returns the name of an I/O line. Usually the board has the chip or the chain of this line."""
     present_chips = [table.get("chip") for table in tables["rom"]] if rng.random() < 0.7 else []
     chip = rng.choice([*present_chips, rng.randrange(16)])
     return rng.choice([f"rom{chip}.{rng.randrange(4)}", f"rom{chip}.{rng.randrange(4)}", f"chain0.{rng.randrange(20)}",
@@ -42,13 +42,13 @@ def add_key(rng, tables):
 
 
 def set_invalid_value(rng, tables):
-    """Usually sets a key of one of the tables to an invalid value."""
+    """Chooses one of the tables and one of its TOML keys. If invalid values are known for this key, sets it to one of them."""
     if (table := random_table(rng, tables)) and (key := rng.choice([*table])) in INVALID_VALUES_BY_KEY:
         table[key] = rng.choice([*INVALID_VALUES_BY_KEY[key], rng.choice(INVALID_VALUES)])
 
 
 def replace_line(rng, tables):
-    """Replaces the name of a line with another one. The board can lack that line, or the line can have the wrong direction."""
+    """Replaces the name of an I/O line with another one. The board may lack the new line, or the new line may have the wrong direction."""
     if table := random_table(rng, tables):
         for key in {"clock", "data", "line"} & {*table}:
             table[key] = random_line_name(rng, tables)
@@ -89,7 +89,7 @@ CHANGES = (remove_key, add_key, set_invalid_value, set_invalid_value, replace_li
 
 
 def spoil_text(rng, text):
-    """Returns `text` with characters added, removed or replaced, with one line more or fewer, or without its end."""
+    """Returns `text` with characters added, removed or replaced, with a line added or removed, or without its end."""
     for _n in range(rng.choice([1, 1, 2, 5])):
         index = rng.randrange(len(text) + 1)
         lines = text.split("\n")
@@ -105,7 +105,7 @@ def spoil_text(rng, text):
 def random_top_line(rng):
     """Returns a line to insert at the top of a board's text. The line is usually an error there."""
     section, value = rng.choice([*KINDS, *UNKNOWN_KEYS[:6]]), rng.choice(["1", "[1]", "[{}, 2]", "{}", "{ chip = 1 }", '"a"', "[\n]"])
-    return f"{section}{rng.choice(EQUALS)}{value}{rng.choice(TEXT_ENDS)}"
+    return f"{section}{rng.choice(EQUAL_SIGNS)}{value}{rng.choice(TEXT_ENDS)}"
 
 
 def board_with_errors(number):

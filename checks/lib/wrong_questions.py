@@ -31,9 +31,9 @@ NEVER_STARTED = ["begin", "in register 0 whole 9 3"]
 # Lines that limit the inputs of the question in QUESTION_LINES, whose board has no inputs.
 LIMIT_LINES = ["together 0", "together 255", " together\t0xFF ", "only", "\tonly ", "test", "press 0 0", "press 255 255", "press 0x0  0xff", "held 1",
                "held 100000", "\theld  0x1 "]
-# Lines that limit the times of changes, with which the search of this question finds three states.
+# Lines that limit how often the levels change. With each of them, the search for QUESTION_LINES finds three states.
 WAIT_LINES = ["wait 2", "\twait  0x2 ", "wait 3"]
-# A question about a board with eight keys, which allows the keys alone.
+# A question about a board with eight keys. The question limits the inputs to these keys.
 EIGHT_KEYS = ["most 9", "wire", "[[rom]]", "chip = 0", 'port = "0000"', "[[rom]]", "chip = 1", 'port = "000i"', "[[chain]]", 'clock = "rom0.0"',
               'data = "rom0.1"', "chips = 1", "[keys]", "chain = 0", "first = 0", "rows = 8", 'columns = ["rom1.0"]', ".", *PROGRAM, "only",
               *(f"press {row} 0" for row in range(8))]
@@ -82,7 +82,7 @@ ANSWERS: list[tuple[list[str], int, str]] = [
     *(([*BOARD, "asm", " NOP", line, ".", "prove"], 3, "no 30 2") for line in LIMIT_LINES),
     *((["wire", line, ".", *PROGRAM, "prove"], 3, "no 20") for line in LIMIT_LINES),
     *(([line, "prove"], 2, "no question") for line in LIMIT_LINES), ([*QUESTION_LINES, *LIMIT_LINES], 2, "no question"),
-    # So are lines that limit the times of changes. With them, the levels are parts of the states.
+    # Lines that limit how often the levels change are allowed in the same positions. With them, the levels are parts of the states.
     *(([*lines, "prove"], 0, "holds 3") for line in WAIT_LINES for lines in (
         [line, *QUESTION_LINES], [*QUESTION_LINES[:2], *BOARD, line, *PROGRAM], [*QUESTION_LINES, line, line],
         [*QUESTION_LINES, "wait 100000", line])),
@@ -97,7 +97,7 @@ ANSWERS: list[tuple[list[str], int, str]] = [
         ["held 1", "wait 2"], ["wait 2", "held 100000"], ["wait 3", "held 4"], ["held 4", "wait 3", "held 3"])),
     ([*EIGHT_KEYS, "wait 2", "held 1", "prove"], 0, "gave up"),
     ([*EIGHT_KEYS, "wait 2", "held 1", "together 0", "prove"], 0, "holds 2"),
-    # There may be at most 255 levels.
+    # The prover accepts at most 255 combinations of levels. Eight keys alone have 256.
     ([*EIGHT_KEYS, "wait 2", "prove"], 0, "gave up"), ([*EIGHT_KEYS, "wait 2", "together 7", "prove"], 0, "too many"),
     ([*EIGHT_KEYS, "wait 2", "together 7", "test", "prove"], 0, "gave up"), ([*EIGHT_KEYS, "wait 2", "together 0", "prove"], 0, "holds 2"),
     ([*QUESTION_LINES, "only", *1000 * ["press 255 255"], "prove"], 0, "holds 1"), ([*QUESTION_LINES, *1000 * ["together 0"], *1000 * ["only"], "prove"], 0, "holds 1"),
@@ -121,11 +121,11 @@ KEYS_QUESTION = [
     'data = "rom0.1"', "chips = 1", "[keys]", "chain = 0", "first = 0", "rows = 1", 'columns = ["rom1.0", "rom1.1"]', ".",
     "asm", " LDM 2", " WRR", " LDM 3", " WRR", " FIM P0, 0x10", " SRC P0", "loop: JCN 1, read", " LDM 1", " XCH R3", "read: RDR", " XCH R2",
     " JUN loop", "."]
-# The conditions that are true after the program has read no key, each of the keys, both keys, or a 1 at TEST.
-READS = {"none": "in register 2 whole 8 8", "first": "in register 2 line0 1 1", "second": "in register 2 line1 1 1",
+# The conditions that are true after the program has read that no key is down, that the first, the second or both are down, or that TEST is 1.
+READ_CONDITIONS = {"none": "in register 2 whole 8 8", "first": "in register 2 line0 1 1", "second": "in register 2 line1 1 1",
          "both": "in register 2 whole 11 11", "test": "in register 3 whole 1 1"}
-ALL_READS, ALL_BUT_BOTH = {*READS}, {"none", "first", "second", "test"}
-# Limits, with the conditions that can become true.
+ALL_READS, ALL_BUT_BOTH = {*READ_CONDITIONS}, {"none", "first", "second", "test"}
+# Lines that limit the inputs, each list with the names of the conditions in READ_CONDITIONS that can then become true.
 ALLOWED_READS: list[tuple[list[str], set[str]]] = [
     ([], ALL_READS), (["together 2"], ALL_READS), (["together 255"], ALL_READS), (["test"], ALL_READS), (["press 0 0"], ALL_READS),
     (["press 1 0"], ALL_READS), (["together 1"], ALL_BUT_BOTH), (["together 0"], {"none", "test"}),

@@ -66,14 +66,14 @@ verdict "$(last_lines "$library_folder/mcs4.old" "$library_folder/mcs4.old.2")" 
 # Checks that a session that is served during an upgrade continues in its file.
 mkfifo "$folder/lines"
 "$library_folder/shipped/mcs4" new "$library_folder/served.mcs" < "$folder/lines" > "$folder/answers" &
-served=$!
+session_process=$!
 exec 3> "$folder/lines"
 echo "poke r1 1" >&3
-until grep -q '^ok 1$' "$folder/answers" || ! kill -0 "$served" 2> /dev/null; do sleep 0.1; done
+until grep -q '^ok 1$' "$folder/answers" || ! kill -0 "$session_process" 2> /dev/null; do sleep 0.1; done
 ./install --prefix "$prefix" > "$folder/output"
 echo "poke r1 2" >&3
 exec 3>&-
-wait "$served"
+wait "$session_process"
 verdict "$(echo seq | "$library_folder/shipped/mcs4" open "$library_folder/served.mcs" | tail -n 1)" "seq 2" "a session that was served during ./install"
 rm "$library_folder/served.mcs"
 
@@ -101,10 +101,10 @@ while [ "$stop_count" -gt 0 ]; do
     signal=TERM
     if [ "$stop_count" -lt 6 ]; then signal=KILL; fi
     ./install --prefix "$prefix" > "$folder/output" 2>&1 &
-    stopped=$!
+    install_process=$!
     sleep "$(awk -v n="$stop_count" 'BEGIN { print 0.1 + n % 6 * 0.3 }')"
-    kill -s "$signal" "$stopped" 2> /dev/null || :
-    wait "$stopped" 2> /dev/null || :
+    kill -s "$signal" "$install_process" 2> /dev/null || :
+    wait "$install_process" 2> /dev/null || :
     if [ "$signal" = TERM ]; then verdict "$(ls -A "$prefix/lib")" fethsaim "nothing is left after a TERM"; fi
     if [ -e "$library_folder" ]; then verdict "$("$prefix/bin/mcs4" version | sed -n 2p)" "program: $library_folder/shipped/mcs4" "mcs4 after a run that was stopped"; fi
 done

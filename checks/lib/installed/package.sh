@@ -31,7 +31,7 @@ status 1" "a package in a missing folder"
     for file in "$folder/unpacked/usr/share/doc/mcs4/copyright" editors/vscode/README.md; do
         verdict "$(sed -n 's/^ *\(No licence .*\)$/\1/p' "$file")" "$(sed -n '/^No licence /p' README.md)" "the licence in ${file##*/}"
     done
-    # Checks that the package has the same files as an installation. (The parts `tools` and `testing` try all commands of an installation.)
+    # Checks that the package has the same files as an installation by ./install, whose commands the parts `tools` and `testing` try.
     ./install --prefix "$folder/prefix" > "$folder/output"
     describe_files "$folder/prefix/lib/fethsaim" > "$folder/described"
     describe_files "$folder/unpacked/usr/lib/fethsaim" > "$folder/packed"

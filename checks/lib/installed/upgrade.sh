@@ -4,16 +4,16 @@
 make_home
 prefix=$folder/prefix
 ./install --prefix "$prefix" > "$folder/output"
-list=$prefix/lib/fethsaim/installed
+installed_list=$prefix/lib/fethsaim/installed
 echo older > "$prefix/share/man/man1/mcs4-older.1"
 echo older > "$prefix/lib/fethsaim/tools/older"
 mkdir "$prefix/lib/fethsaim/older"
 echo older > "$prefix/lib/fethsaim/older/older"
 for name in share/man/man1/mcs4-older.1 lib/fethsaim/tools/older lib/fethsaim/older/older; do
     echo "file $(sha256sum < "$prefix/$name" | cut -d ' ' -f 1) $name"
-done >> "$list"
+done >> "$installed_list"
 echo older > "$prefix/share/man/man1/mcs4-oldest.1"
-echo "file share/man/man1/mcs4-oldest.1" >> "$list"
+echo "file share/man/man1/mcs4-oldest.1" >> "$installed_list"
 echo mine > "$prefix/share/man/man1/mine.1"
 verdict "$(PATH=$prefix/bin:$PATH outcome ./install --prefix "$prefix")" "mcs4 is installed: $prefix/bin/mcs4
 status 0" "an older version is replaced"

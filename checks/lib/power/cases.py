@@ -26,37 +26,37 @@ class FileSystem(NamedTuple):
     shows_stale_data: bool = False
 
 
-MAKE_EXT = ("mkfs.ext4", "-q", "-F", "-N", "1024", "-E", "nodiscard,lazy_itable_init=0,lazy_journal_init=0")
+MAKE_EXT4 = ("mkfs.ext4", "-q", "-F", "-N", "1024", "-E", "nodiscard,lazy_itable_init=0,lazy_journal_init=0")
 MAKE_XFS = ("mkfs.xfs", "-q", "-f", "-K")
 MAKE_BTRFS = ("mkfs.btrfs", "-q", "-f", "-K")
 
 
-def ext(name: str, options: str = "", *arguments: str) -> FileSystem:
+def ext4_file_system(name: str, options: str = "", *arguments: str) -> FileSystem:
     """Returns an ext4 file system with this name and these mount options. `arguments` are further arguments of mkfs.ext4."""
-    return FileSystem(name, 64, (*MAKE_EXT, *arguments), "e2fsprogs", "ext4", options, "commit=1", ("ext4",))
+    return FileSystem(name, 64, (*MAKE_EXT4, *arguments), "e2fsprogs", "ext4", options, "commit=1", ("ext4",))
 
 
-def btrfs(name: str, options: str = "") -> FileSystem:
+def btrfs_file_system(name: str, options: str = "") -> FileSystem:
     """Returns a btrfs file system with this name and these mount options."""
     return FileSystem(name, 128, MAKE_BTRFS, "btrfs-progs", "btrfs", options, "commit=1", ("btrfs",), needs_atomic_blocks=True)
 
 
 FILE_SYSTEMS = {file_system.name: file_system for file_system in (
-    ext("ext4"),
-    ext("ext4-writeback", "data=writeback"),
-    ext("ext4-journal", "data=journal"),
-    ext("ext4-fast", "", "-O", "fast_commit"),
-    ext("ext4-async", "journal_async_commit,data=writeback"),
-    ext("ext4-1k", "", "-b", "1024"),
+    ext4_file_system("ext4"),
+    ext4_file_system("ext4-writeback", "data=writeback"),
+    ext4_file_system("ext4-journal", "data=journal"),
+    ext4_file_system("ext4-fast", "", "-O", "fast_commit"),
+    ext4_file_system("ext4-async", "journal_async_commit,data=writeback"),
+    ext4_file_system("ext4-1k", "", "-b", "1024"),
     FileSystem("xfs", 300, MAKE_XFS, "xfsprogs", "xfs", "", "", ("xfs",)),
-    btrfs("btrfs"),
-    btrfs("btrfs-nocow", "nodatacow"),
+    btrfs_file_system("btrfs"),
+    btrfs_file_system("btrfs-nocow", "nodatacow"),
     FileSystem("vfat", 32, ("mkfs.vfat",), "dosfstools", "vfat", "", "", ("vfat", "nls_cp437", "nls_ascii"), shows_stale_data=True),
     FileSystem("exfat", 32, ("mkfs.exfat",), "exfatprogs", "exfat", "", "", ("exfat", "nls_utf8"), shows_stale_data=True),
     # Linux before 6.5 does not always flush the disk when a file on this file system is synced.
-    ext("ext4-nojournal", "", "-O", "^has_journal")._replace(frequent_commit_options="", shows_stale_data=True),
+    ext4_file_system("ext4-nojournal", "", "-O", "^has_journal")._replace(frequent_commit_options="", shows_stale_data=True),
     # Without barriers the file system loses acknowledged data, which the check must detect.
-    ext("ext4-nobarrier", "nobarrier"),
+    ext4_file_system("ext4-nobarrier", "nobarrier"),
 )}
 
 # --- cases
@@ -66,7 +66,7 @@ class Case(NamedTuple):
     """A scenario for a session on a file system. The effects of the shell commands in `setup` are synced, and those of the later shell commands in
     `before` are not. `arguments` are the program's arguments, and `file` is the name of the session file after the cut. `initial_commands` is the
     number of commands in the session at the beginning. `is_durable` is true if the session is already durable then. If `gets_all_commands` is true,
-    the trial sends it ALL_COMMANDS commands."""
+    the trial sends commands until the session has MAX_COMMAND_COUNT commands."""
     name: str
     setup: str
     before: str
@@ -78,11 +78,11 @@ class Case(NamedTuple):
 
 
 LONG_NAME = "a_session_with_a_long_name_that_takes_several_slots_of_a_folder_on_a_file_system_of_that_sort.mcs"
-CREATE_SEED = "mcs4 new seed < /dev/null > /dev/null"
+CREATE_FILE_SEED = "mcs4 new seed < /dev/null > /dev/null"
 CREATE_OTHER_FILES = "for i in 1 2 3 4 5 6 7 8 9 10; do : > f$i; done"
 # The names of the session files that are copied into the machine, and the number of commands in each. The second file has version 1 of the format.
 SERVED_FILE, VERSION_1_FILE = "served.mcs", "first.mcs"
-SERVED_COMMANDS, VERSION_1_COMMANDS = 60, 30
+SERVED_COMMAND_COUNT, VERSION_1_COMMAND_COUNT = 60, 30
 
 CASES = {case.name: case for case in (
     Case("new", "", "", "new s.mcs", "s.mcs", gets_all_commands=True),
@@ -91,17 +91,17 @@ CASES = {case.name: case for case in (
     Case("new-empty", "", ": > s.mcs", "new s.mcs", "s.mcs"),
     Case("new-folder", "", "mkdir d", "new d/s.mcs", "d/s.mcs"),
     Case("new-link", "mkdir a b; ln -s ../b/real.mcs a/s.mcs", "", "new a/s.mcs", "a/s.mcs"),
-    Case("linked", CREATE_SEED, "ln seed s.mcs || cp seed s.mcs", "open s.mcs", "s.mcs"),
-    Case("copied", CREATE_SEED, "cp seed s.mcs", "open s.mcs", "s.mcs"),
-    Case("moved", CREATE_SEED, "mv seed s.mcs", "open s.mcs", "s.mcs"),
-    Case("replaced", f"mcs4 new s.mcs < /dev/null > /dev/null; {CREATE_SEED}", "mv seed s.mcs", "open s.mcs", "s.mcs"),
-    Case("long-copied", f"{CREATE_SEED}; {CREATE_OTHER_FILES}", f"cp seed {LONG_NAME}", f"open {LONG_NAME}", LONG_NAME),
-    Case("long-moved", f"{CREATE_SEED}; {CREATE_OTHER_FILES}", f"mv seed {LONG_NAME}", f"open {LONG_NAME}", LONG_NAME),
-    Case("folder-copied", CREATE_SEED, "mkdir d; cp seed d/s.mcs", "open d/s.mcs", "d/s.mcs"),
+    Case("linked", CREATE_FILE_SEED, "ln seed s.mcs || cp seed s.mcs", "open s.mcs", "s.mcs"),
+    Case("copied", CREATE_FILE_SEED, "cp seed s.mcs", "open s.mcs", "s.mcs"),
+    Case("moved", CREATE_FILE_SEED, "mv seed s.mcs", "open s.mcs", "s.mcs"),
+    Case("replaced", f"mcs4 new s.mcs < /dev/null > /dev/null; {CREATE_FILE_SEED}", "mv seed s.mcs", "open s.mcs", "s.mcs"),
+    Case("long-copied", f"{CREATE_FILE_SEED}; {CREATE_OTHER_FILES}", f"cp seed {LONG_NAME}", f"open {LONG_NAME}", LONG_NAME),
+    Case("long-moved", f"{CREATE_FILE_SEED}; {CREATE_OTHER_FILES}", f"mv seed {LONG_NAME}", f"open {LONG_NAME}", LONG_NAME),
+    Case("folder-copied", CREATE_FILE_SEED, "mkdir d; cp seed d/s.mcs", "open d/s.mcs", "d/s.mcs"),
     Case("folder-moved", "mkdir d; mcs4 new d/s.mcs < /dev/null > /dev/null", "mv d e", "open e/s.mcs", "e/s.mcs"),
-    Case("served", f"cp /{SERVED_FILE} s.mcs", "", "open s.mcs", "s.mcs", initial_commands=SERVED_COMMANDS, is_durable=True),
-    Case("carried", f"cp /{VERSION_1_FILE} s.mcs", "", "open s.mcs", "s.mcs", initial_commands=VERSION_1_COMMANDS, is_durable=True),
-    Case("carried-copied", "", f"cp /{VERSION_1_FILE} s.mcs", "open s.mcs", "s.mcs", initial_commands=VERSION_1_COMMANDS),
+    Case("served", f"cp /{SERVED_FILE} s.mcs", "", "open s.mcs", "s.mcs", initial_commands=SERVED_COMMAND_COUNT, is_durable=True),
+    Case("carried", f"cp /{VERSION_1_FILE} s.mcs", "", "open s.mcs", "s.mcs", initial_commands=VERSION_1_COMMAND_COUNT, is_durable=True),
+    Case("carried-copied", "", f"cp /{VERSION_1_FILE} s.mcs", "open s.mcs", "s.mcs", initial_commands=VERSION_1_COMMAND_COUNT),
     # The program syncs only the file's own folder, so new folders above it can be lost.
     Case("folders", "", "mkdir -p d/e", "new d/e/s.mcs", "d/e/s.mcs"),
 )}
@@ -110,9 +110,9 @@ OPEN_CASES = ("linked", "copied", "moved", "replaced", "long-copied", "long-move
 
 # --- the trials of a run of the check
 
-# ALL_COMMANDS is the number of the last command that is sent in a case with `gets_all_commands`. MORE_COMMANDS are sent to a session that is already
-# durable or is opened again, and FEW_COMMANDS to any other session.
-ALL_COMMANDS, MORE_COMMANDS, FEW_COMMANDS = 110, 24, 12
+# The numbers of commands that a trial sends. In a case with `gets_all_commands`, MAX_COMMAND_COUNT is the number of the last command. A session that
+# is already durable or is opened again gets MORE_COMMAND_COUNT commands, and any other session gets FEW_COMMAND_COUNT.
+MAX_COMMAND_COUNT, MORE_COMMAND_COUNT, FEW_COMMAND_COUNT = 110, 24, 12
 
 
 class Trial(NamedTuple):
@@ -151,8 +151,8 @@ FAULTY_TRIALS = (
 
 
 def cases_of(file_system: str) -> list[str]:
-    """Returns the names of the cases of NEW_CASES and OPEN_CASES for a file system. Omits `new-link` for those that show stale data:
-    of these, only vfat is used here, and FAT has no links."""
+    """Returns the names of the cases of NEW_CASES and OPEN_CASES for a file system. Omits `new-link` if the file system shows stale data: the only
+    such file system here is vfat, and it has no links."""
     return [*NEW_CASES, *([] if FILE_SYSTEMS[file_system].shows_stale_data else ["new-link"]), *OPEN_CASES]
 
 

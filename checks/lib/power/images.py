@@ -19,7 +19,7 @@ from power.disk import Disk, Event
 SECTOR, BLOCK = 512, 4096
 # After each write and each flush, IMAGES_PER_WRITE random images are drawn for each pending write, for at most MAX_PENDING pending writes.
 IMAGES_PER_WRITE, MAX_PENDING = 12, 4
-# The number of events in the phase "beginning", which starts with the first answer.
+# The phase "beginning" of a session starts with its first answer, and has this number of events.
 BEGINNING_EVENTS = 20
 
 # The phase of a cut: before the program's first answer, soon after it, while a snapshot is written, or at any other time.
@@ -32,8 +32,8 @@ Part = tuple[int, int] | None
 
 @dataclasses.dataclass
 class Image:
-    """Possible contents of the disk after a power cut. Cuts after the event with the number `first_event`, or after a later event up to `last_event`,
-    can leave this image. After each of these cuts, at least `min_commands` and at most `max_commands` commands must be found. `min_commands` is None
+    """Possible contents of the disk after a power cut. A cut after any event from number `first_event` to number `last_event` can leave this image.
+    The session then must contain at least `min_commands` and at most `max_commands` commands. `min_commands` is None
     before the first answer if no session existed at the beginning. `durable_count` is the number of durable writes, and `parts` has the parts of the
     pending writes that are on the disk. `selection` names how the parts were selected: none, all or some."""
     first_event: int
@@ -47,11 +47,11 @@ class Image:
 
     @property
     def is_torn(self) -> bool:
-        """True if a block of the file system can be half old and half new, which the file system need not tolerate."""
+        """True if a block of the file system can be half old and half new in this image. A file system need not tolerate such a block."""
         return any(part is not None and part[0] < BLOCK for part in self.parts.values())
 
     def add_cut(self, event_number: int, min_commands: int | None, max_commands: int) -> None:
-        """Adds a cut after a later event that leaves the same image, and narrows the allowed numbers of commands."""
+        """Adds another cut, after a later event, that leaves the same image. Keeps only the numbers of commands that each of the cuts allows."""
         self.last_event = event_number
         if min_commands is not None:
             self.min_commands = min_commands if self.min_commands is None else max(self.min_commands, min_commands)
@@ -72,7 +72,7 @@ class History:
         durable_at = self.durable_at()
         never = len(events) + 1
         self.writes = {event.number: event for event in events if event.kind == "write"}
-        # Sorted by the time at which they become durable, so that the durable writes of each image are the first ones in this list.
+        # The numbers of the writes, sorted by when the write became durable. In each image, the durable writes are therefore the first in this list.
         self.writes_by_durability = sorted(self.writes, key=lambda number: (durable_at.get(number, never), number))
         self.durability_events = [durable_at.get(number, never) for number in self.writes_by_durability]
         self.rank = {number: rank for rank, number in enumerate(self.writes_by_durability)}
@@ -116,8 +116,8 @@ class History:
                     durable_count += 1
             phase = self.phase(event_number, first_answer, answered, sent)
             for selection, parts in self.selections_after(event, pending):
-                key = hashlib.sha256(repr((durable_count, sorted(parts.items()))).encode()).digest()
-                image = images.setdefault(key, Image(event_number, event_number, phase, selection, durable_count, parts, answered, sent))
+                content_id = hashlib.sha256(repr((durable_count, sorted(parts.items()))).encode()).digest()
+                image = images.setdefault(content_id, Image(event_number, event_number, phase, selection, durable_count, parts, answered, sent))
                 image.add_cut(event_number, answered, sent)
         return list(images.values())
 
@@ -131,16 +131,16 @@ class History:
         return "beginning" if event_number < first_answer + BEGINNING_EVENTS else "serving"
 
     def selections_after(self, event: Event, pending: list[int]) -> list[tuple[str, dict[int, Part]]]:
-        """Returns some of the states in which the pending writes can be on the disk after an event. Each has a name, and the part of each write that
-        is on the disk."""
+        """Returns some of the ways in which the pending writes can have reached the disk after an event. Each has a name (none, all or some), and the
+        parts of the writes that are on the disk."""
         selections: list[tuple[str, dict[int, Part]]] = [("none", {}), ("all", dict.fromkeys(pending))]
         if event.kind in ("write", "flushed"):
             selections += [("some", self.random_parts(pending)) for _ in range(IMAGES_PER_WRITE * min(len(pending), MAX_PENDING))]
         return selections
 
     def random_parts(self, pending: list[int]) -> dict[int, Part]:
-        """Returns random parts of these writes: all, none, or some of the sectors or blocks of each one. Omits the writes that did not reach the disk
-        at all."""
+        """Chooses at random how much of each pending write is on the disk: nothing, everything, or some of its sectors or blocks. Omits the writes
+        that did not reach the disk at all."""
         unit = BLOCK if self.needs_atomic_blocks else self.rng.choice((SECTOR, BLOCK))
         parts: dict[int, Part] = {}
         for write in pending:
@@ -151,7 +151,7 @@ class History:
                 parts[write] = unit, self.rng.getrandbits(-(-len(self.writes[write].data) // unit))
         return parts
 
-    def draw(self, images: list[Image], count: int) -> list[Image]:
+    def choose_images(self, images: list[Image], count: int) -> list[Image]:
         """Returns at most `count` of these images, in chronological order. Takes the same number of images from each phase, and more if another phase
         has too few."""
         groups = sorted(([image for image in images if image.phase == phase] for phase in PHASES), key=len)

@@ -12,7 +12,7 @@ OLD = bytes(SECTOR)
 
 
 def history_of(events: list[Event], atomic_blocks: bool = False, seed: int = 0, initial_commands: int = 0) -> History:
-    """Returns the history of these events, with a session that was not durable before them."""
+    """Returns the history of these events. The session was not durable before the first of them."""
     return History(events, initial_commands, False, set(), atomic_blocks, random.Random(seed))
 
 
@@ -84,13 +84,13 @@ def check_command_bounds() -> bool:
 
 
 def check_command_bounds_of_copy() -> bool:
-    """Checks that a copied session has its commands even before its first answer."""
+    """Checks that a session file that was copied must contain its commands even if the power is cut before the first answer."""
     images = history_of([write_event(1, 0, A), event_of("answered", 7)], initial_commands=7).all_images()
     return {(image.min_commands, image.max_commands) for image in images if image.selection != "some"} == {(7, 7)}
 
 
 def check_permanent_images() -> bool:
-    """Checks that an image can be written permanently, and then another one, regardless of the first."""
+    """Checks that an image can be written permanently, and that the first image has no effect on a second one that is written after it."""
     history = history_of([write_event(1, 0, A), event_of("wrote", 1), event_of("flush", 2), event_of("flushed", 2), write_event(3, 0, B)])
     disk = Disk(BLOCK)
     builder = ImageBuilder(disk, history)
@@ -103,10 +103,10 @@ def check_permanent_images() -> bool:
     return is_old and disk.bytes[:SECTOR] == B and disk.undo_log is None
 
 
-CHECKS = (check_durable_after_flush, check_new_or_old_sectors, check_atomic_blocks, check_writes_to_one_sector, check_command_bounds,
+TESTS = (check_durable_after_flush, check_new_or_old_sectors, check_atomic_blocks, check_writes_to_one_sector, check_command_bounds,
           check_command_bounds_of_copy, check_permanent_images)
 
 
 def error_messages() -> list[str]:
-    """Returns a message for each result of images.py that differs from the known result."""
-    return [f"{check.__name__}: {check.__doc__}" for check in CHECKS if not check()]
+    """Runs the tests. Returns a message for each that fails."""
+    return [f"{check.__name__}: {check.__doc__}" for check in TESTS if not check()]

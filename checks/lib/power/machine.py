@@ -37,7 +37,7 @@ PROCESSOR = "Nehalem"
 MEMORY_MIB = 512
 BOOT_SECONDS = 900
 # The seconds for which a disk holds back an answer, so that other answers can overtake it.
-ANSWER_DELAY = 0.0005
+ANSWER_DELAY_SECONDS = 0.0005
 
 
 class Kernel(NamedTuple):
@@ -185,16 +185,16 @@ class Machine:
         return "\n".join("    " + line for line in output.decode(errors="replace").splitlines()[-12:])
 
     def accept_connection(self, name: str, listener: socket.socket) -> None:
-        """Accepts QEMU's connection to a line or a disk."""
+        """Accepts QEMU's connection to a serial line or to a disk."""
         channel, _ = listener.accept()
         if name == "disk":
             connection = Connection(self.disks, channel, self.end_connection)
             self.connections.append(connection)
             self.selector.register(channel, selectors.EVENT_READ, connection)
         else:
-            line = self.shell if name == "shell" else self.program
-            line.channel = channel
-            self.selector.register(channel, selectors.EVENT_READ, line)
+            serial_line = self.shell if name == "shell" else self.program
+            serial_line.channel = channel
+            self.selector.register(channel, selectors.EVENT_READ, serial_line)
 
     def end_connection(self, channel: socket.socket) -> None:
         """Removes and closes a connection of QEMU to a disk."""
@@ -203,10 +203,10 @@ class Machine:
         channel.close()
 
     def serve(self, seconds: float) -> None:
-        """Waits for data for at most this number of seconds, and serves it. If disks have held back answers, waits only ANSWER_DELAY, and then sends
-        one of them for each disk. Raises PowerCheckError if QEMU has ended."""
+        """Waits for data for at most this number of seconds, and serves it. If some requests to the disks are unanswered, waits only
+        ANSWER_DELAY_SECONDS, and then answers one for each disk. Raises PowerCheckError if QEMU has ended."""
         busy_connections = [connection for connection in self.connections if connection.unanswered]
-        ready = self.selector.select(ANSWER_DELAY if busy_connections else seconds)
+        ready = self.selector.select(ANSWER_DELAY_SECONDS if busy_connections else seconds)
         for key, _ in ready:
             if isinstance(key.data, str):
                 assert isinstance(key.fileobj, socket.socket)

@@ -79,14 +79,14 @@ def fetch_kernel() -> int:
 
 
 def missing_space_message(folder: pathlib.Path, disk_bytes: int) -> str:
-    """Returns a message if there is too little memory for a machine with a disk of this size in bytes, or too little space for its images; otherwise
-    ""."""
+    """Returns a message if there is too little memory for a machine with a disk of this size in bytes, or too little space for its images. Returns ""
+    if there is enough."""
     needed = MEMORY_MIB * MEBIBYTE + 3 * disk_bytes
     memory = pathlib.Path("/proc/meminfo").read_text()
     available = re.search(r"MemAvailable: +(\d+) kB", memory)
     if available and int(available[1]) * 1024 < needed:
         return f"{needed // MEBIBYTE} MB of memory are needed, {int(available[1]) // 1024} are available"
-    free = shutil.disk_usage(folder).free
-    if free < 2 * disk_bytes:
-        return f"{2 * disk_bytes // MEBIBYTE} MB are needed in {folder}, {free // MEBIBYTE} are free"
+    free_bytes = shutil.disk_usage(folder).free_bytes
+    if free_bytes < 2 * disk_bytes:
+        return f"{2 * disk_bytes // MEBIBYTE} MB are needed in {folder}, {free_bytes // MEBIBYTE} are free"
     return ""

@@ -1,4 +1,4 @@
-"""The sessions that checks/power serves: their commands, the state after each command, and the number of commands in a file that is found."""
+"""The sessions that checks/power serves: their commands, and the state after each command. Also finds how many commands a session file contains."""
 
 from __future__ import annotations
 
@@ -7,7 +7,7 @@ import os
 import pathlib
 import subprocess
 
-from power.cases import VERSION_1_FILE, VERSION_1_COMMANDS, SERVED_FILE, SERVED_COMMANDS
+from power.cases import VERSION_1_FILE, VERSION_1_COMMAND_COUNT, SERVED_FILE, SERVED_COMMAND_COUNT
 from power.disk import PowerCheckError
 from session_file import LENGTH_BYTES, SLOTS, read
 
@@ -27,8 +27,8 @@ next:   SRC P0
 ."""
 # Queries about everything on a board: registers and chips, RAM, ROM.
 QUERIES = "state\nram 0\n" + "".join(f"list {256 * chip} 256\n" for chip in range(ROM_COUNT))
-# The number of short commands at the beginning. Their cycles fill the log. The later commands are long, so that their bytes fill the log.
-SHORT_COMMANDS = 48
+# The number of short commands at the beginning, whose cycles fill the log. The later commands have long texts, so that their bytes fill the log.
+SHORT_COMMAND_COUNT = 48
 # The number of lines in a long text, and the number of bytes in each of them.
 LONG_TEXT_LINES, BYTES_PER_LINE = 37, 100
 # The offset of the version in a state, and version 2. A state of version 1 has something else at this offset.
@@ -40,7 +40,7 @@ def commands(count: int) -> list[str]:
     every 20th command, when bytes have filled the log. Three in four of these later commands have a record of 4,213 bytes, which takes two blocks."""
     all_commands = [BOARD, PROGRAM]
     for number in range(len(all_commands), count):
-        if number >= SHORT_COMMANDS and number % 4:
+        if number >= SHORT_COMMAND_COUNT and number % 4:
             line = "DB " + ",".join([str(number % 10)] * BYTES_PER_LINE) + "\n"
             all_commands.append("asm\nORG 0x100\n" + line * LONG_TEXT_LINES + ".")
         elif number % 8 == 7:
@@ -51,8 +51,8 @@ def commands(count: int) -> list[str]:
 
 
 def as_version_1(data: bytes) -> bytes:
-    """Returns the version 1 form of a session file whose snapshot, of version 2, has no watches: without the version byte and without the
-    number of watches."""
+    """Converts a session file of version 2, whose snapshot has no watches, to version 1. The snapshot then lacks the version byte and the number of
+    watches."""
     slot = SLOTS[data[8] % 2]
     start = slot + LENGTH_BYTES
     length = int.from_bytes(data[slot:start], "big")
@@ -74,7 +74,8 @@ def digest(answers: bytes) -> str:
 
 
 class Sessions:
-    """The states after each number of commands, as the program reports them. Session files are compared with these states."""
+    """The state of a session after no command, after the first command, and so on, as the program reports it. Session files are compared with these
+    states."""
 
     def __init__(self, program: str, folder: pathlib.Path, count: int) -> None:
         self.program, self.folder = program, folder
@@ -105,9 +106,9 @@ class Sessions:
                 if data[8] != slot:
                     self.snapshots.add(number)
                 slot = data[8]
-                if number == SERVED_COMMANDS:
+                if number == SERVED_COMMAND_COUNT:
                     (self.folder / SERVED_FILE).write_bytes(data)
-                if number == VERSION_1_COMMANDS:
+                if number == VERSION_1_COMMAND_COUNT:
                     (self.folder / VERSION_1_FILE).write_bytes(as_version_1(data))
         file.unlink()
         if len(set(self.states)) != len(self.states):
@@ -126,13 +127,13 @@ class Sessions:
         first_answer, _, state = answers.removesuffix(end[1:]).partition(b"\n")
         return first_answer.decode().split(" ")[0], digest(state)
 
-    def commands_in(self, data: bytes) -> int | str:
-        """Returns the number of commands in a session file if the file has the state after these commands, otherwise a description, as `open_file`
-        does."""
-        key = hashlib.sha256(data).digest()
-        if key not in self.known_contents:
-            self.known_contents[key] = self.open_file(data)
-        return self.known_contents[key]
+    def state_in_file(self, data: bytes) -> int | str:
+        """Returns the number of commands in a session file if the file has the state after these commands. Otherwise returns a description, as
+        `open_file` does."""
+        content_id = hashlib.sha256(data).digest()
+        if content_id not in self.known_contents:
+            self.known_contents[content_id] = self.open_file(data)
+        return self.known_contents[content_id]
 
     def open_file(self, data: bytes) -> int | str:
         """Opens a session file with the program, and checks its state. Returns its number of commands, `blank` if `new` can begin a session in the

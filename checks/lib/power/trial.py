@@ -17,7 +17,7 @@ import time
 from collections.abc import Iterator
 from typing import NamedTuple
 
-from power.cases import (ALL_COMMANDS, CASES, FEW_COMMANDS, FILE_SYSTEMS, MORE_COMMANDS, NO_BARRIER, Case, FileSystem, Trial)
+from power.cases import (MAX_COMMAND_COUNT, CASES, FEW_COMMAND_COUNT, FILE_SYSTEMS, MORE_COMMAND_COUNT, NO_BARRIER, Case, FileSystem, Trial)
 from power.disk import Disk, Event, PowerCheckError
 from power.images import ImageBuilder, History, Image, Phase
 from power.machine import Machine
@@ -28,8 +28,8 @@ MEBIBYTE = 1 << 20
 # A shell line that starts another writer on the file system, so that the file system commits between the writes of the program.
 START_OTHER_WRITER = "(cd /; n=/mnt/noise; while :; do echo noise >> $n/a; mv $n/a $n/b; sleep 0.3; mv $n/b $n/a; done) & busy=$!"
 # Shell lines. START_PROGRAM starts the program with its serial line as input and output, and reports if the program ends unexpectedly.
-# STOP_AND_UNMOUNT ends all processes that use the file system, and unmounts it, with a second attempt because an ended process can keep the file
-# system in use for a moment.
+# STOP_AND_UNMOUNT ends all processes that use the file system, and unmounts it. If this fails, it tries again a second later, because a process that
+# has ended can keep the file system in use for a moment.
 START_PROGRAM = "{{ {environment} mcs4 {arguments} <&3 >&3; status=$?; [ -e /tmp/end ] || echo ended with status $status >&3; }} &"
 STOP_AND_UNMOUNT = "cd /; : > /tmp/end; kill $busy; killall mcs4; wait; rm /tmp/end; umount /mnt || { sleep 1; umount /mnt; }"
 # The allowed results if the power is cut before the first answer of `new`, on a file system that shows only written data.
@@ -37,7 +37,7 @@ ALLOWED_BEFORE_NEW = ("absent", "size 0", "blank", 0)
 # The maximum number of errors to report for each generation of a trial, and of images to store in total.
 MAX_REPORTED, MAX_STORED = 2, 6
 
-# The result of examining an image: the number of commands in its session, or a description of anything else.
+# What an image contains: the number of commands in its session, or a description if it contains no session.
 Contents = int | str
 
 
@@ -75,7 +75,7 @@ class Stage:
     image_count: int
 
 
-class Runner:
+class TrialRunner:
     """A machine with two disks, on which trials run. Images are written to `disk`. The machine copies the session files that it finds to
     `output_disk`."""
 
@@ -92,14 +92,14 @@ class Runner:
         """Runs a trial, and returns its result."""
         file_system, case = FILE_SYSTEMS[trial.file_system], CASES[trial.case]
         self.create_file_system(file_system, trial, case)
-        last_command = ALL_COMMANDS if case.gets_all_commands else case.initial_commands + (MORE_COMMANDS if case.is_durable else FEW_COMMANDS)
+        last_command = MAX_COMMAND_COUNT if case.gets_all_commands else case.initial_commands + (MORE_COMMAND_COUNT if case.is_durable else FEW_COMMAND_COUNT)
         stage = Stage(case.arguments, case.before, case.initial_commands, last_command, case.is_durable, trial.image_count)
         outcome = Outcome()
         for generation in range(trial.generation_count + 1):
             start_time = time.monotonic()
             history = self.record(file_system, trial, case, stage)
             builder = ImageBuilder(self.disk, history)
-            images = history.draw(history.all_images(), stage.image_count)
+            images = history.choose_images(history.all_images(), stage.image_count)
             with self.examining():
                 examined_images = [self.examine(builder, file_system, trial, case, image) for image in images]
             results = self.report_results(trial, generation, history, examined_images, builder, time.monotonic() - start_time)
@@ -190,7 +190,7 @@ class Runner:
         answer = self.machine.receive(self.machine.shell)
         if answer != f"size {FILE_BYTES}":
             return answer
-        return self.sessions.commands_in(bytes(self.output_disk.bytes[:FILE_BYTES]))
+        return self.sessions.state_in_file(bytes(self.output_disk.bytes[:FILE_BYTES]))
 
     @contextlib.contextmanager
     def examining(self) -> Iterator[None]:
@@ -273,7 +273,7 @@ class Runner:
         name.with_suffix(".json").write_text(json.dumps(description))
         print(f"    examine it again: {self.show_command} --show {name}", flush=True)
 
-    def examine_stored(self, name: pathlib.Path) -> bool:
+    def examine_stored_image(self, name: pathlib.Path) -> bool:
         """Prints the contents of a stored image. Returns true if they are as required."""
         description = json.loads(name.with_suffix(".json").read_text())
         file_system, image = FILE_SYSTEMS[description["file_system"]], name.read_bytes()
@@ -306,7 +306,7 @@ class Runner:
 
     @staticmethod
     def next_stage(case: Case, contents: Contents, image_count: int) -> Stage:
-        """Returns the stage of the next generation: the session continues, or is created if the file is blank."""
+        """Returns the stage of the next generation. It continues the session, or creates one if the file is blank."""
         if not isinstance(contents, int):
-            return Stage(case.arguments, "", 0, MORE_COMMANDS, False, image_count)
-        return Stage(f"open {case.file}", "", contents, contents + MORE_COMMANDS, True, image_count)
+            return Stage(case.arguments, "", 0, MORE_COMMAND_COUNT, False, image_count)
+        return Stage(f"open {case.file}", "", contents, contents + MORE_COMMAND_COUNT, True, image_count)

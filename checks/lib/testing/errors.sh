@@ -1,4 +1,4 @@
-# Checks that mcs4 test reports each error in texts of tests with its file and line, and runs no test. Also checks errors in the tested programs, and
+# Checks that mcs4 test reports each error in files of tests with its file and line, and runs no test. Also checks errors in the tested programs, and
 # values of MCS4 that do not name the bench.
 # shellcheck shell=sh
 

@@ -39,14 +39,14 @@ done
 chmod 755 "$check_folder" "$folder"
 mkdir -m 777 "$folder/anyone"
 chmod 444 "$folder/stopped.mcs"
-as_reader=env
-if [ "$(id -u)" -eq 0 ]; then as_reader="$(command -v setpriv) --reuid=65534 --regid=65534 --clear-groups"; fi
+reader_prefix=env
+if [ "$(id -u)" -eq 0 ]; then reader_prefix="$(command -v setpriv) --reuid=65534 --regid=65534 --clear-groups"; fi
 for arguments in "trace SESSION 3" "trace --source $three_lamps/three_lamps.asm SESSION 3" "trace --last 2 SESSION 1000" "wave SESSION 3" "wave --lines SESSION" \
     "cover --session SESSION 3 $three_lamps/three_lamps.asm" "profile --session SESSION 3 $three_lamps/three_lamps.asm"; do
     before=${arguments%%SESSION*}
     after=${arguments#*SESSION}
     # shellcheck disable=SC2086
-    verdict "$(outcome env TMPDIR="$folder/anyone" $as_reader ./mcs4 $before"$folder/stopped.mcs"$after)" "$(outcome ./mcs4 $before"$folder/stopped.mcs"$after)" "a read-only session: $arguments"
+    verdict "$(outcome env TMPDIR="$folder/anyone" $reader_prefix ./mcs4 $before"$folder/stopped.mcs"$after)" "$(outcome ./mcs4 $before"$folder/stopped.mcs"$after)" "a read-only session: $arguments"
 done
 
 # Creates a program that ends before it has answered, and uses it in place of the native program.

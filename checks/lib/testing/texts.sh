@@ -1,8 +1,8 @@
-# Checks that mcs4 test reads several texts of tests, pipes instead of files, comments at the end of a line, and times in microseconds. Also checks
+# Checks that mcs4 test reads several files of tests, pipes instead of files, comments at the end of a line, and times in microseconds. Also checks
 # boards with a display and other lamps.
 # shellcheck shell=sh
 
-# Checks that a saved state is known only in the text that saves it.
+# Checks that a test can start from a saved state only in the file that saves this state. Two files can use the same name for different states.
 printf 'test a\n press 1 2 ; keys\n run 5   # a moment\n save begun ; here\ntest b # 1\n from begun\n release 1 2\n' > "$folder/first.test"
 printf 'test c\n press #\n release # ; the key #\n save begun\ntest d\n from begun\n run 54 us\n expect cycles 54us # five\n' > "$folder/second.test"
 verdict "$(outcome ./mcs4 test $lock/board.toml $lock/lock.asm "$folder/first.test" "$folder/second.test")" "TAP version 13
@@ -29,8 +29,8 @@ printf 'loop: JUN loop ; \344\n' > "$folder/latin.asm"
 verdict "$(outcome ./mcs4 cover $lock/board.toml "$folder/latin.asm" "$folder/unsaved.test" | sed -n 's/.*loop:/loop:/p')" \
     "loop: JUN loop ; $(printf '\303\244')" "a program in Latin 1"
 
-# Checks that shared steps of a text are known in later texts. If a step fails, its text and line are reported, and so is the line that runs the
-# steps.
+# Checks that tests can run named steps that an earlier file of tests defines. If a step fails, the message must name the file and line of the step,
+# and of the test line that runs the steps.
 printf 'steps opened\n expect lamps open\nsteps enter # the code\n keys 4711#\n do opened\n' > "$folder/steps.test"
 printf 'test it opens\n run 100 ms\n do enter\ntest it does not\n run 100 ms\n keys 3\n do enter\n' > "$folder/opens.test"
 verdict "$(outcome ./mcs4 test $lock/board.toml $lock/lock.asm "$folder/steps.test" "$folder/opens.test" | results)" "ok 1 - it opens

@@ -26,7 +26,7 @@ echo "lamps *..........***......*.." > "$folder/answers"
 verdict "$(outcome ./mcs4 display "$folder/board.toml" < "$folder/answers")" "-1.82
 status 0" "a display with points"
 
-# Checks multiplexed digits: the display over 30 ms, which differs from the lamps at one instant.
+# Checks multiplexed digits. At any instant, only some of the digits' lamps are on, so the display must be computed from the last 30 ms.
 ./mcs4 script examples/clock/board.toml examples/clock/clock.asm | sed '/^run /d' > "$folder/clock.txt"
 new_session clock < "$folder/clock.txt"
 verdict "$(outcome ./mcs4 keys examples/clock/board.toml SET | tail -n 3)" "run 16000
@@ -75,7 +75,7 @@ check_rejected 1 "display: $lock/board.toml has no display: a comment \`# displa
 printf '# display 0: four digits\n' > "$folder/board.toml"
 check_rejected 1 "display: $folder/board.toml: line 1: not a display: write \`# display 3: 8 digits\`, if needed with \`of 7 segments\`, \`with points\`, \`scanned by 7\`" \
     ./mcs4 display "$folder/board.toml" < "$folder/answers"
-# Checks that comments that name parts that the board lacks are rejected, as `test` rejects them.
+# Checks that `display` rejects comments about parts that the board lacks, with the same messages as `test`.
 board_of 8 '# display 0: 2 digits\n# printer rom0.1: ram0.0 0 1 feed\n' > "$folder/board.toml"
 echo "start: JUN start" > "$folder/idle.asm"
 printf 'test: dark\nexpect display 00\n' > "$folder/idle.test"

@@ -71,7 +71,7 @@ cat > "$folder/commands" <<commands
 1 y display $folder/none$control_characters
 1 y explain $folder/bogus
 commands
-raw_pattern="[$(printf '\001')-$(printf '\010')$(printf '\013')-$(printf '\037\177')]\|$(printf '\302\233')"
+control_pattern="[$(printf '\001')-$(printf '\010')$(printf '\013')-$(printf '\037\177')]\|$(printf '\302\233')"
 answers=$folder/answers
 while read -r expected is_shown arguments; do
     tool=${arguments%% *}
@@ -79,11 +79,11 @@ while read -r expected is_shown arguments; do
     status=0
     # shellcheck disable=SC2086
     ./mcs4 $arguments < "$answers" > "$folder/output" 2> "$folder/errors" || status=$?
-    verdict "$status; $(LC_ALL=C grep -ac "$raw_pattern" "$folder/errors")" "$expected; 0" "standard error of $arguments"
+    verdict "$status; $(LC_ALL=C grep -ac "$control_pattern" "$folder/errors")" "$expected; 0" "standard error of $arguments"
     case $tool in
-    # Output that is not for a terminal must contain the original bytes.
+    # If the output is not a terminal, it must contain the original bytes.
     import | listing) if [ "$expected" -eq 0 ]; then verdict "$(LC_ALL=C grep -acF "$control_characters" "$folder/output")" 1 "a file of $arguments"; fi ;;
-    *) verdict "$(LC_ALL=C grep -ac "$raw_pattern" "$folder/output")" 0 "standard output of $arguments" ;;
+    *) verdict "$(LC_ALL=C grep -ac "$control_pattern" "$folder/output")" 0 "standard output of $arguments" ;;
     esac
     rm -rf "$folder/none"
     if ! command -v python3 > /dev/null; then continue; fi
@@ -91,9 +91,9 @@ while read -r expected is_shown arguments; do
     python3 "$folder/terminal.py" ./mcs4 $arguments < "$answers" > "$folder/terminal"
     rm -rf "$folder/none"
     if LC_ALL=C grep -qaF "$shown" "$folder/terminal"; then was_shown=y; else was_shown=n; fi
-    verdict "$was_shown, $(LC_ALL=C grep -ac "$raw_pattern" "$folder/terminal") raw" "$is_shown, 0 raw" "a terminal with $arguments"
+    verdict "$was_shown, $(LC_ALL=C grep -ac "$control_pattern" "$folder/terminal") raw" "$is_shown, 0 raw" "a terminal with $arguments"
 done < "$folder/commands"
 # Checks that this check would find unescaped characters: `cat` prints them as they are.
 if command -v python3 > /dev/null; then
-    verdict "$(python3 "$folder/terminal.py" cat "$folder/bogus" | LC_ALL=C grep -ac "$raw_pattern")" 1 "a terminal with cat"
+    verdict "$(python3 "$folder/terminal.py" cat "$folder/bogus" | LC_ALL=C grep -ac "$control_pattern")" 1 "a terminal with cat"
 fi

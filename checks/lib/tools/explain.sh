@@ -131,7 +131,7 @@ check_rejected 1 "explain: these are not the answers to this script: line 4 of t
 check_rejected 2 "explain: SCRIPT is missing
 usage: mcs4 explain [--source PROGRAM SESSION] SCRIPT < ANSWERS" ./mcs4 explain
 
-# Tries answers that end early or do not belong to the script, and text that is not an answer. Arguments: the script, the answers, and the expected
+# Tries answers that are incomplete, answers to another script, and text that is not an answer. Arguments: the script, the answers, and the expected
 # output.
 check_explain() {
     printf "$1" > "$folder/script"

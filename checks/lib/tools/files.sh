@@ -15,14 +15,14 @@ if mount -t tmpfs -o size=64k tmpfs "$small_disk" 2> /dev/null; then
         verdict "$(TMPDIR=$small_disk outcome ./mcs4 $arguments | tail -n 2)" "${arguments%% *}: $small_disk has no room for temporary files; make some, or name another place: TMPDIR
 status 1" "no room for the temporary files of $arguments"
     done
-    # A process that the tool has started can end a moment later, so several attempts are made.
+    # Makes several attempts, because a process that the tool has started can end a moment later.
     for attempt in 1 2 3 4 5 6 7 8 9 10; do if umount "$small_disk" 2> /dev/null; then break; fi; sleep 0.5; done
 else
     echo "not run: a full folder for temporary files (a file system cannot be mounted here)"
 fi
 
 # Runs a command with invalid files: an empty file, a folder, a missing file, a file of 100 MB, a link to itself, and a name that is too long.
-# Arguments: the maximum size of a file in bytes, and the command, to which the file and `last_word` are appended.
+# Arguments: the maximum size of a file in bytes, and the command. The name of the file and `last_word` are appended to the command.
 : > "$folder/empty"
 ln -s loop "$folder/loop"
 long_name=$(printf '%256s' | tr ' ' x)
@@ -83,7 +83,7 @@ for arguments in "resume $folder/two.txt $folder/session.mcs" "trace $folder/ses
 status 1" "a session in use: $arguments"
 done
 
-# Checks a session that another program has open: `resume` reports that, and prints no answers.
+# Checks that `resume` reports a session that another program has open, and prints no answers.
 echo reset | new_session held
 if command -v flock > /dev/null; then
     verdict "$(outcome flock "$folder/held.mcs" ./mcs4 resume "$folder/two.txt" "$folder/held.mcs")" \
@@ -135,7 +135,7 @@ awk 'BEGIN { print "test longer\nrepeat 100000\nrun 100000\nend" }' > "$folder/l
 mkfifo "$folder/silent"
 new_session session < $calculator/quotient.txt
 # Prints the number of processes that use the folder `interrupted` for temporary files.
-count_started() {
+count_interrupted_processes() {
     grep -lzsx "TMPDIR=$folder/interrupted" /proc/[0-9]*/environ | wc -l | tr -d ' '
 }
 for arguments in "1.mcs test $lock/board.toml $lock/lock.asm $folder/longer.test" \
@@ -153,6 +153,6 @@ for arguments in "1.mcs test $lock/board.toml $lock/lock.asm $folder/longer.test
     kill -s TERM "$tool"
     status=0
     wait $! 2> /dev/null || status=$?
-    for attempt in 1 2 3 4 5 6 7 8 9 10; do if [ "$(count_started)" -eq 0 ]; then break; fi; sleep 0.2; done
-    verdict "$status, $(count_started) running, $(ls "$folder/interrupted" | wc -l | tr -d ' ') left" "143, 0 running, 0 left" "TERM to ${arguments%% *} only"
+    for attempt in 1 2 3 4 5 6 7 8 9 10; do if [ "$(count_interrupted_processes)" -eq 0 ]; then break; fi; sleep 0.2; done
+    verdict "$status, $(count_interrupted_processes) running, $(ls "$folder/interrupted" | wc -l | tr -d ' ') left" "143, 0 running, 0 left" "TERM to ${arguments%% *} only"
 done

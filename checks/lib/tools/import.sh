@@ -4,7 +4,7 @@
 # Prints the ROM contents of a program.
 rom_of() {
     rm -f "$folder/import.mcs"
-    { roms 16 && echo asm && LC_ALL=C sed 's/;.*//; s/[ \t]*$//' "$1" && echo . && ./mcs4 rom ask 0 4096; } | "$mcs4" new "$folder/import.mcs" | sed 1,3d
+    { rom_board_lines 16 && echo asm && LC_ALL=C sed 's/;.*//; s/[ \t]*$//' "$1" && echo . && ./mcs4 rom ask 0 4096; } | "$mcs4" new "$folder/import.mcs" | sed 1,3d
 }
 cat > "$folder/intel.src" <<'source'
 / Intel's spelling, and AS's
@@ -140,7 +140,7 @@ LOOP, NOP|LOOP is not an instruction; mcs4 import takes programs in Intel's and 
  NOP / none|NOP takes no operand; mcs4 import takes programs in Intel's and AS's spelling
  JMP 4|JMP is not an instruction; JUN?
 lines
-# Checks that unsupported lines are reported, and that then no program is printed.
+# Checks that unsupported lines are reported, and that a text with such lines prints no program.
 cat > "$folder/bad.src" <<'source'
        JMP START
 X      EQU Y

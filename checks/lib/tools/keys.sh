@@ -28,7 +28,7 @@ check_rejected 1 "keys: $folder/board.toml has no comments \`# row R: NAME ..\` 
 check_usage_error "CYCLES of --down: '0' is not a decimal number from 1 to 100000" ./mcs4 keys --down 0 $lock/board.toml 1
 check_rejected 2 "keys: KEYS is missing
 usage: mcs4 keys [-C FOLDER] [--down CYCLES] [--up CYCLES] [--until-stop SESSION] [BOARD] KEYS" ./mcs4 keys $lock/board.toml
-# Sets a breakpoint where the program reads a digit. The key must still be down there, and no later key may be pressed.
+# Sets a breakpoint where the program reads a digit. At the breakpoint, the key must still be down, and no later key may have been pressed.
 {
     ./mcs4 script $lock/board.toml $lock/lock.asm | sed '$d'
     echo 'break @right' | ./mcs4 names $lock/lock.asm

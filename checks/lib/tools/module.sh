@@ -63,7 +63,7 @@ for text in examples/*.txt; do
     check_same_on_module /dev/null trace "$folder/$name.mcs" 600
     check_same_on_module /dev/null wave "$folder/$name.mcs" 3000
     check_same_on_module "$folder/answers" explain "$text"
-    # Extracts the board and the program of a script, for a test of them.
+    # Extracts the board and the program from a script, so that `mcs4 test` can use them.
     awk -v folder="$folder" '/^wire$/ { to = folder "/board.toml"; printf "" > to; next } /^asm$/ { to = folder "/program.asm"; printf "" > to; next }
         /^\.$/ { to = "" } to != "" { print > to }' "$text"
     if [ -f "examples/$name.test" ]; then

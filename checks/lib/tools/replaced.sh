@@ -13,7 +13,7 @@ again: IAC
 }
 make_board_with_buzzer
 ./mcs4 project split examples/a_fault_to_find.mcsp "$folder/taken_apart"
-# Functions that write a file, whose name is their argument: a project, a sound, a coverage record.
+# Functions that write a project, a sound or a coverage record to a file. Argument: the name of the file.
 write_project() { ./mcs4 project join "$folder/taken_apart" "$1"; }
 write_sound() { ./mcs4 wave --wav "$1" "$folder/buzzer.mcs" 100000 rom0.0; }
 write_record() { ./mcs4 cover --lcov "$1" $lock/board.toml $lock/lock.asm $lock/lock.test > "$folder/covered"; }
@@ -94,7 +94,7 @@ verdict "$(cat "$folder/split_guessed"/board.toml.*); $(cmp "$folder/split_guess
 # Stops tools with a signal at many different moments. Then the file must be either the old or the new one, a folder must be complete or missing, and
 # no other files may be left.
 mkdir "$folder/stopped" "$folder/temporary"
-stop_command() {
+stop_during_command() {
     TMPDIR=$folder/temporary setsid env --default-signal=INT,TERM,HUP timeout --foreground -s KILL 60 "$@" > "$folder/printed" 2>&1 &
     child=$!
     sleep "0.$(printf '%03d' "$delay")"
@@ -116,13 +116,13 @@ for signal in INT TERM HUP; do
     for target in group tool; do
         for delay in 5 20 40 60 80 100 120 150 200 300; do
             cp "$folder/old" "$folder/stopped/out.mcsp"
-            stop_command ./mcs4 project join "$folder/taken_apart" "$folder/stopped/out.mcsp"
+            stop_during_command ./mcs4 project join "$folder/taken_apart" "$folder/stopped/out.mcsp"
             if ! cmp -s "$folder/old" "$folder/stopped/out.mcsp" && ! cmp -s "$folder/project/whole" "$folder/stopped/out.mcsp"; then errors="$errors join:$signal:$delay"; fi
             rm "$folder/stopped/out.mcsp"
-            stop_command ./mcs4 project split examples/a_fault_to_find.mcsp "$folder/stopped/new/inner"
+            stop_during_command ./mcs4 project split examples/a_fault_to_find.mcsp "$folder/stopped/new/inner"
             if [ -e "$folder/stopped/new" ] && ! diff -r "$folder/taken_apart" "$folder/stopped/new/inner" > /dev/null; then errors="$errors split:$signal:$delay"; fi
             rm -rf "$folder/stopped/new"
-            stop_command ./mcs4 wave --wav "$folder/stopped/out.wav" "$folder/buzzer.mcs" 100000 rom0.0
+            stop_during_command ./mcs4 wave --wav "$folder/stopped/out.wav" "$folder/buzzer.mcs" 100000 rom0.0
             if [ -e "$folder/stopped/out.wav" ] && ! cmp -s "$folder/sound/whole" "$folder/stopped/out.wav"; then errors="$errors wav:$signal:$delay"; fi
             rm -f "$folder/stopped/out.wav"
             leftovers=$(ls -A "$folder/stopped" "$folder/temporary" | grep -v ':$' | tr -d '\n')

@@ -1,7 +1,7 @@
 # Checks that mcs4 resume continues a session with the part of a script that the session has not executed.
 # shellcheck shell=sh
 
-# Cuts a script off after every third line. `resume` must then lead to the same state. Also kills the program while it runs a script.
+# Cuts a script off after every third line. `resume` must then lead to the same state as the whole script. Also kills the program during a script.
 cat > "$folder/resume.txt" <<'script'
 regs
 wire
@@ -65,8 +65,8 @@ verdict "$(./mcs4 resume "$folder/long.txt" "$folder/cut.mcs" | tail -n 1)" \
     "acc 0 cy 0 pc A00 owed 0 dcl 0 test 1 r 8888888888888888 ret 000 000 000" "a script that was killed"
 verdict "$(echo seq | "$mcs4" open "$folder/cut.mcs" | tail -n 1)" "seq 800" "the commands of a script that was killed"
 
-# Checks that for a session that did not begin with the script, the difference is reported, and no line is sent. Arguments: the script, the session's
-# lines, the expected output, and a description of the difference.
+# Checks that if the session did not begin with the lines of the script, the tool reports the difference and sends nothing. Arguments: the script, the
+# session's lines, the expected output, and a description of the difference.
 check_differs() {
     printf "$1" > "$folder/script"
     printf "$2" | new_session other
@@ -84,7 +84,8 @@ check_differs "${board_with_keys}poke r0 1\nstep\npoke r0 0\nreset\n" "${board_w
 > src 10" "SRC bytes"
 check_differs "${board_with_keys}poke acc 8\nrun 2\npoke acc 0\nreset\n" "${board_with_keys}poke acc 4\nrun 2\npoke acc 0\n" "< roms 0.4.0,1.0.0
 > roms 0.8.0,1.0.0" latches
-# Two sessions that write 2 and 3, or 1 and 3, to the port. In both, the clock rises once, but the data line is 1 or 0 at that time.
+# One session writes 2 and then 3 to the port, and the other one 1 and then 3. The chain's clock rises once in each, while its data line is 1 in the
+# first session and 0 in the second.
 check_differs "${board_with_keys}poke acc 2\nrun 4\npoke acc 3\npoke acc 3\npoke acc 3\nreset\n" "${board_with_keys}poke acc 1\nrun 2\npoke acc 3\npoke pc 3\nstep\n" \
     "< chains 0000000000
 > chains 1000000000" chains

@@ -3,11 +3,11 @@
 
 # Checks that 4,096 random bytes are imported and exported unchanged, as bytes and in Intel HEX. The Intel HEX of a few bytes was written manually.
 head -c 4096 /dev/urandom > "$folder/image"
-{ roms 16 && ./mcs4 rom load --binary "$folder/image" && ./mcs4 rom ask 0 4096; } | new_session rom
+{ rom_board_lines 16 && ./mcs4 rom load --binary "$folder/image" && ./mcs4 rom ask 0 4096; } | new_session rom
 ./mcs4 rom save 0 4096 < "$folder/answers" > "$folder/saved"
 verdict_of_files "$folder/saved" "$folder/image" "a binary image that was imported and exported"
 ./mcs4 rom save --hex 0 4096 < "$folder/answers" > "$folder/saved.hex"
-{ roms 16 && ./mcs4 rom load "$folder/saved.hex" && ./mcs4 rom ask 0 4096; } | new_session rom
+{ rom_board_lines 16 && ./mcs4 rom load "$folder/saved.hex" && ./mcs4 rom ask 0 4096; } | new_session rom
 ./mcs4 rom save 0 4096 < "$folder/answers" > "$folder/saved"
 verdict_of_files "$folder/saved" "$folder/image" "an image that was exported and imported in Intel HEX"
 printf ':03002000010203D7\r\n:0000040000FC\r\n' > "$folder/bad.hex"
@@ -85,7 +85,7 @@ status 0" "three words of BNPF"
 ./mcs4 rom save --bnpf 256 256 < "$folder/answers" > "$folder/saved.bnpf"
 verdict "$(sed 2q "$folder/saved.bnpf" | tr -d 'BNPF'); $(wc -l < "$folder/saved.bnpf" | tr -d ' ')" " 256    
  260    ; 64" "a ROM in BNPF"
-{ roms 16 && ./mcs4 rom load "$folder/saved.bnpf" 256 && ./mcs4 rom ask 256 256; } | new_session rom
+{ rom_board_lines 16 && ./mcs4 rom load "$folder/saved.bnpf" 256 && ./mcs4 rom ask 256 256; } | new_session rom
 ./mcs4 rom save 256 256 < "$folder/answers" > "$folder/saved"
 tail -c +257 "$folder/image" | head -c 256 > "$folder/page_1"
 verdict_of_files "$folder/saved" "$folder/page_1" "a ROM that was exported and imported in BNPF"
@@ -118,7 +118,7 @@ verdict "$(outcome ./mcs4 rom load "$folder/letters.bin" | sed -n 3p)" "DB 208" 
 head -c 4096 /dev/zero | tr '\000' '\377' > "$folder/image"
 for chips in 12 16; do
     {
-        roms "$chips"
+        rom_board_lines "$chips"
         ./mcs4 rom load --binary "$folder/image"
         ./mcs4 rom ask 0 4096
     } > "$folder/script"

@@ -197,7 +197,7 @@ FNR < NR && $2 ~ /^([0-9A-F][0-9A-F][0-9A-F]|\(the)$/ {
     }
     traced = traced $1 " " $2 " " row() "\n"
 }
-END { printf "%s", (traced == stepped ? "same\n" : "TRACED\n" traced "STEPPED\n" stepped) }
+END { printf "%s", (traced == stepped ? "same\n" : "TRACED\n" traced "STEPPED_MESSAGE\n" stepped) }
 program
 verdict "$(awk -f "$folder/compare.awk" "$folder/answers" "$folder/traced")" same "a trace, compared with steps"
 verdict "$(wc -l < "$folder/traced" | awk '{ print ($1 > 1500) }')" 1 "many instructions in a trace"
