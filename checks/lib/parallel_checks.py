@@ -36,6 +36,8 @@ CACHE_FILE = pathlib.Path(os.environ.get("XDG_CACHE_HOME") or pathlib.Path.home(
 # The time limit of a check is MIN_SECONDS plus TIME_FACTOR times its usual time.
 MIN_SECONDS, TIME_FACTOR = 900, 5
 END_TIMEOUT_SECONDS = 5
+# The time between two updates. A check that ends leaves its processor idle for at most this time.
+UPDATE_SECONDS = 0.05
 # The minimum number of processors for running checks at the same time as the gate.
 MIN_PROCESSORS = 4
 COUNTS_PATTERN = re.compile(r"^(\d+) passed, (\d+) failed", re.M)
@@ -321,7 +323,7 @@ class Run:
         return None
 
     def update(self):
-        """Ends checks that exceed their time limit, counts the checks that have ended, and starts the next one."""
+        """Ends checks that exceed their time limit, counts the checks that have ended, and starts the next ones."""
         for running in list(self.running):
             if not running.is_over() and running.is_late():
                 with running.output.open("a") as file:
@@ -334,7 +336,7 @@ class Run:
                 self.gate.show(self.show)
             if is_over:
                 self.end(running)
-        if (check := self.take_next_check()) is not None:
+        while (check := self.take_next_check()) is not None:
             self.start(check)
 
     def run_all(self):
@@ -346,7 +348,7 @@ class Run:
         while self.waiting or self.running:
             self.update()
             self.show_progress()
-            time.sleep(0.2)
+            time.sleep(UPDATE_SECONDS)
 
     def show(self, text):
         """Prints text in place of the progress line."""
