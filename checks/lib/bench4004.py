@@ -27,7 +27,7 @@ PLACES: list[tuple[str, Callable[..., str]]] = [
     (r"src", lambda board: f"{board.chips.rom_src:02X}"),
     (r"rom(\w+)", lambda board, chip: f"{board.chips.levels('rom', chip):X}"),
     (r"ram(\w+)\.(\w+)", lambda board, bank, chip: f"{board.chips.levels('ram', bank, chip):X}"),
-    (r"chain(\w+)", lambda board, n: "".join(str(bit) for bit in board.chips.chains[n]) if n < len(board.chips.chains) else "-"),
+    (r"chain(\w+)", lambda board, n: "".join(map(str, board.chips.chains[n])) if n < len(board.chips.chains) else "-"),
     (r"r(\w+)", lambda board, k: f"{board.r[k]:X}"),
     (r"rom\.(\w+)", lambda board, address: f"{board.rom[address]:02X}"),
     (r"ram\.(\w+)\.(\w+)", lambda board, bank, src: f"{board.chips.ram[bank][src]:X}"),
@@ -85,9 +85,10 @@ def trace_answer(board: Board, limit: int, places: list[str]) -> list[str]:
 
     def on_instruction(cycles: int, address: int) -> None:
         nonlocal last_row
-        if not places or row_text() != last_row:
-            last_row = row_text()
-            lines.append(f"{cycles} {address:03X}{last_row}")
+        row = row_text()
+        if not places or row != last_row:
+            last_row = row
+            lines.append(f"{cycles} {address:03X}{row}")
 
     cycles, stop = copy.run(limit, on_instruction)
     return [f"trace ran {cycles} {stop} lines {len(lines)}{first_row}", *lines]

@@ -229,11 +229,12 @@ class Board:
     def run(self, max_cycles: int, on_instruction: Callable[[int, int], None] | None = None) -> tuple[int, str]:
         """Runs at most `max_cycles` cycles. Returns the number of cycles, and the reason for the stop. Calls `on_instruction` after the first cycle
         of each instruction, with the number of cycles before the instruction and its address."""
-        cycles, is_watch_hit = 0, False
+        cycles, is_watch_hit, values = 0, False, self.watched_values()
         while not (reason := self.stop_reason(cycles, max_cycles, is_watch_hit)):
-            address, is_first_cycle, values_before = self.pc, not self.owed, self.watched_values()
+            address, is_first_cycle, values_before = self.pc, not self.owed, values
             self.cycle()
-            is_watch_hit = values_before != self.watched_values()
+            values = self.watched_values()
+            is_watch_hit = values != values_before
             if is_first_cycle and on_instruction:
                 on_instruction(cycles, address)
             cycles += 1

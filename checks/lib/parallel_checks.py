@@ -36,6 +36,8 @@ CACHE_FILE = pathlib.Path(os.environ.get("XDG_CACHE_HOME") or pathlib.Path.home(
 # The time limit of a check is MIN_SECONDS plus TIME_FACTOR times its usual time.
 MIN_SECONDS, TIME_FACTOR = 900, 5
 END_TIMEOUT_SECONDS = 5
+# The time between two updates. A check that ends leaves its processor idle for at most this time.
+UPDATE_SECONDS = 0.05
 # The minimum number of processors for running checks at the same time as the gate.
 MIN_PROCESSORS = 4
 COUNTS_PATTERN = re.compile(r"^(\d+) passed, (\d+) failed", re.M)
@@ -101,9 +103,11 @@ CHECKS = [
     Check("page", "python3 node esbuild", 20, "--half 1", quick="--only layout basics --browser Chromium", part="1", browser_seconds=350),
     Check("page", "python3 node esbuild", 20, "--half 2 --scripts 100", long="--half 2 --scripts 400 --anew", part="2", browser_seconds=350),
     Check("power", "python3 cc", 240, "--seconds 240", long="--long"),
-    Check("page_source", "python3 node", 150, needs_of_parts="tsc eslint esbuild", quick=""),
+    Check("tools", "flock", 190, "command files manual module", part="1"),
+    Check("tools", "flock", 190, "arguments cycles display environment escapes examples explain faces full import joined keys listing names replaced "
+          "resume rom script speed texts trace", part="2"),
     Check("prove", "python3", 150, "200", long="2000", quick="30"),
-    Check("tools", "flock", 130),
+    Check("page_source", "python3 node", 150, needs_of_parts="tsc eslint esbuild", quick=""),
     Check("explore", "node parallel", 110, "2", long="60"),
     Check("installed", "flock", 90, "tools", part="tools"),
     Check("installed", "lintian", 60, "package", part="package"),
@@ -122,7 +126,7 @@ CHECKS = [
     Check("testing", "prove", 25, quick=""),
     Check("waves", "vcd2fst sigrok-cli sox", 25),
     Check("shipped", "", 25, quick="", reads_gate_output=True),
-    Check("stopped", "python3", 25),
+    Check("stopped", "python3", 40),
     Check("wiring", "python3", 20, "2000", long="20000", quick="200"),
     Check("editors", "node nvim", 20, quick=""),
     Check("grammars", "python3 node nvim esbuild", 20, quick=""),
@@ -321,7 +325,7 @@ class Run:
         return None
 
     def update(self):
-        """Ends checks that exceed their time limit, counts the checks that have ended, and starts the next one."""
+        """Ends checks that exceed their time limit, counts the checks that have ended, and starts the next ones."""
         for running in list(self.running):
             if not running.is_over() and running.is_late():
                 with running.output.open("a") as file:
@@ -334,7 +338,7 @@ class Run:
                 self.gate.show(self.show)
             if is_over:
                 self.end(running)
-        if (check := self.take_next_check()) is not None:
+        while (check := self.take_next_check()) is not None:
             self.start(check)
 
     def run_all(self):
@@ -346,7 +350,7 @@ class Run:
         while self.waiting or self.running:
             self.update()
             self.show_progress()
-            time.sleep(0.2)
+            time.sleep(UPDATE_SECONDS)
 
     def show(self, text):
         """Prints text in place of the progress line."""

@@ -6,8 +6,9 @@ session=$folder/session.mcs
 program=$calculator/calculator.asm
 commands=$(./mcs4 help | sed -n 's/^  \([a-z]\{3,9\}\) .*/\1/p')
 for command in $commands; do
-    verdict "$(outcome ./mcs4 "$command" -h)" "$(outcome ./mcs4 "$command" --help)" "mcs4 $command -h"
-    verdict "$(outcome ./mcs4 help "$command")" "$(outcome ./mcs4 "$command" --help)" "mcs4 help $command"
+    help_outcome=$(outcome ./mcs4 "$command" --help)
+    verdict "$(outcome ./mcs4 "$command" -h)" "$help_outcome" "mcs4 $command -h"
+    verdict "$(outcome ./mcs4 help "$command")" "$help_outcome" "mcs4 help $command"
 done
 # Tries an empty word, a word, a number with a sign, a number with an exponent, a number below the minimum, and a number above the maximum.
 for wrong in "" x -1 1e3 0 100000001; do
