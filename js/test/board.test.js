@@ -3,7 +3,7 @@ import assert from "node:assert/strict";
 import { readFileSync } from "node:fs";
 import { test } from "node:test";
 import { parseRefusal } from "../core/bench/answers.js";
-import { LINE_NAMES, MAX_COLUMNS, MAX_PARTS, VALUE_RANGES, boardLines } from "../core/bench/board_form.js";
+import { LINE_NAMES, MAX_COLUMNS, MAX_PARTS, VALUE_RANGES, signalLines } from "../core/bench/board_form.js";
 import { readErrors, readWiring } from "../core/bench/text_check_answers.js";
 import { Engine } from "../core/engine/engine.js";
 import { TextBench } from "../core/server/text_bench.js";
@@ -101,7 +101,7 @@ test("the page's limits for boards are the limits of the bench", async () => {
   for (const line of unknownLines) {
     assert.deepEqual([LINE_NAMES.has(line), await refusalNumberOf(boardWithLamp(line))], [false, 23], line);
   }
-  const lines = boardLines({ roms: [{ chip: 3, port: "i001" }], banks: [], chains: [] });
+  const lines = signalLines({ roms: [{ chip: 3, port: "i001" }], banks: [], chains: [] });
   assert.deepEqual(lines.map(({ name, isInput }) => `${name} ${isInput}`), ["rom3.0 false", "rom3.1 false", "rom3.2 false", "rom3.3 true"]);
 });
 

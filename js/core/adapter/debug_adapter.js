@@ -172,7 +172,7 @@ export class DebugAdapter {
   }
 
   /**
-   * Begins a debug session. Replaces an earlier one.
+   * Begins a debug session, which replaces any earlier session.
    * @param {LaunchResult} launchResult
    */
   async beginSession(launchResult) {
@@ -216,7 +216,7 @@ export class DebugAdapter {
    */
   async restart(args) {
     const { machine, launchResult, breakpoints } = this.currentSession;
-    await this.halt();
+    await this.pauseAndWait();
     if (launchResult.writer) {
       await launchResult.session.debugger.session.serve("reset\n", async () => true);
       await machine.saveAndReport();
@@ -232,7 +232,7 @@ export class DebugAdapter {
   }
 
   /** Pauses the machine and waits for the end of its move. */
-  async halt() {
+  async pauseAndWait() {
     if (!this.openSession) return;
     const { machine } = this.openSession;
     machine.pause();
@@ -250,7 +250,7 @@ export class DebugAdapter {
   async endDebugging() {
     const { openSession } = this;
     if (!openSession) return "";
-    await this.halt();
+    await this.pauseAndWait();
     this.openSession = null;
     const { writer, session } = openSession.launchResult;
     if (!writer) return "";
@@ -508,7 +508,7 @@ export class DebugAdapter {
     this.lastStop = moveEnd;
     this.sendFrontPanel();
     const isDataBreakpoint = moveEnd.reason === "data breakpoint";
-    const hit = moveEnd.reason === "breakpoint" ? openSession.breakpoints.hitBreakpoint(moveEnd.id)
+    const hit = moveEnd.reason === "breakpoint" ? openSession.breakpoints.describeHit(moveEnd.id)
       : { id: isDataBreakpoint ? moveEnd.id : 0, reason: moveEnd.reason };
     this.connection.sendEvent("stopped", {
       reason: hit.reason, description: moveEnd.message, threadId: THREAD_ID, allThreadsStopped: true,

@@ -43,8 +43,8 @@ function listInstructions(session, from, to) {
  * @returns {InstructionRow[]}
  */
 export function listInstructionRows(session, address, offset, count) {
-  // An instruction has at most two bytes. If the source map has an instruction nearby, the listing is aligned to it, so that no row starts
-  // at the second byte of an instruction.
+  // An instruction has at most two bytes. If the source map has an instruction within four bytes after `start`, the listing is aligned to
+  // it. No row then starts at the second byte of an instruction.
   const start = Math.max(0, address + 2 * Math.min(0, offset) - 1);
   const candidates = indices(4).map((distance) => start + distance);
   const alignedStart = candidates.find((candidate) => candidate <= address && session.map.beginsInstruction(candidate)) ?? start;

@@ -38,7 +38,7 @@ export function formatReference(number) {
 export const bankReference = (bank) => formatReference(CHARACTERS_BASE + BANK_SIZE * bank);
 
 /**
- * Returns the memory reference, as a number, of a RAM character or a status character; -1 for any other place.
+ * Returns the number in the memory reference of a RAM character or a status character; -1 for any other place.
  * @param {string} name
  */
 export function referenceNumberForPlace(name) {

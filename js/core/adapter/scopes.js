@@ -101,13 +101,14 @@ function ramRegisterVariables({ machineState }, bank) {
     const registerIndex = 4 * chip + register;
     return {
       ...createVariable(say.chipRegister(chip, register), `${digits} ${status}`),
-      variablesReference: REGISTER_BASE + 16 * bank + registerIndex, count: 20, memory: placeReference(`ram.${bank}.${16 * registerIndex}`),
+      variablesReference: REGISTER_BASE + 16 * bank + registerIndex, count: 20,
+      memory: memoryReference(`ram.${bank}.${16 * registerIndex}`),
     };
   });
 }
 
 /** @type {(place: string) => string} returns the memory reference of a RAM character or a status character */
-const placeReference = (place) => formatReference(referenceNumberForPlace(place));
+const memoryReference = (place) => formatReference(referenceNumberForPlace(place));
 
 /**
  * Returns the nibbles and status characters of a RAM register; an empty list if the board does not have the register. The name of a nibble
@@ -126,11 +127,11 @@ function characterVariables({ machineState, session }, bank, register) {
       const constantNames = constants.filter((constant) => constant.value === byte && byte > 15).map(({ name }) => name);
       const place = `ram.${bank}.0x${hex(byte, 2)}`;
       const name = `0x${hex(byte, 2)}${constantNames.length > 0 ? ` ${constantNames.join(" ")}` : ""}`;
-      return { ...createVariable(name, withHexPrefix(value), place), memory: placeReference(place) };
+      return { ...createVariable(name, withHexPrefix(value), place), memory: memoryReference(place) };
     }),
     ...[...ramRegister.status].map((value, index) => {
       const place = `st.${bank}.${register}.${index}`;
-      return { ...createVariable(`status ${index}`, withHexPrefix(value), place), memory: placeReference(place) };
+      return { ...createVariable(`status ${index}`, withHexPrefix(value), place), memory: memoryReference(place) };
     }),
   ];
 }
@@ -225,7 +226,7 @@ export class Scopes {
    * @returns {Variable[] | null}
    */
   variables(reference, base = "default") {
-    const variables = this.rawVariables(reference);
+    const variables = this.unformattedVariables(reference);
     return variables && variables.map((variable) => (
       { ...variable, value: variable.isDecimal ? formatInBase(Number(variable.value), base) : convertToBase(variable.value, base) }));
   }
@@ -234,7 +235,7 @@ export class Scopes {
    * Returns the variables of a scope, bank or RAM register, in the default number format; null if the reference is unknown.
    * @param {number} reference
    */
-  rawVariables(reference) {
+  unformattedVariables(reference) {
     const { state } = this;
     if (Object.prototype.hasOwnProperty.call(SCOPES, reference)) return SCOPES[reference].listVariables(state);
     if (reference >= BANK_BASE && reference < BANK_BASE + 8) return ramRegisterVariables(state, reference - BANK_BASE);

@@ -206,7 +206,7 @@ async function openSessionFile(engine, requestedFiles, host, messages) {
     const writer = new SessionWriter(file, session.debugger.session);
     if (isNew) await serveText(session, "wire", sentText(board, "#"), requestedFiles.board, messages);
     if (isNew || requestedFiles.load) await serveText(session, "asm", sentText(program, ";"), requestedFiles.program, messages);
-    else if (program !== "") checkRom(session, engine, requestedFiles, messages);
+    else if (program !== "") checkProgramMatchesRom(session, engine, requestedFiles, messages);
     await writer.write(session.debugger.session);
     return { session, writer, note: "" };
   } catch (thrown) {
@@ -230,7 +230,7 @@ async function loadSessionCopy(engine, requestedFiles, host, messages) {
   try {
     const session = new DebugSession(engine, { file, board, program: program || disassembleRom(engine, file) });
     if (requestedFiles.load && program !== "") await serveText(session, "asm", sentText(program, ";"), requestedFiles.program, messages);
-    else if (program !== "") checkRom(session, engine, requestedFiles, messages);
+    else if (program !== "") checkProgramMatchesRom(session, engine, requestedFiles, messages);
     return { session, writer: null, note: "" };
   } catch (thrown) {
     throw thrown instanceof BenchRefusal ? refusalError(requestedFiles.session, { number: thrown.number, line: 0 }, messages) : thrown;
@@ -270,7 +270,7 @@ export function describeDifference(session) {
  * @param {RequestedFiles} requestedFiles
  * @param {ErrorMessages} messages
  */
-function checkRom(session, engine, { program, session: file }, messages) {
+function checkProgramMatchesRom(session, engine, { program, session: file }, messages) {
   const { refusal } = assembleText(engine, sentText(session.program, ";"));
   if (refusal) throw refusalError(program, refusal, messages);
   const differenceText = describeDifference(session);

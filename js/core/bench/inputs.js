@@ -52,7 +52,7 @@ export function isSeqQuery(line) {
 export const SEQ_ANSWER = /^seq \d+$/;
 
 /**
- * Splits lines into inputs, without blank lines. Returns each input with the number of its line, from 1.
+ * Splits lines into inputs, and skips blank lines. Returns each input with the number of its first line, which counts from 1.
  * @param {string} lines
  */
 export function readNumberedInputs(lines) {
@@ -78,7 +78,7 @@ export function readNumberedInputs(lines) {
 }
 
 /**
- * Splits lines into inputs, without blank lines.
+ * Splits lines into inputs, and skips blank lines.
  * @param {string} lines
  * @returns {Input[]}
  */
@@ -94,12 +94,12 @@ export function readInputs(lines) {
  */
 export function findInputEnd(lines, from, minLength) {
   let offset = from;
-  let isOpen = false;
-  while (offset < lines.length && (isOpen || offset - from < minLength)) {
+  let isInText = false;
+  while (offset < lines.length && (isInText || offset - from < minLength)) {
     const lineFeed = lines.indexOf("\n", offset);
     const end = lineFeed < 0 ? lines.length : lineFeed;
     const line = stripCarriageReturn(lines.slice(offset, end));
-    isOpen = isOpen ? line !== "." : opensText(line);
+    isInText = isInText ? line !== "." : opensText(line);
     offset = Math.min(end + 1, lines.length);
   }
   return offset;

@@ -41,7 +41,7 @@ export function stateValue(answer, key) {
  * Returns the answer without the command count, so that callers can compare the states of two sessions.
  * @param {string} answer the answer to `state`; other answers can follow in the same string
  */
-export function stripSeq(answer) {
+export function withoutCommandCount(answer) {
   return answer.replace(/^state seq \d+ /, "");
 }
 

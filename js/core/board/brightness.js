@@ -17,8 +17,8 @@ export const MIN_ON_DUTY = 0.5;
 /** The minimum time without a change before a lamp or display can count as steady, in milliseconds. */
 const MIN_REST_MS = 2;
 /**
- * The gamma of the eye: the perceived brightness is the duty cycle to the power of 1 / GAMMA. The eye distinguishes dark lamps better than
- * bright ones.
+ * The gamma of the eye: the perceived brightness is the duty cycle to the power of 1 / GAMMA. The eye distinguishes dim lamps better than
+ * bright lamps.
  */
 const GAMMA = 2.2;
 /** The minimum duty cycles of the brightness levels: dim, half, full. */
@@ -131,13 +131,13 @@ export class PerceivedDigit {
     return this.largestComponent.pattern;
   }
 
-  /** True if no pattern makes up at least half of the mixture. */
+  /** True if each pattern makes up less than half of the mixture. */
   get isSmeared() {
     const total = [...this.shares.values()].reduce((sum, share) => sum + share, 0);
     return this.largestComponent.share < MIN_ON_DUTY * total;
   }
 
-  /** The pattern with the largest share, and that share. */
+  /** The pattern with the largest share of the mixture, and the size of this share. */
   get largestComponent() {
     const largest = { pattern: 0, share: 0 };
     for (const [pattern, share] of this.shares) if (share > largest.share) Object.assign(largest, { pattern, share });

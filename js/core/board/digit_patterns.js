@@ -63,7 +63,7 @@ export function hasPoints(columns) {
  * @param {string} marks one mark per lamp, `*` if the lamp is on
  * @param {number} firstLamp the number of the first lamp
  */
-function valueAt(marks, firstLamp) {
+function binaryValueAt(marks, firstLamp) {
   return (isLit(marks, firstLamp) ? 8 : 0) + (isLit(marks, firstLamp + 1) ? 4 : 0)
     + (isLit(marks, firstLamp + 2) ? 2 : 0) + (isLit(marks, firstLamp + 3) ? 1 : 0);
 }
@@ -85,7 +85,7 @@ export function digitPatterns(display, marks) {
  * @param {string} marks one mark per lamp, `*` if the lamp is on
  */
 function multiplexedPatterns({ first, rows, columns, firstRowLamp }, marks) {
-  const value = valueAt(marks, first);
+  const value = binaryValueAt(marks, first);
   const segments = columns >= 7 ? segmentsAt(marks, first) : value < 10 ? DIGIT_PATTERNS[value] : INVALID_DIGIT_PATTERN;
   const point = hasPoints(columns) && isLit(marks, first + columns - 1) ? POINT_BIT : 0;
   return Array.from({ length: rows }, (_, digit) => (isLit(marks, firstRowLamp + digit) ? segments + point : UNLIT_PATTERN));
@@ -107,7 +107,7 @@ function directPatterns({ first, rows, columns }, marks) {
       continue;
     }
     const isLast = digit === rows - 1;
-    const value = valueAt(marks, firstMark);
+    const value = binaryValueAt(marks, firstMark);
     isLeading = isLeading && value === 0 && point === 0 && !isLast;
     patterns.push(isLeading ? 0 : (value < 10 ? DIGIT_PATTERNS[value] : INVALID_DIGIT_PATTERN) + (isLast ? 0 : point));
   }

@@ -1,7 +1,9 @@
 // Parses the front panel of a board: the names, colours and positions in the comments of the board text. `tools/lib/face.txt` defines the
 // syntax.
 
-import { COLOURS, fitsHead, fitsWords, parseFaceLine, isNumber, findLimit, formatMessage, parseSize, splitWords } from "./face_words.js";
+import {
+  COLOURS, areWordsValid, findLimit, formatMessage, isHeadValid, isNumber, parseFaceLine, parseSize, splitWords,
+} from "./face_words.js";
 import { matrixKey, formatKey } from "./key_place.js";
 import * as say from "../../words/board.js";
 
@@ -117,8 +119,8 @@ export class Face {
     this.isFatal = kind.isFatal;
     if (kind.countsWords) this.wordCount += splitWords(words).filter((word) => word !== "_").length;
     if (this.wordCount > MAX_WORDS) this.reportError(line, formatMessage("too many words"));
-    else if (!fitsHead(kind, first, last)) this.reportError(line, kind.headError);
-    else if (kind.size === "-" && !fitsWords(kind, splitWords(words))) this.reportError(line, kind.wordsError);
+    else if (!isHeadValid(kind, first, last)) this.reportError(line, kind.headError);
+    else if (kind.size === "-" && !areWordsValid(kind, splitWords(words))) this.reportError(line, kind.wordsError);
     else if (name === "colour" && last !== undefined) this.readColourRange(Number(first), Number(last), words, line, kind);
     else LINE_READERS[name](this, { name, kind, first: (first || "").toLowerCase(), words, line });
   }

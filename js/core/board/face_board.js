@@ -33,8 +33,8 @@ function hasPart(board, part) {
 export function hasOutput(board, line) {
   const [place, bit] = [line.slice(0, line.lastIndexOf(".")), Number(line.slice(line.lastIndexOf(".") + 1))];
   if (!hasPart(board, place)) return false;
-  const number = Number(place.slice(-1));
-  if (place.startsWith("chain")) return bit < BITS_PER_CHIP * board.chains[number].chips;
+  const lastDigit = Number(place.slice(-1));
+  if (place.startsWith("chain")) return bit < BITS_PER_CHIP * board.chains[lastDigit].chips;
   return place.startsWith("ram") || board.roms.some(({ chip, port }) => `rom${Number(chip)}` === place && port[3 - bit] !== "i");
 }
 
@@ -176,7 +176,7 @@ export function lampColours(face, count) {
 }
 
 /**
- * Returns the number of the last lamp that each colour line applies to, by line number.
+ * Returns the number of the last lamp that each colour line colours, by the number of the colour line.
  * @param {Face} face
  */
 function lastColouredLamps(face) {

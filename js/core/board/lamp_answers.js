@@ -10,7 +10,7 @@ import * as say from "../../words/board.js";
  * @typedef {import("../bench/answers.js").Board} Board
  * @typedef {import("./face.js").Face} Face
  *
- * The display text for each answer about lamps. `error` is an error message, or "". If there is an error, the list of texts is empty.
+ * The display text for each answer about lamps. `error` is an error message, or "". If there is an error, `lines` is empty.
  * @typedef {{ lines: string[], error: string }} DisplayTexts
  */
 

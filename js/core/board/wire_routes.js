@@ -13,7 +13,7 @@
 const CONTROL_OFFSET = 12;
 /** The distance from pins and parts to the turning points of a wire. */
 const TURN_DISTANCE = 8;
-/** The minimum horizontal distance from a pin to a control point, in all other direct curves. */
+/** The minimum horizontal distance from a pin to a control point, in direct curves between two columns. */
 const MIN_CONTROL_OFFSET = 30;
 /** The distance between a wire and the part that it passes. */
 const LANE_DISTANCE = 5;
@@ -90,7 +90,7 @@ function sortedLanes({ from, to }, boxes) {
 }
 
 /**
- * Returns the y coordinate of the lane with the shortest detour that avoids all parts between the ends.
+ * Returns the y coordinate of a lane that avoids all parts between the ends. Selects the lane with the shortest detour.
  * @param {Ends} ends
  * @param {Box[]} boxesBetween the boxes of the parts between the ends
  */

@@ -34,7 +34,7 @@ export function currentWiredText(answers, text, storedTexts) {
 /**
  * Returns the texts that the session stores after a board is wired, newest first.
  * @param {WiredText} wiredText the text of the board
- * @param {WiredText[]} [storedTexts] the texts that the session has stored before
+ * @param {WiredText[]} [storedTexts] the texts that the session already stores
  */
 export function textsToStore(wiredText, storedTexts = []) {
   return [wiredText, ...storedTexts.filter(({ board }) => board !== wiredText.board)].slice(0, MAX_TEXTS);

@@ -5,9 +5,9 @@
 //     const { condition, error } = compileCondition("lamp open on and (r9 >= 8 or cy = 1)", { face, board, map });
 //     if (condition) .. `trace 1000 ${condition.places.join(" ")}` ..; condition.holds(rowValues(row))
 //
-// `places` has at most 16 different entries: places that `trace` reports, and members of STATE_PLACES, which `state` reports (probes.js
-// queries both). The argument of `holds` contains the values of these places, in the same order. `error` is an error message, and `column`
-// is the error's column, counted from 0.
+// `places` has at most 16 different entries: places that `trace` reports, and members of STATE_PLACES, which `state` reports. The queries
+// for these places are in probes.js. The argument of `holds` contains the values of these places, in the same order. `error` is an error
+// message, and `column` is the error's column, counted from 0.
 //
 // There are three functions that compile conditions:
 // - compileCondition: the condition of a breakpoint;

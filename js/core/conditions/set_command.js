@@ -71,7 +71,8 @@ function createSetting({ text, column }, value) {
 }
 
 /**
- * Translates the text after `set` into bench lines. VALUE can contain numbers and names from the program.
+ * Translates the text after `set`, which has the form `PLACE = VALUE`, into bench lines. VALUE can contain numbers and names from the
+ * program.
  * @param {string} text
  * @param {Names["map"]} map the source map of the program
  * @param {import("./condition_language.js").Board | null} [board] if given, a place that the board does not have is an error

@@ -188,9 +188,9 @@ function placeValue(place, { board }, dependencies) {
 }
 
 /**
- * Returns the value of a port with a direction. `rom1 in` is the value that RDR reads; an output line reads as its bit in the port mask of
- * the board. `rom1 out` and `ram0.1 out` are the value in the port latch, with 0 for input lines. Throws `ConditionError` if the board
- * lacks the port, or if `in` follows a RAM port.
+ * Returns the value of a port with a direction. `rom1 in` is the value that RDR reads. In this value, the bit of an output line is the
+ * constant from the port mask in the board text. `rom1 out` and `ram0.1 out` are the value in the port latch, with 0 for input lines.
+ * Throws `ConditionError` if the board lacks the port, or if `in` follows a RAM port.
  * @param {NameNode} node
  * @param {Names} names
  * @param {Dependencies} dependencies

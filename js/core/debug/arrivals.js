@@ -117,8 +117,8 @@ export class Arrivals {
     while (cyclesRun < cycles) {
       const cyclesLeft = cycles - cyclesRun;
       const runCount = Math.min(cyclesLeft, MAX_RUNS, Math.max(1, Math.round(2 * this.arrivalsPerCycle * cyclesLeft)));
-      const runWithQueries = `run ${Math.floor(cyclesLeft / runCount)}\n${this.probes.lines}`;
-      const answers = new ForecastAnswers(engine.serve(file, linesBefore + runWithQueries.repeat(runCount), file).answers);
+      const runAndQueryLines = `run ${Math.floor(cyclesLeft / runCount)}\n${this.probes.lines}`;
+      const answers = new ForecastAnswers(engine.serve(file, linesBefore + runAndQueryLines.repeat(runCount), file).answers);
       answers.skip(skippedCount);
       [linesBefore, skippedCount] = ["", 0];
       while (!answers.isEmpty) {
@@ -138,7 +138,7 @@ export class Arrivals {
    * Returns the breakpoint at the program counter if its condition is true; otherwise null.
    * @param {string[]} row the values of `places`, beginning with the program counter
    */
-  breakpointAt(row) {
+  findBreakpoint(row) {
     const breakpoint = this.breakpointsByAddress.get(parseInt(row[0], 16));
     return breakpoint && breakpoint.holds(this.breakpointValues(breakpoint, row)) ? breakpoint : null;
   }
@@ -199,7 +199,7 @@ export class Arrivals {
    * Adds new hits to the hit counts after the session has run the lines.
    * @param {BreakpointEvents} events the result of `searchLines` for these lines
    */
-  count({ hits }) {
+  countHits({ hits }) {
     for (const breakpoint of this.breakpoints) breakpoint.hits += hits.get(breakpoint.id) || 0;
   }
 }

@@ -40,8 +40,8 @@ export class BreakpointList {
     /** @type {Breakpoint[]} sorted by line; breakpoints without a line are last */
     this.all = savedBreakpoints.map((savedBreakpoint) => this.createBreakpoint(savedBreakpoint));
     /**
-     * @type {{ text: string, breakpoint: Breakpoint }[]} the breakpoints that were deleted with their lines, and the text of these lines,
-     *   newest last
+     * @type {{ text: string, breakpoint: Breakpoint }[]} the breakpoints that were deleted because their source lines were deleted, each
+     *   with the text of its line, newest last
      */
     this.deletedBreakpoints = [];
     /** @type {Map<string, Breakpoint[]>} the breakpoints of replaced source texts, by source text, newest last */
@@ -175,7 +175,7 @@ export class BreakpointList {
    */
   move(edit) {
     const { first, last, count, isUnrelated } = replacedLines(edit);
-    if (isUnrelated) return this.detachAll();
+    if (isUnrelated) return this.detachFromLines();
     const shift = count - (last - first + 1);
     if (shift === 0) return false;
     const isMoved = this.all.some(({ line }) => line >= first);
@@ -195,7 +195,7 @@ export class BreakpointList {
    * Clears the line of each breakpoint that has an address, after an unrelated text has replaced the whole text. Returns whether there are
    * any breakpoints.
    */
-  detachAll() {
+  detachFromLines() {
     this.all = this.all.map((breakpoint) => (breakpoint.address >= 0 ? { ...breakpoint, line: 0 } : breakpoint));
     this.sort();
     return this.all.length > 0;
@@ -266,7 +266,7 @@ export class BreakpointList {
    * Adds hits to the hit counts.
    * @param {[number, number][]} hits pairs of a breakpoint id and its number of new hits
    */
-  count(hits) {
+  countHits(hits) {
     for (const [id, newHits] of hits) {
       const breakpoint = this.get(id);
       if (breakpoint) breakpoint.hits += newHits;
@@ -308,10 +308,10 @@ function countEqualLines(oldLines, newLines, max, isAtEnd) {
  */
 function replacedLines({ from, to, text, removed = Array(to.line - from.line + 1).fill("\n"), replacesAll = false }) {
   const maxCount = Math.min(removed.length, text.length);
-  const isBefore = from.ch === 0;
-  const firstCount = countEqualLines(removed, text, maxCount, isBefore);
-  const secondCount = countEqualLines(removed, text, maxCount - firstCount, !isBefore);
-  const [before, after] = isBefore ? [secondCount, firstCount] : [firstCount, secondCount];
+  const isAtLineStart = from.ch === 0;
+  const firstCount = countEqualLines(removed, text, maxCount, isAtLineStart);
+  const secondCount = countEqualLines(removed, text, maxCount - firstCount, !isAtLineStart);
+  const [before, after] = isAtLineStart ? [secondCount, firstCount] : [firstCount, secondCount];
   const unchangedLines = [...text.slice(0, before), ...text.slice(text.length - after)];
   const isUnrelated = replacesAll && unchangedLines.join("").trim() === "" && removed.length > 2 && text.length > 2;
   return { first: from.line + 1 + before, last: to.line + 1 - after, count: text.length - before - after, isUnrelated };

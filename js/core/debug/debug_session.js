@@ -152,7 +152,7 @@ export class DebugSession {
     }
     debug.names = this.names;
     const { searchResult, tally } = await debug.runToGoal(goal, nearDistance(goal), shouldContinue);
-    this.breakpoints.count(tally.hits);
+    this.breakpoints.countHits(tally.hits);
     if (debug.isMoving) return this.runInPieces(goal, shouldContinue);
     const { cycles, isReached, end, id, endsAtReturn, change } = searchResult;
     return this.describeStop(goal, { reason: isReached ? "goal" : end, cycles, id, endsAtReturn, change }, tally);
@@ -184,7 +184,7 @@ export class DebugSession {
     for (let doneCycles = 0; ;) {
       const frame = piece.measure(() => debug.advance(Math.min(piece.size, maxCycles - doneCycles)));
       doneCycles += frame.cycles;
-      this.breakpoints.count(frame.tally.hits);
+      this.breakpoints.countHits(frame.tally.hits);
       tally = joinTallies(tally, frame.tally);
       if (frame.stop) return this.describeStop(goal, frame.stop, tally);
       const isOver = doneCycles >= maxCycles;
@@ -238,9 +238,9 @@ export class DebugSession {
     return { ...result, message: describeTimeTravel(goal, result, this.counterText, this.breakpoints.get(result.id)) };
   }
 
-  /** Joins the last two moves back into one move, which `goForward` undoes as a whole. */
-  joinMovesBack() {
-    this.debugger.session.timeline.joinMovesBack();
+  /** Joins the last two backward moves, so that one call of `goForward` undoes both moves. */
+  joinBackwardMoves() {
+    this.debugger.session.timeline.joinBackwardMoves();
   }
 
   /** Undoes the last move back: returns to the moment from which that move started. */
@@ -257,8 +257,9 @@ export class DebugSession {
    *   to false, `serve` throws CancelledError and no line takes effect
    */
   async serve(lines, shouldContinue = continueAlways) {
-    const { result, typedResult: { id, reason, change, cutLine, cycles, tally } } = await this.debugger.serveTyped(lines, shouldContinue);
-    this.breakpoints.count(tally.hits);
+    const { result, typedResult } = await this.debugger.serveTypedLines(lines, shouldContinue);
+    const { id, reason, change, cutLine, cycles, tally } = typedResult;
+    this.breakpoints.countHits(tally.hits);
     if (id === 0) return { ...result, tally, message: "" };
     const { message } = this.describeStop(null, { reason, id, cycles, endsAtReturn: false, change }, tally);
     return { ...result, tally, message: say.lineEnded(message, cutLine) };

@@ -18,7 +18,7 @@ import { readBoard, readRun } from "../bench/answers.js";
 import { hex } from "../bench/numbers.js";
 import { parsePlace } from "../conditions/places.js";
 import { Probes } from "../conditions/probes.js";
-import { EMPTY_SEARCH_RESULT, findBackTarget } from "../engine/past_search.js";
+import { EMPTY_SEARCH_RESULT, findPastGoal } from "../engine/past_search.js";
 import { runLines } from "../engine/key_queue.js";
 import { SEARCH_PIECE_CYCLES } from "../engine/piece_size.js";
 import { ForecastAnswers } from "../engine/forecast_answers.js";
@@ -89,7 +89,7 @@ import { CommonMistakes } from "./common_mistakes.js";
 
 /** The maximum distance of a near goal in cycles: one second of a real 4004. */
 export const NEAR_CYCLES = CYCLES_PER_SECOND;
-/** The maximum distances of a near goal, in cycles: for a change or a condition, and for a number of instructions. */
+/** The maximum distances of other near goals, in cycles: a change or a true condition, and the end of a number of instructions. */
 const NEAR_CHANGE_CYCLES = 10000000;
 const NEAR_COUNT_CYCLES = 100000000;
 
@@ -150,7 +150,7 @@ export class Debugger {
   // --- Breakpoints ---
 
   /**
-   * Sets the breakpoints, at most one per address. Returns the bench lines for the hard breakpoints, which the caller must send. Also
+   * Sets the breakpoints, at most one per address. Returns the bench lines that the caller must send to set the hard breakpoints. Also
    * returns the ids and error messages of breakpoints that cannot be compiled. Such a breakpoint stops the machine at every arrival.
    * @param {LocatedBreakpoint[]} breakpoints the enabled breakpoints
    * @param {Names} names
@@ -234,7 +234,7 @@ export class Debugger {
     if (foundMistakes.stop >= 0) plannedLines = truncateLines(plannedLines, foundMistakes.stop);
     const countBefore = session.count.total;
     const frame = session.advanceBy(plannedLines);
-    this.stopFinder.count(events);
+    this.stopFinder.countEvents(events);
     this.uncheckedLines = checksLater ? plannedLines : null;
     const stop = this.findMistakeOrRecordingStop(frame, foundMistakes.stop) || this.findStop(frame, events, cyclesBeforeGoal);
     if (stop) this.endMove();
@@ -243,8 +243,8 @@ export class Debugger {
   }
 
   /**
-   * Checks the last lines for mistakes, if `advance` has not checked them. `session.nextFile` still contains the session file from before
-   * these lines.
+   * Checks the last lines for mistakes, if `advance` has not checked them. `session.nextFile` still contains the session file as it was
+   * before these lines.
    */
   checkLastLines() {
     const { uncheckedLines } = this;
@@ -312,7 +312,7 @@ export class Debugger {
     return parseCounter(this.session.ask("regs\n")[0]).counter;
   }
 
-  /** Ends a move or run. First checks its last lines for mistakes, if that has not been done. */
+  /** Ends a move or run. If its last lines are not yet checked for mistakes, checks them first. */
   endMove() {
     this.checkLastLines();
     this.watcher = null;
@@ -361,7 +361,7 @@ export class Debugger {
     const searchResult = cycles < 0 ? { ...goalSearch, change: "" }
       : { cycles, isReached: false, end: events.reason, id, endsAtReturn, change };
     const result = await session.serve(runLines(Math.max(1, searchResult.cycles)), async () => true);
-    this.stopFinder.count(events);
+    this.stopFinder.countEvents(events);
     if (!searchResult.isReached && searchResult.id === 0) searchResult.id = this.breakpointIdAtStop(searchResult.end);
     return { searchResult, result, tally: this.createTally(events, { reason: searchResult.end, id: searchResult.id }, this.startTotal) };
   }
@@ -400,7 +400,7 @@ export class Debugger {
    * @param {(done: number) => Promise<boolean>} shouldContinue called with the number of processed characters; resolves to true to continue
    * @returns {Promise<{ result: LinesResult & { snapshot: string[] }, typedResult: TypedResult }>}
    */
-  async serveTyped(lines, shouldContinue) {
+  async serveTypedLines(lines, shouldContinue) {
     const { session, stopFinder } = this;
     const countBefore = session.count.total;
     const { counts } = stopFinder;
@@ -440,7 +440,7 @@ export class Debugger {
   async goBack(goal, shouldContinue) {
     this.beginMove();
     const { session } = this;
-    const { moment, present, ...report } = await this.findBackTarget(goal, shouldContinue);
+    const { moment, present, ...report } = await this.findPastGoal(goal, shouldContinue);
     if (!moment) return { ...report, isDone: false, hasChangedBoard: false, cycles: 0 };
     const sessionAtMoment = present || await session.timeline.sessionAt(session.engine, moment, shouldContinue);
     session.timeline.goBack(moment, session);
@@ -453,13 +453,13 @@ export class Debugger {
    * @param {(done?: number) => Promise<boolean>} shouldContinue
    * @returns {Promise<BackSearchResult>}
    */
-  async findBackTarget(goal, shouldContinue) {
+  async findPastGoal(goal, shouldContinue) {
     const { session, watches } = this;
     if (goal.kind === "call") return findLastCall(session, goal.call, goal.returns, shouldContinue);
     if (goal.kind === "arrival") {
       return findLastArrival(session, this.stoppingBreakpoints(), { place: goal.place, watches }, shouldContinue);
     }
-    return findBackTarget(session.engine, session, this.compileGoal(goal), shouldContinue);
+    return findPastGoal(session.engine, session, this.compileGoal(goal), shouldContinue);
   }
 
   /**
@@ -475,14 +475,14 @@ export class Debugger {
   }
 
   /**
-   * Finds the last change of a place without going back in time.
+   * Finds the last change of a place. The session stays at the present moment.
    * @param {string} place
    * @param {(done?: number) => Promise<boolean>} shouldContinue
    * @returns {Promise<LastChange>}
    */
   async findLastChange(place, shouldContinue) {
     const { session } = this;
-    const { moment, present, ...report } = await findBackTarget(session.engine, session, { kind: "change", place }, shouldContinue);
+    const { moment, present, ...report } = await findPastGoal(session.engine, session, { kind: "change", place }, shouldContinue);
     if (!moment) return { ...report, isFound: false, cycles: 0, address: -1 };
     const { file, count } = present || await session.timeline.sessionAt(session.engine, moment, shouldContinue);
     const { counter } = parseCounter(session.engine.ask(file, "regs\n").answers[0]);
@@ -503,8 +503,8 @@ export class Debugger {
   }
 
   /**
-   * Replaces the state of the session with the state at another moment, but keeps the current breakpoints. Returns part of the result of
-   * the move.
+   * Replaces the state of the session with the state at another moment, but keeps the current breakpoints. Returns the fields `isDone`,
+   * `hasChangedBoard` and `cycles` of a `BackResult`.
    * @param {SessionAtMoment} sessionAtMoment
    */
   enterMoment(sessionAtMoment) {

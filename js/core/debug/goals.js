@@ -16,8 +16,8 @@ import { becomesTrue } from "./condition_search.js";
  * @typedef {import("./condition_search.js").SearchCondition} SearchCondition
  *
  * The goal of a move, by its `kind`. `over`: the end of the next instruction, or of the subroutine that this instruction calls. `out`: the
- * return from the current subroutine. `here`: an address. `count`: a number of instructions. `change`: a change of a place. `when`: a
- * condition becomes true; `searchCondition` is the compiled condition.
+ * return from the current subroutine. `here`: an arrival at an address. `count`: a number of instructions. `change`: a change of a place.
+ * `when`: a condition becomes true; `searchCondition` is the compiled condition.
  * @typedef {{ kind: "over" } | { kind: "out" } | { kind: "here", address: number } | { kind: "count", count: number } | { kind: "change",
  * place: string } | { kind: "when", condition: string, searchCondition?: SearchCondition }} Goal
  *
@@ -194,7 +194,7 @@ function isInSubroutine(regs, codes) {
  * Returns the `end` of the search result for a goal that does not exist in the current state.
  * @param {Goal} goal
  */
-export function missingGoalEnd(goal) {
+export function endForMissingGoal(goal) {
   return goal.kind === "out" ? "outside" : "lacks";
 }
 

@@ -22,8 +22,8 @@ function romLevels(chip, machineState, { roms }) {
   const port = machineState.romPort(chip);
   const rom = roms.find((romChip) => Number(romChip.chip) === chip);
   if (!port || !rom) return 0;
-  const inputs = indices(4).reduce((sum, line) => sum + (rom.port[3 - line] === "i" ? 2 ** line : 0), 0);
-  return (parseInt(port.out, 16) & ~inputs) | (parseInt(port.in, 16) & inputs);
+  const inputMask = indices(4).reduce((sum, line) => sum + (rom.port[3 - line] === "i" ? 2 ** line : 0), 0);
+  return (parseInt(port.out, 16) & ~inputMask) | (parseInt(port.in, 16) & inputMask);
 }
 
 /**
@@ -32,7 +32,7 @@ function romLevels(chip, machineState, { roms }) {
  * @param {MachineState} machineState
  * @returns {string | undefined}
  */
-function registerValue(place, machineState) {
+function valueOfRegister(place, machineState) {
   const { registers, parts, ports } = machineState;
   const registerMatch = /^r(\d+)$/.exec(place);
   if (registerMatch) return machineState.register(Number(registerMatch[1]));
@@ -58,7 +58,7 @@ function registerValue(place, machineState) {
  * @param {Board} board
  */
 export function readPlaceValue(place, machineState, board) {
-  const registerText = registerValue(place, machineState);
+  const registerText = valueOfRegister(place, machineState);
   if (registerText !== undefined) return registerText;
   const [word, ...numberWords] = place.split(".");
   const numbers = numberWords.map(parseNumber);

@@ -92,8 +92,8 @@ export class RecentHeat {
 }
 
 /**
- * Adds newer changes to a map of changes by nibble.
- * @param {Map<string, HeatCell & { changeCycle: number }>} changes
+ * Adds newer changes to the changes of each nibble.
+ * @param {Map<string, HeatCell & { changeCycle: number }>} changes the changes, by place of the nibble
  * @param {(HeatCell & { changeCycle: number })[]} newChanges
  */
 function addChanges(changes, newChanges) {

@@ -32,12 +32,12 @@ export function callAddress(address) {
  * @param {SourceMap | null} map the source map of the program in ROM; null if unknown
  */
 export function findLiveReturns(addresses, bytes, map) {
-  const firstStale = addresses.findIndex((address, index) => {
+  const firstStaleIndex = addresses.findIndex((address, index) => {
     const call = callAddress(address);
     const isInProgram = map !== null && map.lineOf(call) > 0;
     return bytes[index][0] !== JMS_DIGIT || (isInProgram && !map.beginsInstruction(call));
   });
-  return addresses.map((_, index) => firstStale < 0 || index < firstStale);
+  return addresses.map((_, index) => firstStaleIndex < 0 || index < firstStaleIndex);
 }
 
 /**
@@ -46,7 +46,7 @@ export function findLiveReturns(addresses, bytes, map) {
  * @param {SourceMap | null} map
  * @returns {AddressNote}
  */
-export function describeCounter(address, map) {
+export function describeProgramCounter(address, map) {
   const line = map ? map.lineOf(address) : 0;
   if (!map || line === 0) return { isLive: true, description: "", title: "" };
   return { isLive: true, description: joinWords([map.nameOf(address), lineReference(line)]), title: map.sourceLines[line - 1].trim() };

@@ -3,7 +3,7 @@
 
 import { LineChanges } from "../debug/line_changes.js";
 import { MachineState } from "../debug/machine_state.js";
-import { valuesAt } from "../debug/word_values.js";
+import { valuePieces } from "../debug/word_values.js";
 
 /**
  * @typedef {import("../debug/word_values.js").WordLookup} WordLookup
@@ -62,7 +62,7 @@ export class SourceValues {
    */
   valueAt(text, column) {
     const { machineState } = this;
-    return machineState ? valuesAt(text, column, machineState, this.callbacks) : [];
+    return machineState ? valuePieces(text, column, machineState, this.callbacks) : [];
   }
 
   /**
@@ -74,7 +74,7 @@ export class SourceValues {
     this.isRunning = this.callbacks.isRunning();
     if (this.isRunning && wasRunning) return;
     const { machineState } = this;
-    if (machineState) this.changes.addPause(machineState, cycles, this.callbacks.map());
+    if (machineState) this.changes.recordPause(machineState, cycles, this.callbacks.map());
     this.callbacks.showLines(machineState ? this.changes.lines : new Map());
     this.callbacks.showWatched();
     this.callbacks.onChange();

@@ -3,7 +3,7 @@
 import { Cell, Switch, block, element, makeFirstTabStop, makeOneTabStop, onClick } from "../ui/dom.js";
 import { joinLines, matchAnswers, readInputs } from "../../core/bench/inputs.js";
 import { hex } from "../../core/bench/numbers.js";
-import { findLiveReturns, callAddress, describeCounter, describeReturn } from "../../core/machine/return_addresses.js";
+import { findLiveReturns, callAddress, describeProgramCounter, describeReturn } from "../../core/machine/return_addresses.js";
 import * as say from "../../words/machine.js";
 
 /**
@@ -103,7 +103,8 @@ export class StackView {
     const bytes = await this.readBytes(returns.map(callAddress));
     if (requestCount !== this.requestCount) return;
     const liveFlags = findLiveReturns(returns, bytes, map);
-    this.showNotes([describeCounter(counter, map), ...returns.map((address, index) => describeReturn(address, liveFlags[index], map))]);
+    const returnNotes = returns.map((address, index) => describeReturn(address, liveFlags[index], map));
+    this.showNotes([describeProgramCounter(counter, map), ...returnNotes]);
   }
 
   clear() {

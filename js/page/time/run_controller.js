@@ -1,6 +1,6 @@
 // Runs and pauses time, with the clock or at full speed. Handles the frames that the worker reports.
 
-import { isStop, readRun, parseRefusal } from "../../core/bench/answers.js";
+import { isRefusalOrStop, readRun, parseRefusal } from "../../core/bench/answers.js";
 import { describeUserPause, runningToGoal, pauseMessage } from "../../words/stops.js";
 import { Cell, block } from "../ui/dom.js";
 import { formatDuration } from "../../core/bench/error_messages.js";
@@ -297,7 +297,7 @@ export class RunController {
     if (answer === null) return;
     const run = readRun(answer);
     const cycles = run ? run.cycles : 0;
-    if (isStop(answer)) this.showMessage(this.describeStop({ reason: run ? run.end : answer, cycles, endsAtReturn: false }));
+    if (isRefusalOrStop(answer)) this.showMessage(this.describeStop({ reason: run ? run.end : answer, cycles, endsAtReturn: false }));
     else this.showMessage(pauseMessage({ kind: "over" }, { reason: "goal", cycles, endsAtReturn: false }, this.counterText));
   }
 
