@@ -1,6 +1,6 @@
 import assert from "node:assert/strict";
 import { test } from "node:test";
-import { findLiveReturns, callAddress, describeProgramCounter, describeReturn } from "../core/machine/return_addresses.js";
+import { findLiveReturns, addressOfCall, describeProgramCounter, describeReturn } from "../core/machine/return_addresses.js";
 import { SourceMap } from "../core/machine/source_map.js";
 
 // docs/MANUAL.md: JMS stores the address after its two bytes as the newest return address. After BBL, the oldest return address is the
@@ -25,7 +25,7 @@ test("a byte that looks like a JMS does not count if the program has none there"
 });
 
 test("the address of the call is two bytes before the return address, also across the end of ROM", () => {
-  assert.deepEqual([2, 1, 0].map(callAddress), [0, 0xFFF, 0xFFE]);
+  assert.deepEqual([2, 1, 0].map(addressOfCall), [0, 0xFFF, 0xFFE]);
 });
 
 test("the counter and return addresses are described", () => {

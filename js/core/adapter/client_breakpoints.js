@@ -1,5 +1,5 @@
-// Manages the breakpoints that the client sets on lines, labels and addresses. Merges them and the breakpoints that the session already had
-// into one list for the debugger. Also manages data breakpoints, which watch a place, and exception filters, which stop the machine at
+// Manages the breakpoints that the client sets on lines, labels and addresses. Merges these breakpoints with those that the session already
+// had, into one list for the debugger. Also manages data breakpoints, which watch a place, and exception filters, which stop the machine at
 // common mistakes.
 
 import { watchedPlaces } from "../bench/answers.js";

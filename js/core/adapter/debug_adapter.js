@@ -103,12 +103,12 @@ export class DebugAdapter {
     this.isConfigured = false;
     /** @type {Promise<string> | null} the result of `endDebugging`; null before `leave` is called */
     this.leavePromise = null;
-    /** @type {MoveEnd | null} the end of the last move; null before the first one */
+    /** @type {MoveEnd | null} the end of the last move; null before the first move */
     this.lastStop = null;
     /** @type {RemoteFrontPanel | null} the reports to a client that draws the front panel; null until the client asks for them */
     this.remoteFrontPanel = null;
     connection.handlers = {
-      ...this.lifecycleHandlers(), ...this.breakpointHandlers(), ...this.moveHandlers.handlers(), ...this.queryRequestHandlers(),
+      ...this.lifecycleHandlers(), ...this.breakpointHandlers(), ...this.moveHandlers.handlers(), ...this.stateHandlers(),
     };
     connection.stopTask = (id) => this.progress.stop(id);
   }
@@ -354,7 +354,7 @@ export class DebugAdapter {
    * Returns the handlers of the requests about the machine state and the front panel, by command.
    * @returns {Record<string, RequestHandler>}
    */
-  queryRequestHandlers() {
+  stateHandlers() {
     const requirePaused = (/** @type {(queryHandlers: QueryHandlers, args: any) => unknown} */ action) => (/** @type {any} */ args) => {
       const { machine, queryHandlers } = this.currentSession;
       if (machine.isMoving) fail(NOT_STOPPED);

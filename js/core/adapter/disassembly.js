@@ -17,7 +17,7 @@ import { MAX_LISTING_LINES } from "../bench/rom_bytes.js";
 const nextAddress = ({ address, line }) => address + (line.slice(7, 9).trim() === "" ? 1 : 2);
 
 /**
- * Returns the instructions in a range. The listing starts at `from`, even if the second byte of an instruction is there.
+ * Returns the instructions in a range. The listing starts at `from`, even if this is the address of the second byte of an instruction.
  * @param {DebugSession} session
  * @param {number} from the first address
  * @param {number} to the address after the range

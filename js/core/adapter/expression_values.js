@@ -33,7 +33,7 @@ const MARK_PLACES = /^(chain\d|lamps)$/;
  * @param {ExpressionContext} context
  * @param {Base} base
  */
-function placeValue(text, { session, face }, base) {
+function valueOfPlace(text, { session, face }, base) {
   const word = text.replace(/^lamp /, "").trim();
   const lamp = face.lampNumbers.get(word) ?? face.lampNumbers.get(word.replace(/ /g, "_"));
   const name = lamp === undefined ? text : `lamp ${lamp}`;
@@ -71,7 +71,7 @@ function lineSuffix(session) {
  * @param {string} text
  * @param {DebugSession} session
  */
-function nameValue(text, { map }) {
+function valueOfName(text, { map }) {
   const name = map.names.get(text.replace(/^@/, ""));
   if (!name) return "";
   if (!name.isLabel) return `0x${hex(name.value, 2)}, ${name.value}`;
@@ -90,8 +90,8 @@ export function evaluateExpression(text, context, base = "default") {
   const trimmed = text.trim();
   if (trimmed === "") throw new AdapterError(say.NOTHING_TO_EVALUATE);
   if (trimmed === "display" || trimmed === "lamps") return context.frontPanelText();
-  const value = valueOfRegister(trimmed, session, base) || convertToBase(nameValue(trimmed, session), base)
-    || placeValue(trimmed, context, base);
+  const value = valueOfRegister(trimmed, session, base) || convertToBase(valueOfName(trimmed, session), base)
+    || valueOfPlace(trimmed, context, base);
   if (value) return value;
   const { expression, error, column } = compileExpression(trimmed, session.names);
   if (!expression) throw new AdapterError(errorInColumn(error, column));

@@ -68,7 +68,7 @@ const createDecimalVariable = (name, value, place) => ({ ...createVariable(name,
 const createReadOnlyVariable = (name, value, place) => ({ ...createVariable(name, value), evaluateName: place, watchPlace: place });
 
 /** @param {ShownState} state */
-function registerVariables({ machineState: { registers: cpu } }) {
+function listRegisterVariables({ machineState: { registers: cpu } }) {
   const { accumulator, carry, counter, bank, test, owed } = cpu;
   return [
     createVariable("acc", withHexPrefix(accumulator), "acc"), createDecimalVariable("cy", carry, "cy"),
@@ -79,12 +79,12 @@ function registerVariables({ machineState: { registers: cpu } }) {
 }
 
 /** @param {ShownState} state */
-function pairVariables({ machineState }) {
+function listPairVariables({ machineState }) {
   return indices(8).map((pair) => createVariable(`P${pair}`, withHexPrefix(machineState.pair(pair)), `p${pair}`));
 }
 
 /** @param {ShownState} state */
-function bankVariables({ machineState }) {
+function listBankVariables({ machineState }) {
   return [...machineState.ram].map(([bank, { registers: bankRegisters }]) => (
     { ...createVariable(`bank ${bank}`, say.chipCountText(bankRegisters.size / 4, bank === machineState.bank)),
       variablesReference: BANK_BASE + bank, count: bankRegisters.size, memory: bankReference(bank) }));
@@ -94,7 +94,7 @@ function bankVariables({ machineState }) {
  * @param {ShownState} state
  * @param {number} bank
  */
-function ramRegisterVariables({ machineState }, bank) {
+function listRamRegisterVariables({ machineState }, bank) {
   const ram = machineState.ram.get(bank);
   return [...(ram ? ram.registers : [])].map(([name, { characters: digits, status }]) => {
     const [, chip, register] = name.split(".").map(Number);
@@ -117,7 +117,7 @@ const memoryReference = (place) => formatReference(referenceNumberForPlace(place
  * @param {number} bank
  * @param {number} register
  */
-function characterVariables({ machineState, session }, bank, register) {
+function listCharacterVariables({ machineState, session }, bank, register) {
   const ramRegister = machineState.ramRegister(bank, register);
   if (!ramRegister) return [];
   const constants = [...session.map.names.values()].filter(({ isLabel }) => !isLabel);
@@ -137,7 +137,7 @@ function characterVariables({ machineState, session }, bank, register) {
 }
 
 /** @param {ShownState} state */
-function portVariables({ machineState, face }) {
+function listPortVariables({ machineState, face }) {
   /** @type {(port: string) => string} */
   const portName = (port) => (face.ports.has(port) ? `${port} ${(face.ports.get(port) || { text: "" }).text}` : port);
   const { roms, chains, srcBytes } = machineState.ports;
@@ -159,7 +159,7 @@ function srcVariable(latchedByte) {
 }
 
 /** @param {ShownState} state */
-function lampVariables({ session, face, board }) {
+function listLampVariables({ session, face, board }) {
   const marks = readItems(session.debugger.session.ask("lamps\n")[0]).join("");
   return board.lamps.map((line, lamp) => {
     const name = (face.lamps.get(lamp) || { text: "" }).text.replace(/_/g, " ");
@@ -168,7 +168,7 @@ function lampVariables({ session, face, board }) {
 }
 
 /** @param {ShownState} state */
-function keyVariables({ machineState, face, board }) {
+function listKeyVariables({ machineState, face, board }) {
   const keysDown = new PressedKeys(machineState.ports.keys);
   return boardKeys(board, face).filter(({ legend }) => legend !== "").map(({ key, legend }) => {
     const isDown = keysDown.has(key, machineState.registers.test);
@@ -177,7 +177,7 @@ function keyVariables({ machineState, face, board }) {
 }
 
 /** @param {ShownState} state */
-function nameVariables({ session: { map } }) {
+function listNameVariables({ session: { map } }) {
   return [...map.names.values()].map(({ name, value, isLabel }) => (
     { ...createVariable(name, isLabel ? `0x${hex(value, 3)}, line ${map.lineOf(value)}` : `0x${hex(value, 2)}, ${value}`),
       evaluateName: name, ...(isLabel ? { memory: `0x${hex(value, 3)}` } : {}) }));
@@ -185,13 +185,13 @@ function nameVariables({ session: { map } }) {
 
 /** @type {Record<number, { title: string, listVariables: (state: ShownState) => Variable[], hint?: string }>} the scopes, by reference */
 const SCOPES = {
-  [REGISTERS]: { title: say.REGISTERS, listVariables: registerVariables, hint: "registers" },
-  [PAIRS]: { title: say.PAIRS, listVariables: pairVariables, hint: "registers" },
-  [RAM]: { title: "RAM", listVariables: bankVariables },
-  [PORTS]: { title: say.PORTS, listVariables: portVariables },
-  [LAMPS]: { title: say.LAMPS, listVariables: lampVariables },
-  [KEYS]: { title: say.KEYS, listVariables: keyVariables },
-  [NAMES]: { title: say.NAMES, listVariables: nameVariables },
+  [REGISTERS]: { title: say.REGISTERS, listVariables: listRegisterVariables, hint: "registers" },
+  [PAIRS]: { title: say.PAIRS, listVariables: listPairVariables, hint: "registers" },
+  [RAM]: { title: "RAM", listVariables: listBankVariables },
+  [PORTS]: { title: say.PORTS, listVariables: listPortVariables },
+  [LAMPS]: { title: say.LAMPS, listVariables: listLampVariables },
+  [KEYS]: { title: say.KEYS, listVariables: listKeyVariables },
+  [NAMES]: { title: say.NAMES, listVariables: listNameVariables },
 };
 
 export class Scopes {
@@ -238,9 +238,9 @@ export class Scopes {
   unformattedVariables(reference) {
     const { state } = this;
     if (Object.prototype.hasOwnProperty.call(SCOPES, reference)) return SCOPES[reference].listVariables(state);
-    if (reference >= BANK_BASE && reference < BANK_BASE + 8) return ramRegisterVariables(state, reference - BANK_BASE);
+    if (reference >= BANK_BASE && reference < BANK_BASE + 8) return listRamRegisterVariables(state, reference - BANK_BASE);
     const registerIndex = reference - REGISTER_BASE;
-    return registerIndex >= 0 && registerIndex < 128 ? characterVariables(state, registerIndex >> 4, registerIndex & 15) : null;
+    return registerIndex >= 0 && registerIndex < 128 ? listCharacterVariables(state, registerIndex >> 4, registerIndex & 15) : null;
   }
 
   /**

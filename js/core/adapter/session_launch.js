@@ -145,9 +145,9 @@ function readBenchText(name, mark, host) {
  * @param {ErrorMessages} messages
  */
 function refusalError(name, { number, line }, messages) {
-  const place = line > 0 ? `, line ${line}` : "";
+  const lineSuffix = line > 0 ? `, line ${line}` : "";
   const reason = number > 0 ? `${messages.refusalMeaning(number)} (no ${number})` : say.DOT_ALONE;
-  return new AdapterError(`${baseName(name)}${place}: ${reason}`, true);
+  return new AdapterError(`${baseName(name)}${lineSuffix}: ${reason}`, true);
 }
 
 /**
@@ -185,7 +185,7 @@ async function createSessionFromTest(engine, test, host) {
 
 /**
  * Opens or creates a session file. Resolves to the session and its writer. Rejects if a text for a new file is missing, if a text has
- * errors, or if ROM differs from a program that is not loaded.
+ * errors, or if a program that is not loaded differs from ROM.
  * @param {Engine} engine
  * @param {RequestedFiles} requestedFiles
  * @param {Host} host
@@ -216,8 +216,8 @@ async function openSessionFile(engine, requestedFiles, host, messages) {
 }
 
 /**
- * Loads a copy of a session file into memory. Resolves to the session. Rejects if the program has errors, or if ROM differs from a program
- * that is not loaded.
+ * Loads a copy of a session file into memory. Resolves to the session. Rejects if the program has errors, or if a program that is not
+ * loaded differs from ROM.
  * @param {Engine} engine
  * @param {RequestedFiles} requestedFiles
  * @param {Host} host

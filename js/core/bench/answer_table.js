@@ -1,5 +1,5 @@
-// Defines the answer format of each input line, and whether text follows the line. Both come from the table tools/lib/answers.txt; its
-// header explains the columns.
+// Defines the answer format of each input line, and whether text follows the line. Reads the table tools/lib/answers.txt, whose header
+// explains the columns.
 
 import table from "#answer-table";
 

@@ -61,7 +61,7 @@ export function signalLines({ roms, banks, chains }) {
 }
 
 /** The names of all signal lines that a board can have. */
-export const LINE_NAMES = new Set(signalLines({
+export const SIGNAL_LINE_NAMES = new Set(signalLines({
   roms: indices(MAX_PARTS.rom).map((chip) => ({ chip, port: "0000" })),
   banks: indices(MAX_PARTS.ram).map((bank) => ({ bank, chips: VALUE_RANGES["ram.chips"].to })),
   chains: indices(MAX_PARTS.chain).map(() => ({ chips: VALUE_RANGES["chain.chips"].to })),

@@ -109,7 +109,7 @@ export function findInputEnd(lines, from, minLength) {
  * Returns the address after the last byte of a listing line.
  * @param {string} answer
  */
-function endOfListingLine(answer) {
+function addressAfterLine(answer) {
   return parseInt(answer.slice(0, 3), 16) + (answer[7] === " " ? 1 : 2);
 }
 
@@ -119,7 +119,7 @@ function endOfListingLine(answer) {
  * @param {string} answer
  */
 function continuesListing(previous, answer) {
-  return endOfListingLine(previous) <= LAST_ADDRESS && answer.slice(0, 3) > previous.slice(0, 3);
+  return addressAfterLine(previous) <= LAST_ADDRESS && answer.slice(0, 3) > previous.slice(0, 3);
 }
 
 /**

@@ -157,7 +157,7 @@ function findWordError([first, ...words]) {
  * Returns a line's first character that the bench never accepts; "" if there is none.
  * @param {string} line
  */
-export function invalidCharacterIn(line) {
+export function findInvalidCharacter(line) {
   return (INVALID_CHARACTER.exec(line) || [""])[0];
 }
 
@@ -169,7 +169,7 @@ export function invalidCharacterIn(line) {
  */
 export function findLineError(line) {
   if (line.length > MAX_LINE_LENGTH) return { number: LINE_TOO_LONG, message: say.tooLongMessage(MAX_LINE_LENGTH, line.length) };
-  const character = invalidCharacterIn(line);
+  const character = findInvalidCharacter(line);
   if (character !== "") return { number: NOT_ASCII, message: say.invalidCharacter(character) };
   return findWordError(line.split(/[ \t]+/).filter((word) => word !== ""));
 }

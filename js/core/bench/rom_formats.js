@@ -12,7 +12,7 @@ import * as say from "../../words/bench.js";
 /** The number of address bytes, by data record type. */
 const ADDRESS_SIZES = new Map([["1", 2], ["2", 3], ["3", 4]]);
 /** The types of records that can end a file. */
-const END_TYPES = ["7", "8", "9"];
+const END_RECORD_TYPES = ["7", "8", "9"];
 
 /**
  * Stores the bytes of a data record in the image. Ignores other records. Returns whether the record ends the file. Throws `RecordError` or
@@ -28,7 +28,7 @@ function storeSRecord(record, image) {
   const checksum = bytes[bytes.length - 1];
   if (checksum !== expectedChecksum) throw new ImageError(say.wrongChecksum(hex(checksum, 2), hex(expectedChecksum, 2)));
   const size = ADDRESS_SIZES.get(record[1]);
-  if (size === undefined) return END_TYPES.includes(record[1]);
+  if (size === undefined) return END_RECORD_TYPES.includes(record[1]);
   if (bytes.length < size + 1) throw new ImageError(say.SHORT_RECORD);
   image.put(bytes.slice(0, size).reduce((address, byte) => address * 256 + byte, 0), bytes.slice(size, -1));
   return false;

@@ -17,7 +17,7 @@ const DATA_RECORD_TYPE = 0;
 const END_RECORD_TYPE = 1;
 /** The record types for segment and linear base addresses. In an image for a 4004, these base addresses must be 0. */
 const BASE_RECORD_TYPES = [2, 4];
-/** The record types for a program's start address, which linkers write. The reader ignores such records: the 4004 starts at 000. */
+/** The types of the records in which linkers write a program's start address. The reader ignores these records: the 4004 starts at 000. */
 const START_RECORD_TYPES = [3, 5];
 
 /** The bytes of a ROM image that is being read. */

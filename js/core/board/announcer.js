@@ -1,5 +1,5 @@
 // Announces changing text to screen readers. The text is announced after it has been unchanged for at least ANNOUNCEMENT_DELAY_MS. Text
-// that changes earlier is not announced.
+// that changes again before that time is not announced.
 
 /** The time for which a text must be unchanged before its announcement, in milliseconds. Also the minimum time between announcements. */
 export const ANNOUNCEMENT_DELAY_MS = 1000;

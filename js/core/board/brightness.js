@@ -213,7 +213,7 @@ export class Brightness {
     this.scannedGroups.forEach((duties, index) => this.updateDuties(duties, litShares.scanned[index], cycles, remainingShare));
     litShares.displays.forEach((display, index) => {
       this.displaySteadiness[index].add(display.changeSummary, cycles, time);
-      this.addDisplay(index, display, cycles, remainingShare);
+      this.updateDisplay(index, display, cycles, remainingShare);
     });
   }
 
@@ -238,7 +238,7 @@ export class Brightness {
    * @param {number} cycles the length of the period in cycles
    * @param {number} remainingShare the share of the earlier light that remains, from 0 to 1
    */
-  addDisplay(displayIndex, { patterns, changeSummary, patternTimes }, cycles, remainingShare) {
+  updateDisplay(displayIndex, { patterns, changeSummary, patternTimes }, cycles, remainingShare) {
     const isSteady = this.displaySteadiness[displayIndex].isSteady && !isMultiplexed(this.displays[displayIndex]);
     this.digits[displayIndex].forEach((digit, index) => {
       if (isSteady) {

@@ -140,7 +140,7 @@ export class Face {
    * @param {string} text
    * @param {number} line
    */
-  readRow(row, text, line) {
+  readKeyRow(row, text, line) {
     if (!this.defineOnce(`row ${row}`, line, "second row", row)) return;
     splitWords(text).forEach((name, column) => {
       const isNone = name === "_";
@@ -275,7 +275,7 @@ export class Face {
    * @param {string} text
    * @param {number} line
    */
-  readTest(text, line) {
+  readTestPin(text, line) {
     const [kind, name, , level] = splitWords(text);
     if (this.defineOnce("test", line, "second test")) this.test = { kind, name, level: Number(level || 0), line };
   }
@@ -333,12 +333,12 @@ const readGroup = (face, line) => face.readGroup(line);
  */
 const LINE_READERS = {
   title: (face, { words, line }) => face.readTitle(words, line),
-  row: (face, { first, words, line }) => face.readRow(Number(first), words, line),
+  row: (face, { first, words, line }) => face.readKeyRow(Number(first), words, line),
   lamp: (face, { first, words, line }) => face.readLamps(Number(first), words, line),
   colour: (face, { first, words, line }) => face.readColours(Number(first), words, line),
   grid: (face, { first, words, line }) => face.readGrid(Number(first), words, line),
   display: readGroup, die: readGroup, bar: readGroup, matrix: readGroup,
-  test: (face, { words, line }) => face.readTest(words, line),
+  test: (face, { words, line }) => face.readTestPin(words, line),
   buzzer: (face, { first, words, line }) => face.readBuzzer(first, words, line),
   printer: (face, { first, words, line }) => face.readPrinter(first, words, line),
   port: (face, { first, words, line }) => face.readPort(first, words, line),

@@ -181,7 +181,7 @@ export function lampColours(face, count) {
  */
 function lastColouredLamps(face) {
   /** @type {Map<number, number>} */
-  const last = new Map();
-  for (const [lamp, { line }] of face.colours) last.set(line, Math.max(lamp, last.get(line) || 0));
-  return last;
+  const lastLamps = new Map();
+  for (const [lamp, { line }] of face.colours) lastLamps.set(line, Math.max(lamp, lastLamps.get(line) || 0));
+  return lastLamps;
 }

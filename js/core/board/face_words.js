@@ -23,7 +23,7 @@ const allRows = table.split("\n").filter((line) => line !== "" && !line.startsWi
 const tableRows = (word) => allRows.filter((row) => row[0] === word).map((row) => row.slice(1));
 
 /**
- * Converts a table row to the first word of a line and its kind.
+ * Converts a table row to a pair: the first word of a kind of line, and this kind.
  * @param {string[]} columns
  * @returns {[string, Kind]}
  */

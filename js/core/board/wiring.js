@@ -167,7 +167,7 @@ function portPins(chip) {
 }
 
 /**
- * Adds the processor to a column; returns it as a part.
+ * Adds the processor to a column, and returns the new part.
  * @param {Column} column
  * @param {TestPin | null} test
  */

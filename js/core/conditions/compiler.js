@@ -3,7 +3,7 @@
 
 import { compileChain, compileCounter, compileCycles, compileDisplay, compileLamps, compilePrinted } from "./keyword_conditions.js";
 import { fail } from "./scanner.js";
-import { withErrorColumn, nibbleValues, keyValue, findLabelAddress, lampValue, compileValue } from "./values.js";
+import { withErrorColumn, valuesOfNibbles, valueOfKey, findLabelAddress, valueOfLamp, compileValue } from "./values.js";
 import * as say from "../../words/conditions.js";
 
 /**
@@ -104,7 +104,7 @@ function compilePlaceValues({ place, values, text, column }, names, dependencies
   if (values.length === 1) {
     return compileComparison({ kind: "compare", sign: "=", left: place, right: firstValue, text, column }, names, dependencies);
   }
-  const nibbles = nibbleValues(place, values.length, names, dependencies);
+  const nibbles = valuesOfNibbles(place, values.length, names, dependencies);
   const requiredValues = values.map((value, index) => {
     const requiredValue = compileValue(value, names, dependencies);
     checkRange(nibbles[index], value, requiredValue);
@@ -141,7 +141,7 @@ function compileKeyword({ words: [head, ...operands] }, names, dependencies) {
  * @returns {CompiledCondition}
  */
 function compilePanelState({ subject, name, isOn }, names, dependencies) {
-  const value = subject === "lamp" ? lampValue(name, names, dependencies) : keyValue(name, names, dependencies);
+  const value = subject === "lamp" ? valueOfLamp(name, names, dependencies) : valueOfKey(name, names, dependencies);
   const stateNames = subject === "lamp" ? ["off", "on"] : ["up", "down"];
   return {
     address: -1,

@@ -32,8 +32,8 @@ import * as say from "../../words/conditions.js";
  * @typedef {{ face: Face, board: Board, map: Pick<SourceMap, "names" | "nameOf"> | null, watched?: Map<string, string> }} Names
  *
  * Values that `trace` does not report. `test`, `owed` (1 if a second cycle is pending) and `keys` are strings from the answer to `state`.
- * `cycles` is the number of cycles since the last mark in a test. `lampForecast` is the answer to LAMPS_FORECAST_QUERY, for the perceived
- * lamps. `printed` are the words on the printout.
+ * `cycles` is the number of cycles since the last `mark` line of a test. `lampForecast` is the answer to LAMPS_FORECAST_QUERY, for the
+ * perceived lamps. `printed` are the words on the printout.
  * @typedef {{ test: string, owed: string, keys: string, cycles: number, lampForecast: string[], printed: string[] }} ExtraValues
  *
  * A compiled condition. `explain` returns "" if the condition is true, otherwise a message with the actual and the required values.

@@ -141,7 +141,7 @@ export function compilePrinted(words, { face, board }, dependencies) {
 }
 
 /**
- * Compiles `cycles 538`, `cycles at most 20 ms` or `cycles at least 1 s`, which compare the cycles since the last mark in a test.
+ * Compiles `cycles 538`, `cycles at most 20 ms` or `cycles at least 1 s`, which compare the cycles since the last `mark` line of a test.
  * @param {string[]} words
  * @param {Names} names
  * @param {Dependencies} dependencies

@@ -37,9 +37,9 @@ export const KEYWORDS = new Set(["or", "and", "not", "lamps", "lamp", "key", "di
   "off", "down", "up", "none", "in", "out"]);
 
 /** The maximum length of a condition in characters. */
-export const MAX_LENGTH = 2000;
+export const MAX_CONDITION_LENGTH = 2000;
 /** The maximum nesting depth of parentheses. */
-export const MAX_DEPTH = 30;
+export const MAX_PARENTHESIS_DEPTH = 30;
 
 /** @type {Record<string, Sign>} the comparison operators, by spelling */
 const OPERATORS = { "=": "=", "==": "=", "!=": "!=", "<": "<", "<=": "<=", ">": ">", ">=": ">=" };
@@ -298,7 +298,7 @@ class Parser {
   parseParentheses() {
     const { column } = this.scanner.next();
     this.depth += 1;
-    if (this.depth > MAX_DEPTH) fail(say.tooDeepMessage(MAX_DEPTH), column);
+    if (this.depth > MAX_PARENTHESIS_DEPTH) fail(say.tooDeepMessage(MAX_PARENTHESIS_DEPTH), column);
     const node = this.parseJoined("or");
     const token = this.scanner.peek();
     if (token.text !== ")" || token.kind !== "sign") {
@@ -518,7 +518,7 @@ class Parser {
  * @returns {Node}
  */
 export function parseExpression(text, isLampName = () => false) {
-  if (text.length > MAX_LENGTH) fail(say.tooLongMessage(MAX_LENGTH), MAX_LENGTH - 1);
+  if (text.length > MAX_CONDITION_LENGTH) fail(say.tooLongMessage(MAX_CONDITION_LENGTH), MAX_CONDITION_LENGTH - 1);
   return new Parser(text, isLampName).parseCompleteText();
 }
 
@@ -529,7 +529,7 @@ export function parseExpression(text, isLampName = () => false) {
  * @returns {ConditionNode}
  */
 export function parseCondition(text, isLampName = () => false) {
-  if (text.length > MAX_LENGTH) fail(say.tooLongMessage(MAX_LENGTH), MAX_LENGTH - 1);
+  if (text.length > MAX_CONDITION_LENGTH) fail(say.tooLongMessage(MAX_CONDITION_LENGTH), MAX_CONDITION_LENGTH - 1);
   const parser = new Parser(text, isLampName);
   return parser.requireCondition(parser.parseCompleteText());
 }

@@ -40,7 +40,7 @@ export const PLACE_WORDS = [
 export const maxPlaceValue = (place) => MAX_VALUES.get(place) ?? (/^(p\d$|rom\.)/.test(place) ? MAX_BYTE : MAX_DIGIT);
 
 /** @type {(answers: string[]) => string} returns the only answer for a place that `trace` reports under one name */
-const firstAnswer = ([answer]) => answer;
+const onlyAnswer = ([answer]) => answer;
 
 /**
  * Returns the number whose hexadecimal digits are the answers, most significant digit first.
@@ -56,7 +56,7 @@ const parseHexDigits = (answers) => parseInt(answers.join(""), 16);
  */
 function createTracePlace(name, existsOn = () => true) {
   return {
-    name, maxValueOn: () => maxPlaceValue(name), probesOn: (board) => (existsOn(board) ? [name] : []), textOf: firstAnswer,
+    name, maxValueOn: () => maxPlaceValue(name), probesOn: (board) => (existsOn(board) ? [name] : []), textOf: onlyAnswer,
     numberOf: parseHexDigits,
   };
 }
@@ -143,7 +143,7 @@ function parseLampPlace(name) {
   if (name === "lamps") {
     return {
       name, maxValueOn: ({ lamps }) => (lamps.length <= MAX_NUMERIC_LAMPS ? 2 ** lamps.length - 1 : -1),
-      probesOn: ({ lamps }) => (lamps.length > 0 ? ["lamps"] : []), textOf: firstAnswer, numberOf: marksToNumber,
+      probesOn: ({ lamps }) => (lamps.length > 0 ? ["lamps"] : []), textOf: onlyAnswer, numberOf: marksToNumber,
     };
   }
   const lampMatch = /^lamp[ .]?(\d+)$/.exec(name);

@@ -254,8 +254,8 @@ export class BreakpointManager {
   }
 
   /**
-   * Adds a breakpoint, which is disabled if the maximum number of breakpoints is already enabled. If the list is full, only shows a
-   * message.
+   * Adds a breakpoint. If the maximum number of breakpoints is already enabled, disables the new breakpoint. If the list is full, shows a
+   * message instead.
    * @param {Partial<SavedBreakpoint>} fields
    */
   add(fields) {
@@ -266,13 +266,13 @@ export class BreakpointManager {
     const isFull = this.list.enabledCount >= MAX_ENABLED_BREAKPOINTS;
     if (isFull) this.callbacks.showMessage(TOO_MANY_ENABLED);
     this.list.add({ ...fields, isOn: !isFull });
-    this.saveAndApply();
+    this.saveAndSend();
   }
 
   /** @param {number} id */
   remove(id) {
     this.list.remove(id);
-    this.saveAndApply();
+    this.saveAndSend();
   }
 
   /**
@@ -313,7 +313,7 @@ export class BreakpointManager {
       return;
     }
     this.list.change(id, changes);
-    this.saveAndApply();
+    this.saveAndSend();
   }
 
   /**
@@ -326,12 +326,12 @@ export class BreakpointManager {
       this.list.change(id, { isOn: isOn && freeCount > 0 });
       freeCount -= 1;
     }
-    this.saveAndApply();
+    this.saveAndSend();
   }
 
   removeAll() {
     this.list.all = [];
-    this.saveAndApply();
+    this.saveAndSend();
   }
 
   /** Resets the hit counts in the list, and sends the list again to reset the debugger's hit counts. */
@@ -348,8 +348,8 @@ export class BreakpointManager {
     return this.pendingCount > 0;
   }
 
-  /** Saves and applies a change by the user. */
-  saveAndApply() {
+  /** Saves a change by the user, and sends it to the bench. */
+  saveAndSend() {
     this.callbacks.saveList();
     this.sendIfChanged();
   }

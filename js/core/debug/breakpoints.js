@@ -124,7 +124,7 @@ export class BreakpointList {
    * @param {Edit} edit
    */
   applyEdit(edit) {
-    return (edit.replacesAll === true && this.replaceText(edit)) || this.move(edit);
+    return (edit.replacesAll === true && this.replaceText(edit)) || this.moveWithLines(edit);
   }
 
   /**
@@ -173,8 +173,8 @@ export class BreakpointList {
    * Moves breakpoints with their lines, and deletes breakpoints whose lines are deleted. Returns false only if no breakpoint has changed.
    * @param {Edit} edit
    */
-  move(edit) {
-    const { first, last, count, isUnrelated } = replacedLines(edit);
+  moveWithLines(edit) {
+    const { first, last, count, isUnrelated } = findReplacedLines(edit);
     if (isUnrelated) return this.detachFromLines();
     const shift = count - (last - first + 1);
     if (shift === 0) return false;
@@ -306,12 +306,12 @@ function countEqualLines(oldLines, newLines, max, isAtEnd) {
  * line at the start or at the end.
  * @param {Edit} edit
  */
-function replacedLines({ from, to, text, removed = Array(to.line - from.line + 1).fill("\n"), replacesAll = false }) {
+function findReplacedLines({ from, to, text, removed = Array(to.line - from.line + 1).fill("\n"), replacesAll = false }) {
   const maxCount = Math.min(removed.length, text.length);
   const isAtLineStart = from.ch === 0;
-  const firstCount = countEqualLines(removed, text, maxCount, isAtLineStart);
-  const secondCount = countEqualLines(removed, text, maxCount - firstCount, !isAtLineStart);
-  const [before, after] = isAtLineStart ? [secondCount, firstCount] : [firstCount, secondCount];
+  const preferredCount = countEqualLines(removed, text, maxCount, isAtLineStart);
+  const otherCount = countEqualLines(removed, text, maxCount - preferredCount, !isAtLineStart);
+  const [before, after] = isAtLineStart ? [otherCount, preferredCount] : [preferredCount, otherCount];
   const unchangedLines = [...text.slice(0, before), ...text.slice(text.length - after)];
   const isUnrelated = replacesAll && unchangedLines.join("").trim() === "" && removed.length > 2 && text.length > 2;
   return { first: from.line + 1 + before, last: to.line + 1 - after, count: text.length - before - after, isUnrelated };
@@ -338,7 +338,8 @@ export function instructionForLine(line, map) {
 
 /**
  * Returns the line and the address of the instruction at an address; the line is 0 if the address is not in the source. If the address is
- * the second byte of an instruction, the result is the next instruction, or this instruction if no other follows, with a `message`.
+ * the second byte of an instruction, returns the next instruction instead, with a `message`. If no instruction follows, returns the
+ * instruction that contains the address, with a `message`.
  * @param {number} address
  * @param {SourceMap} map
  */

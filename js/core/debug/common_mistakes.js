@@ -17,7 +17,7 @@
 import { readBoard } from "../bench/answers.js";
 import { hex } from "../bench/numbers.js";
 import { Probes } from "../conditions/probes.js";
-import { findLiveReturns, callAddress } from "../machine/return_addresses.js";
+import { findLiveReturns, addressOfCall } from "../machine/return_addresses.js";
 import { isCall, isReturn, romCodes } from "../engine/rom_codes.js";
 import { ForecastAnswers, rowValues } from "../engine/forecast_answers.js";
 import { plannedCycles, truncateLines } from "./goal_search.js";
@@ -124,7 +124,7 @@ export class CommonMistakes {
    * Returns whether a mistake stops the machine.
    * @param {CommonMistake} mistake
    * @param {PlannedLine[]} plannedLines the lines with the mistake
-   * @param {Uint8Array} file the session file from before these lines
+   * @param {Uint8Array} file the session file before these lines run
    */
   stopsMachine({ kind, cycles }, plannedLines, file) {
     if (!this.stoppingKinds.has(kind)) return false;
@@ -254,7 +254,7 @@ export class CommonMistakes {
     if (!isCall(code) && !isReturn(code)) return null;
     const returns = values[2].split(",").map((digits) => parseInt(digits, 16));
     const [newestDigits, , oldestDigits] = returns.map((returnAddress) => hex(returnAddress, 3));
-    const liveFlags = findLiveReturns(returns, returns.map((returnAddress) => hex(codes[callAddress(returnAddress)], 2)), this.map);
+    const liveFlags = findLiveReturns(returns, returns.map((returnAddress) => hex(codes[addressOfCall(returnAddress)], 2)), this.map);
     if (isReturn(code)) return liveFlags[0] ? null : { kind: "return", message: say.returnWithoutCall(newestDigits) };
     return liveFlags[2] ? { kind: "calls", message: say.returnAddressLost(oldestDigits) } : null;
   }

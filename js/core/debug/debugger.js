@@ -1,6 +1,6 @@
-// The debugger of a session. It handles breakpoints, moves to a goal, stop reasons, values, and moves back in time. It runs in the page's
-// worker and in Node. All its reports are based on answers of the bench. Apart from typed lines, it adds only runs and breakpoint changes
-// to the session.
+// The debugger of a session. It handles breakpoints, stop reasons, values, and moves: forward to a goal, and back in time. It runs in the
+// page's worker and in Node. All its reports are based on answers of the bench. Apart from typed lines, it adds only runs and breakpoint
+// changes to the session.
 //
 //     const session = new WorkerSession(engine, file);               (debug_session.js does this, and also stores the source)
 //     const debug = new Debugger(session);
@@ -89,7 +89,7 @@ import { CommonMistakes } from "./common_mistakes.js";
 
 /** The maximum distance of a near goal in cycles: one second of a real 4004. */
 export const NEAR_CYCLES = CYCLES_PER_SECOND;
-/** The maximum distances of other near goals, in cycles: a change or a true condition, and the end of a number of instructions. */
+/** The maximum distances of other near goals, in cycles: for a change or a condition, and for a number of instructions. */
 const NEAR_CHANGE_CYCLES = 10000000;
 const NEAR_COUNT_CYCLES = 100000000;
 
@@ -115,7 +115,7 @@ export function joinTallies(earlier, later) {
  * Returns the maximum distance of a near goal, in cycles.
  * @param {Goal} goal
  */
-export function nearDistance({ kind }) {
+export function maxNearDistance({ kind }) {
   if (kind === "change" || kind === "when") return NEAR_CHANGE_CYCLES;
   return kind === "count" ? NEAR_COUNT_CYCLES : NEAR_CYCLES;
 }
@@ -167,7 +167,7 @@ export class Debugger {
     this.names = names;
     this.stopFinder = this.createStopFinder(softBreakpoints);
     this.hardBreakpoints = new Map(breakpoints.filter((breakpoint) => !isSoft(breakpoint)).map(({ id, address }) => [address, id]));
-    return { lines: this.breakLines(), errors };
+    return { lines: this.hardBreakpointLines(), errors };
   }
 
   /**
@@ -192,8 +192,8 @@ export class Debugger {
     return errors;
   }
 
-  /** Returns the bench lines that set the hard breakpoints and delete all others; "" before `setBreakpoints`. */
-  breakLines() {
+  /** Returns the bench lines that set the hard breakpoints and delete all other breakpoints; "" before `setBreakpoints`. */
+  hardBreakpointLines() {
     const { hardBreakpoints } = this;
     if (!hardBreakpoints) return "";
     const benchAddresses = new Set(this.session.breakpointAddresses);
@@ -271,7 +271,7 @@ export class Debugger {
   }
 
   /**
-   * Returns a stop that no breakpoint has caused.
+   * Returns a stop that was not caused by a breakpoint.
    * @param {string} reason
    * @returns {Stop}
    */
@@ -352,7 +352,7 @@ export class Debugger {
     const goalResult = await searchGoal(session.engine, session.file, goal, shouldContinue, maxDistance, readCodes);
     const goalSearch = { ...goalResult, id: 0, endsAtReturn };
     if (!watcher) return { searchResult: goalSearch, result: null, tally: NO_TALLY };
-    const events = await this.searchStops(goalSearch.cycles, shouldContinue);
+    const events = await this.searchForStop(goalSearch.cycles, shouldContinue);
     if (goalSearch.end === "bound" && events.cycles < 0) {
       this.watcher = watcher;
       return { searchResult: goalSearch, result: null, tally: NO_TALLY };
@@ -371,7 +371,7 @@ export class Debugger {
    * @param {number} cycles
    * @param {ShouldContinue} shouldContinue
    */
-  async searchStops(cycles, shouldContinue) {
+  async searchForStop(cycles, shouldContinue) {
     const allEvents = createEmptyEvents();
     if (this.stopFinder.isEmpty) return allEvents;
     const { engine, file } = this.session;
@@ -490,8 +490,8 @@ export class Debugger {
   }
 
   /**
-   * Undoes the last move back: returns to the moment from which that move started. In the result, `isDone` is false if there is no move to
-   * undo.
+   * Undoes the last backward move: returns to the moment from which that move started. In the result, `isDone` is false if there is no move
+   * to undo.
    * @returns {BackResult}
    */
   goForward() {
@@ -511,7 +511,7 @@ export class Debugger {
     const { session } = this;
     const countBefore = session.count.total;
     const hasChangedBoard = session.replaceState(sessionAtMoment);
-    const lines = this.breakLines();
+    const lines = this.hardBreakpointLines();
     if (lines) session.changeBreakpoints(lines);
     this.commonMistakes.forgetRom();
     this.startTotal = session.count.total;

@@ -70,7 +70,8 @@ export class LineChanges {
   }
 
   /**
-   * Adds the changes since the last pause, if they were made by one step. Otherwise removes all changes, unless the machine has not run.
+   * If the machine has made one step since the last pause, adds the changes that the step made. If the machine has run in another way,
+   * removes all changes.
    * @param {MachineState} machineState the state at the pause
    * @param {number} cycles the total cycle count of the session at the pause
    * @param {SourceMap | null} map the source map of the program in ROM; null if the source is unknown

@@ -27,12 +27,12 @@ function romLevels(chip, machineState, { roms }) {
 }
 
 /**
- * Returns the value of an index register, or of a place without a number in its name; undefined for any other place.
+ * Returns the value of an index register, or of a place whose name has no number; undefined for any other place.
  * @param {string} place
  * @param {MachineState} machineState
  * @returns {string | undefined}
  */
-function valueOfRegister(place, machineState) {
+function valueOfSimplePlace(place, machineState) {
   const { registers, parts, ports } = machineState;
   const registerMatch = /^r(\d+)$/.exec(place);
   if (registerMatch) return machineState.register(Number(registerMatch[1]));
@@ -58,8 +58,8 @@ function valueOfRegister(place, machineState) {
  * @param {Board} board
  */
 export function readPlaceValue(place, machineState, board) {
-  const registerText = valueOfRegister(place, machineState);
-  if (registerText !== undefined) return registerText;
+  const simpleValue = valueOfSimplePlace(place, machineState);
+  if (simpleValue !== undefined) return simpleValue;
   const [word, ...numberWords] = place.split(".");
   const numbers = numberWords.map(parseNumber);
   const romMatch = /^rom(\d+)$/.exec(word);

@@ -113,7 +113,7 @@ export class SrcSelection {
     return { kind: "source", message: say.srcWasForMessage(message, otherKind) };
   }
 
-  /** A part of a message that names the address of the last SRC; "" before the first SRC. */
+  /** The suffix of a message, with the address of the last SRC; "" before the first SRC. */
   get lastSrcText() {
     return this.srcAddress < 0 ? "" : say.lastSrcSuffix(hex(this.srcAddress, 3));
   }

@@ -44,7 +44,7 @@ async function callWithAddress(label, callbacks, callback) {
 }
 
 /**
- * Calls a function with the key that has a legend. Returns an error message, or "" if there is none.
+ * Calls a function with the key whose text is `legend`. Returns an error message, or "" if there is none.
  * @param {string} legend
  * @param {ActionCallbacks} callbacks
  * @param {(key: BoardKey) => unknown} callback
@@ -75,7 +75,7 @@ const ACTIONS = {
 };
 
 /**
- * Calls the function for an action whose argument needs no check. Always resolves to "", which means that there is no error.
+ * Calls the function of an action that cannot fail. Always resolves to "", which means that there is no error.
  * @param {() => unknown} callback
  */
 async function perform(callback) {

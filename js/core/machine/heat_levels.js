@@ -156,7 +156,8 @@ export function describeHeatStatus({ chipCount }, countsAllCycles) {
 }
 
 /**
- * Returns the summary of a heat map: the period, the number of changed nibbles, and the nibbles that changed most often and last.
+ * Returns the summary of a heat map: the period, the number of changed nibbles, the nibble that changed most often, and the nibble that
+ * changed last.
  * @param {Heat} heat
  * @param {number} requestedCycles the length of the period for which the user asked
  * @param {(place: string) => string} nameOf returns the name of a nibble

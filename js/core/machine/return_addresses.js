@@ -21,7 +21,7 @@ const JMS_DIGIT = "5";
  * Returns the address of the JMS before a return address.
  * @param {number} address
  */
-export function callAddress(address) {
+export function addressOfCall(address) {
   return (address - JMS_BYTES) & LAST_ADDRESS;
 }
 
@@ -33,7 +33,7 @@ export function callAddress(address) {
  */
 export function findLiveReturns(addresses, bytes, map) {
   const firstStaleIndex = addresses.findIndex((address, index) => {
-    const call = callAddress(address);
+    const call = addressOfCall(address);
     const isInProgram = map !== null && map.lineOf(call) > 0;
     return bytes[index][0] !== JMS_DIGIT || (isInProgram && !map.beginsInstruction(call));
   });
@@ -49,7 +49,7 @@ export function findLiveReturns(addresses, bytes, map) {
 export function describeProgramCounter(address, map) {
   const line = map ? map.lineOf(address) : 0;
   if (!map || line === 0) return { isLive: true, description: "", title: "" };
-  return { isLive: true, description: joinWords([map.nameOf(address), lineReference(line)]), title: map.sourceLines[line - 1].trim() };
+  return { isLive: true, description: joinWithCommas([map.nameOf(address), lineReference(line)]), title: map.sourceLines[line - 1].trim() };
 }
 
 /**
@@ -61,15 +61,15 @@ export function describeProgramCounter(address, map) {
  */
 export function describeReturn(address, isLive, map) {
   if (!isLive) return { isLive, description: say.STALE_RETURN, title: say.NO_CALL_WAITS };
-  const line = map ? map.lineOf(callAddress(address)) : 0;
+  const line = map ? map.lineOf(addressOfCall(address)) : 0;
   if (!map || line === 0) return { isLive, description: "", title: "" };
-  return { isLive, description: joinWords([map.nameOf(address), say.callInLine(line)]), title: map.sourceLines[line - 1].trim() };
+  return { isLive, description: joinWithCommas([map.nameOf(address), say.callInLine(line)]), title: map.sourceLines[line - 1].trim() };
 }
 
 /**
  * Joins the non-empty strings with commas.
  * @param {string[]} texts
  */
-function joinWords(texts) {
+function joinWithCommas(texts) {
   return texts.filter((word) => word !== "").join(", ");
 }

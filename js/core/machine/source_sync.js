@@ -1,5 +1,5 @@
-// Keeps the source editor in step with the machine. If the source is the program in ROM, the editor marks the next line, and addresses have
-// names. The page compares the source with ROM again after each change of the source or of ROM.
+// Keeps the source editor in step with the machine. If the source is the program in ROM, the editor marks the line of the next instruction,
+// and the page shows the names of addresses. The page compares the source with ROM again after each change of the source or of ROM.
 
 import { hex } from "../bench/numbers.js";
 import { SourceMap } from "./source_map.js";

@@ -1,7 +1,7 @@
 // Draws the picture of an example for the gallery: the front panel that the board text describes. The program does not run for the picture.
 // Therefore the picture shows the first drawn lamp of each colour as on, and sample digits on a display.
 
-import { partLines } from "../bench/part_lines.js";
+import { partLineRanges } from "../bench/part_lines.js";
 import { Face } from "../board/face.js";
 import { groupEnd, isMultiplexed, groupLamps } from "../board/face_board.js";
 import { indices } from "../bench/numbers.js";
@@ -27,7 +27,7 @@ class Drawing {
   /** @param {string} text the board text */
   constructor(text) {
     this.face = new Face(text);
-    this.parts = partLines(text);
+    this.parts = partLineRanges(text);
     /** @type {Shape[]} */
     this.shapes = [];
     /** The y position at which the next shape is drawn. */
