@@ -31,7 +31,7 @@ function createManager(savedBreakpoints, breaks = []) {
     showMessage: (message) => log.messages.push(message),
     reportFailure: (error) => log.failures.push(error),
   });
-  manager.open("one", savedBreakpoints);
+  manager.switchToSession("one", savedBreakpoints);
   manager.updateFromBench(bench.breaks);
   return { manager, log, bench };
 }
@@ -151,7 +151,7 @@ test("a condition is stored while the user types it, and is sent to the bench on
   await manager.requestsDone;
   assert.deepEqual([manager.savedBreakpoints[0].condition, manager.list.all[0].condition], ["r4 = 8", "r4 = 8"]);
   manager.saveTypedEdit(id, { note: "R4 is {r4}" });
-  manager.open("two", undefined);
+  manager.switchToSession("two", undefined);
   assert.deepEqual(manager.savedBreakpoints, []);
 });
 
@@ -274,8 +274,8 @@ test("breakpoints are also restored after another session was open", () => {
   const { manager } = createManager(STORED_BREAKPOINTS);
   manager.applyTextEdits(createReplacementEdits(TEXT, OTHER_PROGRAMS.short));
   const savedBreakpoints = structuredClone(manager.list.savedBreakpoints);
-  manager.open("two", undefined);
-  manager.open("one", savedBreakpoints);
+  manager.switchToSession("two", undefined);
+  manager.switchToSession("one", savedBreakpoints);
   manager.applyTextEdits(createReplacementEdits(OTHER_PROGRAMS.short, TEXT));
   assert.deepEqual(manager.list.savedBreakpoints, STORED_BREAKPOINTS);
 });

@@ -14,7 +14,7 @@ export const INVALID_CHARACTER = /[^\t -~]/u;
 /** The maximum number of places in a `trace` line. */
 export const MAX_PLACES = 16;
 /** Matches a line that consists of one word, and captures the word. */
-const ONE_WORD = /^[ \t]*([a-z]+)[ \t]*$/;
+const ONE_WORD_LINE = /^[ \t]*([a-z]+)[ \t]*$/;
 
 /**
  * A command or query: its line, the words of the line, the first word (`kind`, "" for a line that is too long), and the lines of the text
@@ -35,7 +35,7 @@ export function stripCarriageReturn(rawLine) {
  * @param {string} line
  */
 export function opensText(line) {
-  const match = line.length <= MAX_LINE_LENGTH ? ONE_WORD.exec(line) : null;
+  const match = line.length <= MAX_LINE_LENGTH ? ONE_WORD_LINE.exec(line) : null;
   const format = match && ANSWER_FORMATS.get(match[1]);
   return Boolean(format && format.opensText);
 }

@@ -14,7 +14,7 @@ const MAX_TEXTS = 4;
  * @param {string} text
  * @param {WiredText} wiredText
  */
-export function describesBoard(text, wiredText) {
+export function describesSameBoard(text, wiredText) {
   return sentText(text, "#") === sentText(wiredText.text, "#") || new BoardDraft(text).matchesAnswers(wiredText.board.split("\n"));
 }
 

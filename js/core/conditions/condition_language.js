@@ -113,7 +113,7 @@ function negateText(node, text) {
  * @param {Dependencies} dependencies collects the places that the condition depends on
  * @returns {Pick<Condition, "text" | "negation"> & import("./compiler.js").CompiledCondition}
  */
-function compileText(conditionText, names, dependencies) {
+function compileConditionText(conditionText, names, dependencies) {
   const node = parseCondition(conditionText, createLampNameTest(names));
   const text = collapseBlanks(conditionText);
   return { ...compileConditionNode(node, names, dependencies), text, negation: negateText(node, text) };
@@ -128,7 +128,7 @@ function compileText(conditionText, names, dependencies) {
 export function compileCondition(conditionText, names) {
   return conditionOrError(() => {
     const dependencies = new Dependencies();
-    const { text, negation, address, matches, explain } = compileText(conditionText, names, dependencies);
+    const { text, negation, address, matches, explain } = compileConditionText(conditionText, names, dependencies);
     checkPlaceCount(dependencies.places);
     return {
       text, negation, places: dependencies.places, needs: [], address,
@@ -147,7 +147,7 @@ export function compileCondition(conditionText, names) {
 export function compileTestCondition(conditionText, names) {
   return conditionOrError(() => {
     const dependencies = new Dependencies(true);
-    const { text, negation, address, matches, explain } = compileText(conditionText, names, dependencies);
+    const { text, negation, address, matches, explain } = compileConditionText(conditionText, names, dependencies);
     const { places: allPlaces } = dependencies;
     const statePlaces = allPlaces.filter(isStatePlace);
     const places = allPlaces.filter((place) => !isStatePlace(place));

@@ -82,7 +82,7 @@ export class Arrivals {
         continue;
       }
       const cyclesBefore = doneCycles;
-      const cyclesRun = this.run(engine, this.fileCopy, { lines, count: answerCount, cycles: plannedCycles(plannedLine) },
+      const cyclesRun = this.runWithBreakpoints(engine, this.fileCopy, { lines, count: answerCount, cycles: plannedCycles(plannedLine) },
         (end, row, partCycles) => end !== "break" || this.recordArrival(row, cyclesBefore + partCycles, events));
       if (cyclesRun < 0) return events;
       doneCycles += cyclesRun;
@@ -112,7 +112,7 @@ export class Arrivals {
    * @param {(end: string, row: string[], cyclesRun: number) => boolean} visit called at each stop with the bench's reason for the stop
    *   (such as "break"), the values of `places`, and the cycles so far; returns true to end the run
    */
-  run(engine, file, { lines, count, cycles }, visit) {
+  runWithBreakpoints(engine, file, { lines, count, cycles }, visit) {
     let [linesBefore, skippedCount, cyclesRun, arrivalCount] = [lines, count, 0, 0];
     while (cyclesRun < cycles) {
       const cyclesLeft = cycles - cyclesRun;

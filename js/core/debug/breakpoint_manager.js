@@ -73,7 +73,7 @@ export class BreakpointManager {
    * @param {SavedBreakpoint[] | undefined} savedBreakpoints the saved breakpoints; if undefined, the breakpoints of the session file are
    *   used
    */
-  open(id, savedBreakpoints) {
+  switchToSession(id, savedBreakpoints) {
     const storedList = this.listsById.get(id);
     const isReusable = storedList && JSON.stringify(storedList.savedBreakpoints) === JSON.stringify(savedBreakpoints);
     this.list = storedList && isReusable ? storedList : new BreakpointList(savedBreakpoints);

@@ -232,8 +232,8 @@ export class BreakpointList {
 
   /**
    * Moves each breakpoint to an instruction of the program, and sets its address. Removes all but one of the breakpoints with the same
-   * address. Called after the source has been assembled into ROM. Returns messages about breakpoints that moved or that no instruction
-   * follows.
+   * address. Called after the source has been assembled into ROM. Returns messages about breakpoints that moved, and about breakpoints
+   * after the last instruction.
    * @param {SourceMap} map
    */
   locate(map) {
@@ -326,7 +326,7 @@ function findReplacedLines({ from, to, text, removed = Array(to.line - from.line
 export function instructionForLine(line, map) {
   const lineAddress = map.addressOf(line);
   if (lineAddress !== undefined) return { line, address: lineAddress, message: "" };
-  for (let next = line + 1; next <= map.count; next++) {
+  for (let next = line + 1; next <= map.lineCount; next++) {
     const address = map.addressOf(next);
     if (address !== undefined) {
       const message = say.breakpointMovedToLine(line, next);

@@ -106,7 +106,7 @@ export class CommonMistakes {
    * Returns the mistakes in the next lines, up to the first mistake that stops the machine. Checks only the cycles that `cyclesToCheck`
    * chooses.
    * @param {PlannedLine[]} plannedLines the next lines
-   * @param {Uint8Array} [file] the session file before the lines run, if the lines have already run
+   * @param {Uint8Array} [file] the session file as it was before the lines ran; omitted if they have not run yet
    * @returns {FoundMistakes}
    */
   searchLines(plannedLines, file = this.session.file) {
@@ -139,9 +139,9 @@ export class CommonMistakes {
   }
 
   /**
-   * Returns the number of cycles to check in the next lines, at most MAX_CYCLES_PER_CALL. All cycles up to this limit are checked for some
-   * time after the machine starts or a key changes. If mistakes stop the machine, all cycles are checked unless they exceed the limit.
-   * Otherwise only a sample is checked, because a check runs each cycle three more times.
+   * Returns the number of cycles to check in the next lines, at most MAX_CYCLES_PER_CALL. Checks as many cycles as possible for
+   * FULLY_CHECKED_CYCLES cycles after the machine starts or a key changes. If mistakes stop the machine and the lines are short enough,
+   * always checks all cycles. Otherwise checks only a sample, because a check runs each cycle three more times.
    * @param {PlannedLine[]} plannedLines
    */
   cyclesToCheck(plannedLines) {

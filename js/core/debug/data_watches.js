@@ -231,8 +231,7 @@ function splitRunLine(plannedLine) {
 }
 
 /**
- * Finds, in advance, the stops at soft breakpoints (arrivals.js) and at data watches. The earliest stop ends the run. A caller can use it
- * in place of an `Arrivals` object.
+ * Finds, in advance, the stops at soft breakpoints (arrivals.js) and at data watches. The earliest stop ends the run.
  */
 export class SoftStopFinder {
   /**

@@ -5,8 +5,8 @@
 //     const session = new WorkerSession(engine, file);               (debug_session.js does this, and also stores the source)
 //     const debug = new Debugger(session);
 //     debug.setBreakpoints([{ id: 1, address: 0x14, condition: "r9 = 9", from: 1, note: "", hits: 0 }], names);
-//     const { searchResult } = await debug.runToGoal({ kind: "over" }, NEAR_CYCLES, shouldContinue);
-//     while (debug.isMoving) { const { stop } = debug.advance(FRAME_CYCLES); if (stop) .. }    for a goal that is not near
+//     const { searchResult } = await debug.runToGoal({ kind: "over" }, MAX_NEAR_CYCLES, shouldContinue);
+//     while (debug.isMoving) { const { stop } = debug.advance(FRAME_CYCLES); if (stop) .. }        for a goal that is not near
 //     debug.values(["r4", "lamps"]); await debug.goBack({ kind: "instruction" }, shouldContinue); debug.goForward();
 //
 // A move has a goal (goals.js). The debugger runs to a near goal at once. For any other goal, `isMoving` is true until `advance` reports a
@@ -88,10 +88,10 @@ import { CommonMistakes } from "./common_mistakes.js";
  */
 
 /** The maximum distance of a near goal in cycles: one second of a real 4004. */
-export const NEAR_CYCLES = CYCLES_PER_SECOND;
+export const MAX_NEAR_CYCLES = CYCLES_PER_SECOND;
 /** The maximum distances of other near goals, in cycles: for a change or a condition, and for a number of instructions. */
-const NEAR_CHANGE_CYCLES = 10000000;
-const NEAR_COUNT_CYCLES = 100000000;
+const MAX_NEAR_CHANGE_CYCLES = 10000000;
+const MAX_NEAR_COUNT_CYCLES = 100000000;
 
 /** @type {Tally} a tally without any event */
 export const NO_TALLY = { hits: [], notes: [], noteCount: 0, mistakes: [] };
@@ -116,8 +116,8 @@ export function joinTallies(earlier, later) {
  * @param {Goal} goal
  */
 export function maxNearDistance({ kind }) {
-  if (kind === "change" || kind === "when") return NEAR_CHANGE_CYCLES;
-  return kind === "count" ? NEAR_COUNT_CYCLES : NEAR_CYCLES;
+  if (kind === "change" || kind === "when") return MAX_NEAR_CHANGE_CYCLES;
+  return kind === "count" ? MAX_NEAR_COUNT_CYCLES : MAX_NEAR_CYCLES;
 }
 
 /** The debugger of a session. */
@@ -444,7 +444,7 @@ export class Debugger {
     if (!moment) return { ...report, isDone: false, hasChangedBoard: false, cycles: 0 };
     const sessionAtMoment = present || await session.timeline.sessionAt(session.engine, moment, shouldContinue);
     session.timeline.goBack(moment, session);
-    return { ...report, ...this.enterMoment(sessionAtMoment) };
+    return { ...report, ...this.restoreMoment(sessionAtMoment) };
   }
 
   /**
@@ -498,7 +498,7 @@ export class Debugger {
     this.beginMove();
     const sessionAtMoment = this.session.timeline.goForward();
     return sessionAtMoment
-      ? { ...EMPTY_SEARCH_RESULT, ...this.enterMoment(sessionAtMoment) }
+      ? { ...EMPTY_SEARCH_RESULT, ...this.restoreMoment(sessionAtMoment) }
       : { ...EMPTY_SEARCH_RESULT, isDone: false, hasChangedBoard: false, cycles: 0 };
   }
 
@@ -507,7 +507,7 @@ export class Debugger {
    * `hasChangedBoard` and `cycles` of a `BackResult`.
    * @param {SessionAtMoment} sessionAtMoment
    */
-  enterMoment(sessionAtMoment) {
+  restoreMoment(sessionAtMoment) {
     const { session } = this;
     const countBefore = session.count.total;
     const hasChangedBoard = session.replaceState(sessionAtMoment);

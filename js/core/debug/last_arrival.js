@@ -73,7 +73,7 @@ class LastArrivalFinder {
         continue;
       }
       const cyclesBefore = this.totalCycles;
-      arrivals.run(engine, fileCopy, { lines, count: answerCount, cycles }, (_, row, cyclesRun) => {
+      arrivals.runWithBreakpoints(engine, fileCopy, { lines, count: answerCount, cycles }, (_, row, cyclesRun) => {
         const breakpoint = arrivals.findBreakpoint(row);
         const isNow = cyclesBefore + cyclesRun === presentMoment.total
           && breakpoint !== null && breakpoint.address === presentMoment.counter;

@@ -114,7 +114,7 @@ function registerPieces(word, { head }, machineState) {
  * @param {MachineState} machineState
  * @returns {Piece[]}
  */
-function selectedPieces(name, machineState) {
+function accessedPieces(name, machineState) {
   const { bank } = machineState;
   if (name === "WRR" || name === "RDR") {
     const chip = machineState.romSrcByte >> 4;
@@ -148,7 +148,7 @@ function selectedPieces(name, machineState) {
 function instructionPieces(name, description, parts, machineState) {
   const [operand] = parts.operands;
   if (name === "SRC" && operand && PAIR.test(operand.text)) return registerPieces(operand.text, parts, machineState);
-  const pieces = selectedPieces(name, machineState);
+  const pieces = accessedPieces(name, machineState);
   if (!ACCUMULATOR_WORD.test(description)) return pieces;
   /** @type {Piece[]} */
   const accumulatorPieces = [

@@ -17,8 +17,8 @@
  */
 
 /** The views that the action `show` accepts: texts in the order of their tabs, and panels. */
-export const TEXTS = ["program", "board", "tests", "properties", "wiring", "waves"];
-export const PANELS = ["front", "processor", "listing", "memory", "ports"];
+export const STORY_TEXTS = ["program", "board", "tests", "properties", "wiring", "waves"];
+export const STORY_PANELS = ["front", "processor", "listing", "memory", "ports"];
 
 /** Matches the text of an action. Captures the name of an action without an argument, or the name and the argument. */
 const ACTION_PATTERN = /^(?:(run|stop|back|forward)|(go to|run to|back to|press|release|show) ([^ ]+))$/;
@@ -34,7 +34,7 @@ function parseAction(words) {
   const match = ACTION_PATTERN.exec(words);
   if (!match) return null;
   const [, simpleName, name, argument = ""] = match;
-  if (name === "show" && !TEXTS.includes(argument) && !PANELS.includes(argument)) return null;
+  if (name === "show" && !STORY_TEXTS.includes(argument) && !STORY_PANELS.includes(argument)) return null;
   return { name: /** @type {ActionName} */ (simpleName || name), argument };
 }
 

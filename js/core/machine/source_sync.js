@@ -88,7 +88,7 @@ export class SourceSync {
     this.lastResult = result;
     const map = new SourceMap(result.map, text);
     this.mismatch = this.findMismatch(result, map);
-    this.map = this.mismatch === "" && map.count > 0 ? map : null;
+    this.map = this.mismatch === "" && map.lineCount > 0 ? map : null;
     this.editor.showAddresses(listLineAddresses(map));
     this.callbacks.onChange(this.map, this.mismatch);
   }

@@ -1,5 +1,5 @@
-// While the session is paused, provides the values of words in the source, and the changes that the last executed lines have made. Reads
-// both from the last snapshot of the session.
+// While the session is paused, reads the values of words in the source from the last snapshot of the session. Also reads the changes that
+// the last executed source lines have made.
 
 import { LineChanges } from "../debug/line_changes.js";
 import { MachineState } from "../debug/machine_state.js";

@@ -186,7 +186,7 @@ export class BreakpointsController {
     this.form.close();
     this.view.clearLog();
     this.manager.watchTexts = record.watched || [];
-    this.manager.open(record.id, record.breakpoints);
+    this.manager.switchToSession(record.id, record.breakpoints);
   }
 
   /** @param {number} line */

@@ -171,7 +171,7 @@ export class RunController {
    * @param {Key | null} key the key to press before the cycles, or null to press no key
    */
   async advance(cycles, key) {
-    const removePending = key ? this.pendingKeys.send({ word: "press", key }) : () => {};
+    const removePending = key ? this.pendingKeys.addInTransit({ word: "press", key }) : () => {};
     const frame = await this.bench.call("advance", [cycles, key]).finally(removePending);
     this.handleFrame(frame);
   }
@@ -310,7 +310,7 @@ export class RunController {
     const { bench, currentSession, calls } = this;
     currentSession.markChanged();
     if (word === "press" && this.clock.simulateKeyPress(key)) return;
-    const removePending = this.pendingKeys.send({ word, key });
+    const removePending = this.pendingKeys.addInTransit({ word, key });
     bench.call(word, [key]).finally(removePending).then((waitingChanges) => {
       this.pendingKeys.waitingChanges = waitingChanges;
     }, calls.reportFailure);
