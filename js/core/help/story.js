@@ -1,9 +1,11 @@
 // Parses the story of an example: guided text in steps, with links that run actions on the page. The first line is `# TITLE`. Each step
 // starts with `## TITLE`. Blank lines separate paragraphs. `[WORDS](ACTION)` is a link. The actions are:
-// run, stop, back, forward runs the machine; pauses it; goes back to the previous stop; undoes the last `back` go to LABEL, run to LABEL
-//   shows a line of the program; runs the machine to a line back to NAME goes back to the moment before the last change of, for example,
-//   r11, ram.0.0x12 or rom0.2 press KEY, release KEY presses a key (which stays down while the machine is paused); releases a key show VIEW
-//   shows a text or a panel
+//
+//     run, stop, back, forward                runs the machine; pauses it; goes back to the previous stop; undoes the last `back`
+//     go to LABEL, run to LABEL               shows a line of the program; runs the machine to a line
+//     back to NAME                            goes back to the moment before the last change of, for example, r11, ram.0.0x12 or rom0.2
+//     press KEY, release KEY                  presses a key (which stays down while the machine is paused); releases a key
+//     show VIEW                               shows a text or a panel
 
 /**
  * @typedef {import("./tour.js").ParagraphPiece} ParagraphPiece
