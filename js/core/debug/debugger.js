@@ -90,8 +90,8 @@ import { CommonMistakes } from "./common_mistakes.js";
 /** The maximum distance of a near goal in cycles: one second of a real 4004. */
 export const MAX_NEAR_CYCLES = CYCLES_PER_SECOND;
 /** The maximum distances of other near goals, in cycles: for a change or a condition, and for a number of instructions. */
-const MAX_NEAR_CHANGE_CYCLES = 10000000;
-const MAX_NEAR_COUNT_CYCLES = 100000000;
+const MAX_NEAR_CYCLES_FOR_CHANGE = 10000000;
+const MAX_NEAR_CYCLES_FOR_COUNT = 100000000;
 
 /** @type {Tally} a tally without any event */
 export const NO_TALLY = { hits: [], notes: [], noteCount: 0, mistakes: [] };
@@ -116,8 +116,8 @@ export function joinTallies(earlier, later) {
  * @param {Goal} goal
  */
 export function maxNearDistance({ kind }) {
-  if (kind === "change" || kind === "when") return MAX_NEAR_CHANGE_CYCLES;
-  return kind === "count" ? MAX_NEAR_COUNT_CYCLES : MAX_NEAR_CYCLES;
+  if (kind === "change" || kind === "when") return MAX_NEAR_CYCLES_FOR_CHANGE;
+  return kind === "count" ? MAX_NEAR_CYCLES_FOR_COUNT : MAX_NEAR_CYCLES;
 }
 
 /** The debugger of a session. */
