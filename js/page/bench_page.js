@@ -9,7 +9,7 @@ import {
   makeBreakpointsController, makeHeatView, makeHistoryView, makeMistakesView, makeSourceValues, makeTravel, makeWatchView,
 } from "./compose_debug.js";
 import { lampNames } from "../core/board/face_board.js";
-import { currentWiredText, describesBoard, textsToStore } from "../core/board/wired_board_text.js";
+import { currentWiredText, describesSameBoard, textsToStore } from "../core/board/wired_board_text.js";
 import { readCellDescriptions } from "../core/help/manual.js";
 import { Layout } from "./layout.js";
 import { LogView } from "./lines/log_view.js";
@@ -184,7 +184,7 @@ export class Page {
   changeFace(boardText) {
     const { session } = this.currentSession;
     const [wiredTexts] = (session && session.record.wired) || [];
-    if (!session || !wiredTexts || !describesBoard(boardText, wiredTexts)) return;
+    if (!session || !wiredTexts || !describesSameBoard(boardText, wiredTexts)) return;
     session.record.wired = textsToStore({ ...wiredTexts, text: boardText }, session.record.wired);
     this.snapshotView.changeFace(boardText);
     connectSound(this, boardText);

@@ -188,7 +188,7 @@ export class SnapshotView {
   /** Updates the views that `show` can delay. */
   showSlowViews() {
     this.lastDrawTime = performance.now();
-    this.showStateChanges(this.reader.readOtherChanges());
+    this.showStateChanges(this.reader.readStateChanges());
   }
 
   /**

@@ -2,7 +2,7 @@
 import assert from "node:assert/strict";
 import { test } from "node:test";
 import {
-  isStop, readBoard, readListing, readMap, readItems, readRam, readRegisters, readRun, parseRefusal, watchedPlaces,
+  isRefusalOrStop, readBoard, readListing, readMap, readItems, readRam, readRegisters, readRun, parseRefusal, watchedPlaces,
 } from "../core/bench/answers.js";
 import { ADDRESS_COUNT, NO_BYTE, parseRomBytes } from "../core/bench/rom_bytes.js";
 import { ForecastAnswers, parseTraceLine, rowValues } from "../core/engine/forecast_answers.js";
@@ -19,7 +19,8 @@ test("the answer to a run has its cycles and the reason for the stop", () => {
 });
 
 test("answers with an early stop or a refusal end a series of steps", () => {
-  assert.deepEqual(["ok 23 ran 70 end", "ok 5", "ok 21 ran 11 watch", "no 41", "seq 3"].map(isStop), [false, false, true, true, false]);
+  const answers = ["ok 23 ran 70 end", "ok 5", "ok 21 ran 11 watch", "no 41", "seq 3"];
+  assert.deepEqual(answers.map(isRefusalOrStop), [false, false, true, true, false]);
 });
 
 test("the answer to `regs` is parsed", () => {

@@ -3,7 +3,7 @@ import assert from "node:assert/strict";
 import { readFileSync } from "node:fs";
 import { test } from "node:test";
 import { parseRefusal } from "../core/bench/answers.js";
-import { LINE_NAMES, MAX_COLUMNS, MAX_PARTS, VALUE_RANGES, boardLines } from "../core/bench/board_form.js";
+import { SIGNAL_LINE_NAMES, MAX_COLUMNS, MAX_PARTS, VALUE_RANGES, signalLines } from "../core/bench/board_form.js";
 import { readErrors, readWiring } from "../core/bench/text_check_answers.js";
 import { Engine } from "../core/engine/engine.js";
 import { TextBench } from "../core/server/text_bench.js";
@@ -95,13 +95,13 @@ test("the page's limits for boards are the limits of the bench", async () => {
     [0, 27]);
   const largestBoard = boardsByCount.rom(16) + boardsByCount.ram(8).replace(/chips = 1/g, "chips = 4") + chain(8).repeat(4);
   const boardWithLamp = (line) => `${largestBoard}[[lamp]]\nline = "${line}"\n`;
-  for (const line of LINE_NAMES) assert.equal(await refusalNumberOf(boardWithLamp(line)), 0, line);
+  for (const line of SIGNAL_LINE_NAMES) assert.equal(await refusalNumberOf(boardWithLamp(line)), 0, line);
   const unknownLines = ["rom16.0", "rom0.4", "rom01.0", "ram8.0.0", "ram0.4.0", "ram0.0.4", "chain4.0", "chain0.80", "chain0.00", "rom0",
     ""];
   for (const line of unknownLines) {
-    assert.deepEqual([LINE_NAMES.has(line), await refusalNumberOf(boardWithLamp(line))], [false, 23], line);
+    assert.deepEqual([SIGNAL_LINE_NAMES.has(line), await refusalNumberOf(boardWithLamp(line))], [false, 23], line);
   }
-  const lines = boardLines({ roms: [{ chip: 3, port: "i001" }], banks: [], chains: [] });
+  const lines = signalLines({ roms: [{ chip: 3, port: "i001" }], banks: [], chains: [] });
   assert.deepEqual(lines.map(({ name, isInput }) => `${name} ${isInput}`), ["rom3.0 false", "rom3.1 false", "rom3.2 false", "rom3.3 true"]);
 });
 

@@ -31,7 +31,7 @@ function createManager(savedBreakpoints, breaks = []) {
     showMessage: (message) => log.messages.push(message),
     reportFailure: (error) => log.failures.push(error),
   });
-  manager.open("one", savedBreakpoints);
+  manager.switchToSession("one", savedBreakpoints);
   manager.updateFromBench(bench.breaks);
   return { manager, log, bench };
 }
@@ -46,7 +46,7 @@ const linesAndAddressesOf = ({ list }) => list.all.map(({ line, address }) => [l
 test("opening a session without breakpoints sends no request to the bench", async () => {
   const { manager, log } = createManager(undefined);
   manager.setSourceMap(MAP, "");
-  await manager.sendingEnd;
+  await manager.requestsDone;
   assert.deepEqual([log.setCalls, log.editCount, log.failures], [[], 0, []]);
 });
 
@@ -54,7 +54,7 @@ test("breakpoints that the bench reports are adopted, and are assigned to lines 
   const { manager, log } = createManager(undefined, ["000", "7FF"]);
   assert.deepEqual(linesAndAddressesOf(manager), [[0, 0], [0, 0x7FF]]);
   manager.setSourceMap(MAP, "");
-  await manager.sendingEnd;
+  await manager.requestsDone;
   assert.deepEqual([linesAndAddressesOf(manager), log.setCalls.length, log.editCount], [[[2, 0], [0, 0x7FF]], 1, 0]);
 });
 
@@ -62,13 +62,13 @@ test("a breakpoint at a line without bytes moves to the next instruction, with a
   const { manager, log, bench } = createManager([]);
   manager.setSourceMap(MAP, "");
   manager.toggleLine(3);
-  await manager.sendingEnd;
+  await manager.requestsDone;
   assert.deepEqual([linesAndAddressesOf(manager), bench.breaks], [[[4, 2]], ["002"]]);
   assert.deepEqual(log.messages, ["Line 3 puts no bytes into ROM: its breakpoint is at the next instruction, line 4."]);
   manager.toggleLine(3);
   assert.equal(manager.list.all.length, 1);
   manager.toggleLine(4);
-  await manager.sendingEnd;
+  await manager.requestsDone;
   assert.deepEqual([linesAndAddressesOf(manager), bench.breaks, log.editCount], [[], [], 2]);
 });
 
@@ -76,7 +76,7 @@ test("a breakpoint inside an instruction moves to the next instruction, with a m
   const { manager, log, bench } = createManager([]);
   manager.setSourceMap(MAP, "");
   manager.updateFromBench(["001"]);
-  await manager.sendingEnd;
+  await manager.requestsDone;
   assert.deepEqual([linesAndAddressesOf(manager), bench.breaks], [[[4, 2]], ["002"]]);
   assert.deepEqual(log.messages, ["001 is inside the instruction of line 2: its breakpoint is at the next one, line 4."]);
 });
@@ -85,16 +85,16 @@ test("typed `break` and `unbreak` lines change the list", async () => {
   const { manager, bench } = createManager([]);
   manager.setSourceMap(MAP, "");
   manager.updateFromBench(["000"]);
-  await manager.sendingEnd;
+  await manager.requestsDone;
   assert.deepEqual(linesAndAddressesOf(manager), [[2, 0]]);
   manager.change(manager.list.all[0].id, { isOn: false });
-  await manager.sendingEnd;
+  await manager.requestsDone;
   assert.deepEqual(bench.breaks, []);
   manager.updateFromBench(["000"]);
-  await manager.sendingEnd;
+  await manager.requestsDone;
   assert.deepEqual(manager.list.all.map(({ isOn }) => isOn), [true]);
   manager.updateFromBench([]);
-  await manager.sendingEnd;
+  await manager.requestsDone;
   assert.deepEqual(linesAndAddressesOf(manager), []);
 });
 
@@ -112,15 +112,15 @@ test("a `break` line that is typed during a request also changes the list", asyn
   };
   manager.toggleAddress(0x700);
   calls.setBreakpoints = originalSetBreakpoints;
-  await manager.sendingEnd;
-  await manager.sendingEnd;
+  await manager.requestsDone;
+  await manager.requestsDone;
   assert.deepEqual([linesAndAddressesOf(manager), bench.breaks], [[[2, 0], [0, 0x700]], ["000", "700"]]);
 });
 
 test("a change is sent before the previous one is answered, and the last change determines the error", async () => {
   const { manager } = createManager([{ line: 2, address: 0 }]);
   manager.setSourceMap(MAP, "");
-  await manager.sendingEnd;
+  await manager.requestsDone;
   const [{ id }] = manager.list.all;
   /** The requests that were sent to the bench, each with a function that answers it. */
   const requests = [];
@@ -131,15 +131,15 @@ test("a change is sent before the previous one is answered, and the last change 
   manager.change(id, { condition: "r4 = 8" });
   assert.deepEqual(requests.map(({ condition }) => condition), ["r4 = 7", "r4 = 8"]);
   for (const { answer } of requests.reverse()) answer();
-  await manager.sendingEnd;
+  await manager.requestsDone;
   assert.deepEqual([...manager.errors], [[id, "r4 = 8"]]);
-  assert.equal(manager.isApplying, false);
+  assert.equal(manager.hasPendingRequest, false);
 });
 
 test("a condition is stored while the user types it, and is sent to the bench once the user enters it", async () => {
   const { manager, log } = createManager([{ line: 2, address: 0, isOn: true, condition: "", from: 1, note: "" }, { line: 4, address: 2 }]);
   manager.setSourceMap(MAP, "");
-  await manager.sendingEnd;
+  await manager.requestsDone;
   const [{ id }] = manager.list.all;
   const setCallCount = log.setCalls.length;
   manager.saveTypedEdit(id, { condition: "r4 = " });
@@ -148,10 +148,10 @@ test("a condition is stored while the user types it, and is sent to the bench on
   manager.saveTypedEdit(id, { condition: "r4 = 7" });
   manager.change(id, { condition: "r4 = 7" });
   manager.change(id, { condition: "r4 = 8" });
-  await manager.sendingEnd;
+  await manager.requestsDone;
   assert.deepEqual([manager.savedBreakpoints[0].condition, manager.list.all[0].condition], ["r4 = 8", "r4 = 8"]);
   manager.saveTypedEdit(id, { note: "R4 is {r4}" });
-  manager.open("two", undefined);
+  manager.switchToSession("two", undefined);
   assert.deepEqual(manager.savedBreakpoints, []);
 });
 
@@ -163,45 +163,46 @@ test("a failure of the bench is reported once, and the next list is sent", async
   manager.toggleAddress(0x700);
   manager.callbacks.setBreakpoints = originalSetBreakpoints;
   manager.toggleAddress(0x701);
-  await manager.sendingEnd;
-  assert.deepEqual([log.failures.map(({ message }) => message), bench.breaks, manager.isApplying], [["it died"], ["700", "701"], false]);
+  await manager.requestsDone;
+  const messages = log.failures.map(({ message }) => message);
+  assert.deepEqual([messages, bench.breaks, manager.hasPendingRequest], [["it died"], ["700", "701"], false]);
 });
 
 test("breakpoints can be set in a source that differs from ROM, and stop once it is assembled", async () => {
   const { manager, log, bench } = createManager([]);
   manager.setSourceMap(null, "Source and ROM differ from line 4 (0x002). Assemble to update.");
   manager.toggleLine(4);
-  await manager.sendingEnd;
+  await manager.requestsDone;
   assert.deepEqual([linesAndAddressesOf(manager), bench.breaks], [[[4, -1]], []]);
   assert.match(log.messages[0], /Assemble to update\. Until then this breakpoint stops nothing\.$/);
   assert.deepEqual([...breakpointMarks(manager.list.all, manager.errors).lines.values()],
     [{ mark: "\u25CB", description: "breakpoint: it stops once the source is assembled" }]);
   manager.setSourceMap(MAP, "");
-  await manager.sendingEnd;
+  await manager.requestsDone;
   assert.deepEqual(bench.breaks, ["002"]);
 });
 
 test("after a program is assembled again, its breakpoints follow their lines, in one request", async () => {
   const { manager, log, bench } = createManager([{ line: 2, address: 0 }, { line: 4, address: 2 }], ["000", "002"]);
   manager.setSourceMap(MAP, "");
-  await manager.sendingEnd;
+  await manager.requestsDone;
   manager.applyTextEdits([{ from: { line: 0, ch: 7 }, to: { line: 0, ch: 7 }, text: ["", "NOP"], removed: [""] }]);
   manager.setSourceMap(null, "assemble it");
-  await manager.sendingEnd;
+  await manager.requestsDone;
   assert.deepEqual([linesAndAddressesOf(manager), bench.breaks], [[[3, 0], [5, 2]], ["000", "002"]]);
   const mapAnswer = ["map lines 5 names 0", "line 1 000 0", "line 2 000 1", "line 3 001 2", "line 4 003 0", "line 5 003 1"];
   manager.setSourceMap(new SourceMap(mapAnswer, TEXT.replace("\n", "\nNOP\n")), "");
-  await manager.sendingEnd;
+  await manager.requestsDone;
   assert.deepEqual([bench.breaks, log.setCalls.length], [["001", "003"], 2]);
 });
 
 test("an invalid condition is reported; a disabled breakpoint is kept; hits are counted", async () => {
   const { manager, bench } = createManager([{ line: 2, address: 0, condition: "no" }, { line: 4, address: 2, isOn: false }]);
   manager.setSourceMap(MAP, "");
-  await manager.sendingEnd;
+  await manager.requestsDone;
   const [invalidBreakpoint, disabledBreakpoint] = manager.list.all;
   assert.deepEqual([[...manager.errors], bench.breaks], [[[invalidBreakpoint.id, "it is none"]], []]);
-  manager.count({ hits: [[disabledBreakpoint.id, 2], [disabledBreakpoint.id, 1]], notes: [], noteCount: 0 });
+  manager.countHits({ hits: [[disabledBreakpoint.id, 2], [disabledBreakpoint.id, 1]], notes: [], noteCount: 0 });
   assert.equal(disabledBreakpoint.hits, 3);
   assert.deepEqual([...breakpointMarks(manager.list.all, manager.errors).lines.values()].map(({ mark, description }) => (
     `${mark} ${description}`)),
@@ -212,14 +213,14 @@ test("an invalid condition is reported; a disabled breakpoint is kept; hits are 
 test("a breakpoint beyond the bench's maximum is kept, but disabled", async () => {
   const { manager, log } = createManager([]);
   for (let address = 0x100; address < 0x121; address++) manager.toggleAddress(address);
-  await manager.sendingEnd;
+  await manager.requestsDone;
   assert.deepEqual([manager.list.enabledCount, manager.list.all.length, log.messages.length], [32, 33, 1]);
   const disabledBreakpoint = manager.list.all.find(({ isOn }) => !isOn);
   manager.change(disabledBreakpoint.id, { isOn: true });
   assert.deepEqual([manager.list.enabledCount, log.messages.length], [32, 2]);
   manager.remove(manager.list.all[0].id);
   manager.change(disabledBreakpoint.id, { isOn: true });
-  await manager.sendingEnd;
+  await manager.requestsDone;
   assert.deepEqual([manager.list.enabledCount, log.setCalls.pop().length], [32, 32]);
 });
 
@@ -235,7 +236,7 @@ for (const [length, otherText] of Object.entries(OTHER_PROGRAMS)) {
     manager.setSourceMap(null, "assemble it");
     // Load the other program into ROM. Its instructions are on other lines.
     manager.setSourceMap(new SourceMap(["map lines 2 names 0", "line 1 000 0", "line 2 000 1"], OTHER_PROGRAMS.short), "");
-    await manager.sendingEnd;
+    await manager.requestsDone;
     manager.applyTextEdits(createReplacementEdits(otherText, TEXT));
     assert.deepEqual(manager.list.savedBreakpoints, STORED_BREAKPOINTS);
     // A breakpoint must also be restored if both texts end with a line feed.
@@ -251,10 +252,10 @@ test("the breakpoints of a restored text are sent to the bench, even before the 
   const { manager, bench } = createManager([{ line: 4, address: 2 }], ["002"]);
   manager.setSourceMap(MAP, "");
   manager.applyTextEdits(createReplacementEdits(TEXT, OTHER_PROGRAMS.short));
-  await manager.sendingEnd;
+  await manager.requestsDone;
   assert.deepEqual(bench.breaks, []);
   manager.applyTextEdits(createReplacementEdits(OTHER_PROGRAMS.short, TEXT));
-  await manager.sendingEnd;
+  await manager.requestsDone;
   assert.deepEqual([bench.breaks, linesAndAddressesOf(manager)], [["002"], [[4, 2]]]);
 });
 
@@ -273,8 +274,8 @@ test("breakpoints are also restored after another session was open", () => {
   const { manager } = createManager(STORED_BREAKPOINTS);
   manager.applyTextEdits(createReplacementEdits(TEXT, OTHER_PROGRAMS.short));
   const savedBreakpoints = structuredClone(manager.list.savedBreakpoints);
-  manager.open("two", undefined);
-  manager.open("one", savedBreakpoints);
+  manager.switchToSession("two", undefined);
+  manager.switchToSession("one", savedBreakpoints);
   manager.applyTextEdits(createReplacementEdits(OTHER_PROGRAMS.short, TEXT));
   assert.deepEqual(manager.list.savedBreakpoints, STORED_BREAKPOINTS);
 });

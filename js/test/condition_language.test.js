@@ -9,7 +9,7 @@ import { replaceNames } from "../core/bench/name_substitution.js";
 import {
   compileCondition, compileExpression, compileTestCondition, compileTracedCondition,
 } from "../core/conditions/condition_language.js";
-import { MAX_DEPTH, MAX_LENGTH } from "../core/conditions/parser.js";
+import { MAX_PARENTHESIS_DEPTH, MAX_CONDITION_LENGTH } from "../core/conditions/parser.js";
 import { compileSetting } from "../core/conditions/set_command.js";
 import { DebugSession } from "../core/debug/debug_session.js";
 import { parseGoal } from "../core/debug/condition_search.js";
@@ -316,8 +316,8 @@ test("errors have a column and a suggestion", () => {
     ["(r5 = 1) = 3", 9, "=: a condition ends before this; join two by and, or"],
     ["r5 = (cy = 1)", 5, "(cy = 1): this is a condition, but a value is needed"],
     ['display "3', 8, "the closing quotation mark is missing"], ["ret = 3", 0, "ret is not one number"],
-    [`${"(".repeat(MAX_DEPTH + 1)}r5 = 1`, MAX_DEPTH, "parentheses can be nested at most 30 deep"],
-    ["x".repeat(MAX_LENGTH + 1), MAX_LENGTH - 1, "a condition has at most 2000 characters"],
+    [`${"(".repeat(MAX_PARENTHESIS_DEPTH + 1)}r5 = 1`, MAX_PARENTHESIS_DEPTH, "parentheses can be nested at most 30 deep"],
+    ["x".repeat(MAX_CONDITION_LENGTH + 1), MAX_CONDITION_LENGTH - 1, "a condition has at most 2000 characters"],
   ]) {
     const result = compileCondition(text, names);
     assert.deepEqual([result.error, result.column], [error, column], text);

@@ -6,7 +6,7 @@ import { readBoard } from "../core/bench/answers.js";
 import { Face, findFaceErrors } from "../core/board/face.js";
 import { printerLines, missingPartErrors } from "../core/board/face_board.js";
 import { SHELF_PARTS, applyAction, matchesBench } from "../core/drawing/drawing_actions.js";
-import { boardLines } from "../core/bench/board_form.js";
+import { signalLines } from "../core/bench/board_form.js";
 import { canConnect, possibleSources, possibleTargets, inputLines, boardWithBuzzer } from "../core/drawing/board_lines.js";
 import { selectionForm } from "../core/drawing/selection_form.js";
 import { applyEdits, inverseEdits } from "../core/drawing/text_edits.js";
@@ -188,7 +188,7 @@ for (const { name, text } of BOARDS) {
 
   testOnBench(`${name}: each offered wire can be drawn, and undone`, () => {
     const board = readCurrentBoard();
-    const lines = boardLines(board).map((line) => line.name);
+    const lines = signalLines(board).map((line) => line.name);
     const someLines = lines.filter((_, index) => lines.length < 30 || index % 13 === 0);
     for (const line of someLines) {
       for (const target of possibleTargets(board, line).filter((_, index) => index % 5 === 0 || board.lamps.length < 8)) {
@@ -328,7 +328,7 @@ testOnBench("the offered wires are exactly those that the bench accepts", () => 
   const someExamples = examples.filter((example) => ["lock", "counter", "first", "traffic light"].includes(example.name));
   for (const { name, text } of [...someExamples, OTHER_BOARDS[3]]) {
     const board = readBoard(boardAnswers([text])[0].board);
-    const pairs = boardLines(board).flatMap((line) => [...inputLines(board).keys()].map((target) => ({ line, target })));
+    const pairs = signalLines(board).flatMap((line) => [...inputLines(board).keys()].map((target) => ({ line, target })));
     const answers = boardAnswers(pairs.map(({ line, target }) => boardTextOf(addWire(board, line.name, target))));
     pairs.forEach(({ line, target }, index) => {
       assert.equal(canConnect(board, line, target), answers[index].first.startsWith("ok"),
@@ -348,7 +348,7 @@ function createPicker(seed) {
 
 /** Returns a random action that a user can perform on a board with the shelf, a pin, a field or a button. */
 function randomAction(pick, board, face) {
-  const lines = boardLines(board).map((line) => line.name);
+  const lines = signalLines(board).map((line) => line.name);
   const parts = ["", ...board.roms.map(({ chip }) => `rom ${chip}`), ...board.banks.map(({ bank }) => `ram ${bank}.0`),
     ...board.chains.map((_, index) => `chain ${index}`), ...(board.matrix ? ["keys"] : []), ...inputLines(board).keys(), ...lines];
   const { fields, buttons } = selectionForm(board, face, pick(parts));

@@ -2,7 +2,7 @@ import assert from "node:assert/strict";
 import { execFileSync } from "node:child_process";
 import { test } from "node:test";
 import {
-  readCellDescriptions, matchLines, readInstructions, readLineForms, splitCell, cellText, searchManual, describeCell,
+  readCellDescriptions, findMatchingLines, readInstructions, readLineForms, splitCell, cellText, searchManual, describeCell,
 } from "../core/help/manual.js";
 
 const SCRIPT = "import json; from manual_tables import manual_tables; print(json.dumps(manual_tables()))";
@@ -24,7 +24,7 @@ test("all 45 instructions are read, each with its cycles", () => {
 
 test("a session line is found by its beginning", () => {
   const lines = readLineForms(MANUAL);
-  const formsOf = (text) => matchLines(lines, text).map(({ form }) => form);
+  const formsOf = (text) => findMatchingLines(lines, text).map(({ form }) => form);
   assert.deepEqual(formsOf("r"), ["release r c", "run n", "reset", "regs", "ram b"]);
   assert.deepEqual(formsOf("run 100"), ["run n"]);
   assert.deepEqual(formsOf(""), []);

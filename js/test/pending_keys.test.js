@@ -21,7 +21,7 @@ async function createPresser() {
   let [isDown, changesInTransit] = [false, []];
   const send = (word) => {
     sentWords.push(word);
-    changesInTransit.push([word, pendingKeys.send({ word, key: KEY.key })]);
+    changesInTransit.push([word, pendingKeys.addInTransit({ word, key: KEY.key })]);
   };
   const presser = new KeyPresser({
     isRunning: () => true,
@@ -88,9 +88,9 @@ test("pressing a held key releases it, even while its first press is pending", a
 
 test("after its changes are forgotten, a key has the state that the bench reports", () => {
   const pendingKeys = new PendingKeys();
-  const confirm = pendingKeys.send({ word: "press", key: matrixKey(0, 0) });
+  const confirm = pendingKeys.addInTransit({ word: "press", key: matrixKey(0, 0) });
   assert.deepEqual([pendingKeys.willBeDown(matrixKey(0, 0), false), pendingKeys.willBeDown(matrixKey(0, 1), false)], [true, false]);
-  pendingKeys.send({ word: "forget", key: matrixKey(0, 0) });
+  pendingKeys.addInTransit({ word: "forget", key: matrixKey(0, 0) });
   assert.deepEqual([pendingKeys.willBeDown(matrixKey(0, 0), false), pendingKeys.willBeDown(matrixKey(0, 0), true)], [false, true]);
   confirm();
   assert.equal(pendingKeys.changesInTransit.length, 1);

@@ -1,6 +1,6 @@
 import assert from "node:assert/strict";
 import { test } from "node:test";
-import { findLiveReturns, callAddress, describeCounter, describeReturn } from "../core/machine/return_addresses.js";
+import { findLiveReturns, addressOfCall, describeProgramCounter, describeReturn } from "../core/machine/return_addresses.js";
 import { SourceMap } from "../core/machine/source_map.js";
 
 // docs/MANUAL.md: JMS stores the address after its two bytes as the newest return address. After BBL, the oldest return address is the
@@ -25,13 +25,13 @@ test("a byte that looks like a JMS does not count if the program has none there"
 });
 
 test("the address of the call is two bytes before the return address, also across the end of ROM", () => {
-  assert.deepEqual([2, 1, 0].map(callAddress), [0, 0xFFF, 0xFFE]);
+  assert.deepEqual([2, 1, 0].map(addressOfCall), [0, 0xFFF, 0xFFE]);
 });
 
 test("the counter and return addresses are described", () => {
-  assert.deepEqual(describeCounter(5, MAP), { isLive: true, description: "one + 1, line 3", title: "one: FIM P0, 0x50" });
-  assert.equal(describeCounter(9, MAP).description, "");
-  assert.equal(describeCounter(5, null).description, "");
+  assert.deepEqual(describeProgramCounter(5, MAP), { isLive: true, description: "one + 1, line 3", title: "one: FIM P0, 0x50" });
+  assert.equal(describeProgramCounter(9, MAP).description, "");
+  assert.equal(describeProgramCounter(5, null).description, "");
   assert.deepEqual(describeReturn(2, true, MAP), { isLive: true, description: "go + 2, call in line 1", title: "go: JMS one" });
   assert.equal(describeReturn(2, true, null).description, "");
   assert.equal(describeReturn(2, false, MAP).description, "stale");

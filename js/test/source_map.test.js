@@ -13,7 +13,7 @@ const ANSWERS = ["map lines 5 names 3", "line 1 000 0", "line 2 000 0", "line 3 
 
 test("a line has an address if it puts bytes into ROM", () => {
   const map = new SourceMap(ANSWERS, TEXT);
-  assert.equal(map.count, 5);
+  assert.equal(map.lineCount, 5);
   assert.deepEqual([1, 2, 3, 4, 5, 6].map((line) => map.addressOf(line)), [undefined, undefined, 0, 2, 5, undefined]);
 });
 
@@ -47,7 +47,7 @@ test("bytes without a label have no name from an earlier block of bytes", () => 
 
 test("an empty program has no lines", () => {
   const map = new SourceMap(["map lines 0 names 0"], "");
-  assert.equal(map.count, 0);
+  assert.equal(map.lineCount, 0);
   assert.equal(map.lineOf(0), 0);
   assert.equal(map.nameOf(0), "");
 });

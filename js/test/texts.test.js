@@ -2,7 +2,7 @@ import assert from "node:assert/strict";
 import { test } from "node:test";
 import { BenchRefusal, BenchTrap, CancelledError, WorkerDiedError, packError, unpackError } from "../core/bench/bench_errors.js";
 import { hex, parseNumber, indices } from "../core/bench/numbers.js";
-import { RunLog, formatRuns } from "../core/bench/run_log.js";
+import { RunLog, formatLogEntry } from "../core/bench/run_log.js";
 import { ErrorMessages } from "../core/bench/error_messages.js";
 
 test("numbers are parsed and formatted", () => {
@@ -38,7 +38,7 @@ test("the run log joins consecutive runs, but not keys", () => {
   runLog.add([run(1543), run(1544)]);
   runLog.add([run(1000), { line: "press 0 1", answer: "ok 4", runs: 0, cycles: 0 }, run(5)]);
   const entries = runLog.take();
-  assert.deepEqual(entries.map(formatRuns), ["run .. (3 lines, 4,087 cycles); the last one was answered", "press 0 1", "run 5"]);
+  assert.deepEqual(entries.map(formatLogEntry), ["run .. (3 lines, 4,087 cycles); the last one was answered", "press 0 1", "run 5"]);
   assert.equal(entries[0].answer, "ok ran 1000");
   assert.deepEqual(runLog.take(), []);
 });

@@ -6,7 +6,7 @@ import { Face } from "../core/board/face.js";
 import { DebugSession } from "../core/debug/debug_session.js";
 import { LineChanges } from "../core/debug/line_changes.js";
 import { MachineState } from "../core/debug/machine_state.js";
-import { joinPieces, valuesAt } from "../core/debug/word_values.js";
+import { joinPieces, valuePieces } from "../core/debug/word_values.js";
 import { readPlaceValue } from "../core/debug/snapshot_values.js";
 import { collectWatchNames, parseWatches, parseWatch } from "../core/debug/watch_expressions.js";
 import { Engine } from "../core/engine/engine.js";
@@ -56,7 +56,7 @@ function piecesOf(line, word, { session, map }) {
     return entry && { ...entry, description: `${name} ${entry.value}` };
   };
   const describeInstruction = (mnemonic) => EFFECTS.get(mnemonic) || "";
-  return valuesAt(line, line.indexOf(word), readMachineState(session), { nameOf, describeInstruction });
+  return valuePieces(line, line.indexOf(word), readMachineState(session), { nameOf, describeInstruction });
 }
 
 test("values of a register and a pair, with what SRC would select", async () => {
@@ -110,7 +110,7 @@ test("the changes by a line are known after a step and a step over, but not afte
   const debugSession = new DebugSession(engine, { board: BOARD, program });
   const { session } = debugSession.debugger;
   const changes = new LineChanges();
-  const recordPause = () => changes.addPause(readMachineState(session), session.count.total, debugSession.map);
+  const recordPause = () => changes.recordPause(readMachineState(session), session.count.total, debugSession.map);
   recordPause();
   assert.deepEqual([...changes.lines], []);
   await debugSession.stepInto();

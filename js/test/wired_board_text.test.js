@@ -1,7 +1,7 @@
 // Tests that the front panel comes from the text of the board in use.
 import assert from "node:assert/strict";
 import { test } from "node:test";
-import { currentWiredText, describesBoard, textsToStore } from "../core/board/wired_board_text.js";
+import { currentWiredText, describesSameBoard, textsToStore } from "../core/board/wired_board_text.js";
 
 const ROM = "[[rom]]\nchip = 0\nport = \"0000\"\n";
 const TEXT_WITH_TITLE = `# title: Mine\n${ROM}`;
@@ -12,21 +12,21 @@ const WIRED = { text: TEXT_WITH_TITLE, board: BOARD_LINES.join("\n") };
 test("a text that was changed since does not describe the wired board", () => {
   for (const editedText of [ROM.replace("chip = 0", "chip = 2"), `${ROM}[[lamp\n`, ""]) {
     assert.deepEqual(currentWiredText(BOARD_LINES, editedText, [WIRED]), WIRED);
-    assert.equal(describesBoard(editedText, WIRED), false);
+    assert.equal(describesSameBoard(editedText, WIRED), false);
   }
 });
 
 test("a text with other comments still describes the wired board", () => {
   const renamedText = TEXT_WITH_TITLE.replace("Mine", "Other");
-  assert.equal(describesBoard(renamedText, WIRED), true);
+  assert.equal(describesSameBoard(renamedText, WIRED), true);
   assert.deepEqual(currentWiredText(BOARD_LINES, renamedText, [WIRED]), { ...WIRED, text: renamedText });
 });
 
 test("a text that the page reads differently is recognised as the wired text", () => {
   const dottedWiredText = { text: "# title: Dotted\nx.y = 1\n", board: BOARD_LINES.join("\n") };
   assert.deepEqual(currentWiredText(BOARD_LINES, "", [dottedWiredText]), dottedWiredText);
-  assert.equal(describesBoard("# title: Again\nx.y = 1\n", dottedWiredText), true);
-  assert.equal(describesBoard("x.y = 2\n", dottedWiredText), false);
+  assert.equal(describesSameBoard("# title: Again\nx.y = 1\n", dottedWiredText), true);
+  assert.equal(describesSameBoard("x.y = 2\n", dottedWiredText), false);
 });
 
 test("the text of a board that was wired before is found again, and an unknown board has no text", () => {

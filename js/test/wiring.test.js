@@ -2,7 +2,7 @@ import assert from "node:assert/strict";
 import { readFileSync } from "node:fs";
 import { test } from "node:test";
 import { readBoard } from "../core/bench/answers.js";
-import { partAtLine, partLines } from "../core/bench/part_lines.js";
+import { partAtLine, partLineRanges } from "../core/bench/part_lines.js";
 import { layOutBoard, isHigh, isHighAtRom } from "../core/board/wiring.js";
 import { drawnPartLines } from "../core/drawing/drawn_part_lines.js";
 
@@ -73,13 +73,13 @@ test("parts are found in a text in any TOML notation", () => {
   const text = '# a board\nlamp = [\n  { line = "ram0.0.0" }, { line = "ram0.0.1" },\n  { line = "chain0.3" },\n]\n\n[[rom]] # first\n'
     + 'chip = 0x0A\nport = "0000"\n\n[keys]\nchain = 0\nfirst = 0\nrows = 1\ncolumns = ["rom0.0"]\n\n'
     + '[[chain]]\nclock = "rom0.0"\ndata = "rom0.1"\n';
-  const lines = partLines(text);
+  const lines = partLineRanges(text);
   assert.deepEqual(Object.fromEntries(lines), {
     "lamp 0": { from: 3, to: 3 }, "lamp 1": { from: 3, to: 3 }, "lamp 2": { from: 4, to: 4 }, "rom 10": { from: 7, to: 9 },
     keys: { from: 11, to: 15 }, "chain 0": { from: 17, to: 19 },
   });
   assert.deepEqual([1, 3, 8, 18, 99].map((line) => partAtLine(lines, line)), ["", "lamp 0", "rom 10", "chain 0", ""]);
-  assert.equal(partLines("").size, 0);
+  assert.equal(partLineRanges("").size, 0);
 });
 
 test("the component at TEST is found in a comment", () => {
@@ -91,7 +91,7 @@ test("the component at TEST is found in a comment", () => {
 
 test("all parts of the calculator's board are found", () => {
   const text = readFileSync(new URL("../../examples/calculator/board.toml", import.meta.url), "utf8");
-  const names = [...partLines(text).keys()];
+  const names = [...partLineRanges(text).keys()];
   assert.deepEqual(names.filter((name) => !name.startsWith("lamp")),
     ["rom 0", "rom 1", "rom 2", "rom 3", "ram 0", "chain 0", "chain 1", "keys"]);
   assert.equal(names.filter((name) => name.startsWith("lamp")).length, 43);

@@ -38,7 +38,7 @@ export class AdapterConnection extends MessageStream {
     this.lastSeq = 0;
     this.isOpen = false;
     /** Resolves when all queued requests have responses. A new request waits for this promise. */
-    this.queueEnd = Promise.resolve();
+    this.queueDone = Promise.resolve();
     /** @type {Set<PendingRequest>} the requests that have no response yet, both queued and running */
     this.pendingRequests = new Set();
     /** @type {(id: string) => void} stops the task that has the given progress id */
@@ -72,7 +72,7 @@ export class AdapterConnection extends MessageStream {
     const pendingRequest = { seq: requestSeq, command, hasBegun: false, isCancelled: false };
     this.pendingRequests.add(pendingRequest);
     if (command === "cancel" && this.isOpen) this.serve(pendingRequest, message.arguments);
-    else this.queueEnd = this.queueEnd.then(() => this.serve(pendingRequest, message.arguments));
+    else this.queueDone = this.queueDone.then(() => this.serve(pendingRequest, message.arguments));
   }
 
   /**

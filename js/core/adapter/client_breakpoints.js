@@ -1,5 +1,5 @@
-// Manages the breakpoints that the client sets on lines, labels and addresses. Merges them and the breakpoints that the session already had
-// into one list for the debugger. Also manages data breakpoints, which watch a place, and exception filters, which stop the machine at
+// Manages the breakpoints that the client sets on lines, labels and addresses. Merges these breakpoints with those that the session already
+// had, into one list for the debugger. Also manages data breakpoints, which watch a place, and exception filters, which stop the machine at
 // common mistakes.
 
 import { watchedPlaces } from "../bench/answers.js";
@@ -68,8 +68,8 @@ function readCommonFields(requested) {
 }
 
 /**
- * Returns the address of a reference plus an offset, and an error message ("" for none). If the reference has no address, the address is
- * -1. An address outside ROM is also an error.
+ * Adds an offset to the address of a reference. `error` is the error message, "" for none. If the reference has no address,
+ * `requestedAddress` is -1. A sum outside ROM is also an error.
  * @param {string} reference
  * @param {number} offset
  * @param {(reference: string) => number} addressOf returns the address of a reference; throws if the reference has no address
@@ -182,7 +182,7 @@ export class ClientBreakpoints {
   async setRequestedBreakpoints(kind, requested) {
     this.requestedByKind[kind] = requested;
     const errors = await this.applyBreakpoints();
-    return requested.map((breakpoint) => this.toResponse(breakpoint, errors.get(breakpoint) || ""));
+    return requested.map((breakpoint) => this.toSentBreakpoint(breakpoint, errors.get(breakpoint) || ""));
   }
 
   /**
@@ -191,7 +191,7 @@ export class ClientBreakpoints {
    * @param {string} applyError the error message of `applyBreakpoints` for this breakpoint, "" for none
    * @returns {SentBreakpoint}
    */
-  toResponse({ id, line, address, error }, applyError) {
+  toSentBreakpoint({ id, line, address, error }, applyError) {
     const message = error || applyError;
     return { id, verified: message === "", ...(line > 0 ? { line } : {}), ...(message ? { message } : {}), address };
   }
@@ -225,13 +225,14 @@ export class ClientBreakpoints {
     const isOverLimit = (/** @type {number} */ index) => index >= MAX_ENABLED_BREAKPOINTS;
     const limitMessage = say.tooManyEnabledMessage(MAX_ENABLED_BREAKPOINTS);
     breakpoints.forEach((breakpoint, index) => isOverLimit(index) && errors.set(breakpoint, limitMessage));
-    const hits = new Map([...this.requestedById].map(([id, { address }]) => [address, (session.breakpoints.get(id) || { hits: 0 }).hits]));
+    const hitsByAddress = new Map([...this.requestedById].map(([id, { address }]) => (
+      [address, (session.breakpoints.get(id) || { hits: 0 }).hits])));
     session.breakpoints = new BreakpointList();
     this.requestedById.clear();
     for (const breakpoint of breakpoints.slice(0, Math.min(MAX_ENABLED_BREAKPOINTS, MAX_BREAKPOINTS))) {
       const { address, condition, from, note } = breakpoint;
       const addedBreakpoint = session.breakpoints.add({ address, condition, from, note });
-      addedBreakpoint.hits = hits.get(address) || 0;
+      addedBreakpoint.hits = hitsByAddress.get(address) || 0;
       this.requestedById.set(addedBreakpoint.id, breakpoint);
     }
     const { errors: compileErrors } = await session.applyBreakpoints();
@@ -246,7 +247,7 @@ export class ClientBreakpoints {
    * not set the breakpoint.
    * @param {number} id the breakpoint id in the debugger's list
    */
-  hitBreakpoint(id) {
+  describeHit(id) {
     const breakpoint = this.requestedById.get(id);
     if (!breakpoint || breakpoint.id === 0) return { id: 0, reason: "breakpoint" };
     const { labels, addresses } = this.requestedByKind;
@@ -266,7 +267,7 @@ export class ClientBreakpoints {
       return hasMoved;
     });
     await this.applyBreakpoints();
-    return movedBreakpoints.map((breakpoint) => this.toResponse(breakpoint, ""));
+    return movedBreakpoints.map((breakpoint) => this.toSentBreakpoint(breakpoint, ""));
   }
 
   // --- data breakpoints ---

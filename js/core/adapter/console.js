@@ -1,5 +1,5 @@
-// Executes the lines that a user types in the debug console: bench lines (in which labels can replace addresses), key presses, moves that
-// have no button, and expressions.
+// Executes the lines that a user types in the debug console: bench lines, key presses, expressions, and moves such as `back` for which the
+// client has no button. In bench lines, labels can replace addresses.
 
 import { ANSWER_FORMATS, isQuery } from "../bench/answer_table.js";
 import { readRun, parseRefusal } from "../bench/answers.js";

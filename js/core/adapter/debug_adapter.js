@@ -103,12 +103,12 @@ export class DebugAdapter {
     this.isConfigured = false;
     /** @type {Promise<string> | null} the result of `endDebugging`; null before `leave` is called */
     this.leavePromise = null;
-    /** @type {MoveEnd | null} the end of the last move; null before the first one */
+    /** @type {MoveEnd | null} the end of the last move; null before the first move */
     this.lastStop = null;
     /** @type {RemoteFrontPanel | null} the reports to a client that draws the front panel; null until the client asks for them */
     this.remoteFrontPanel = null;
     connection.handlers = {
-      ...this.lifecycleHandlers(), ...this.breakpointHandlers(), ...this.moveHandlers.handlers(), ...this.queryRequestHandlers(),
+      ...this.lifecycleHandlers(), ...this.breakpointHandlers(), ...this.moveHandlers.handlers(), ...this.stateHandlers(),
     };
     connection.stopTask = (id) => this.progress.stop(id);
   }
@@ -172,7 +172,7 @@ export class DebugAdapter {
   }
 
   /**
-   * Begins a debug session. Replaces an earlier one.
+   * Begins a debug session, which replaces any earlier session.
    * @param {LaunchResult} launchResult
    */
   async beginSession(launchResult) {
@@ -216,7 +216,7 @@ export class DebugAdapter {
    */
   async restart(args) {
     const { machine, launchResult, breakpoints } = this.currentSession;
-    await this.halt();
+    await this.pauseAndWait();
     if (launchResult.writer) {
       await launchResult.session.debugger.session.serve("reset\n", async () => true);
       await machine.saveAndReport();
@@ -232,7 +232,7 @@ export class DebugAdapter {
   }
 
   /** Pauses the machine and waits for the end of its move. */
-  async halt() {
+  async pauseAndWait() {
     if (!this.openSession) return;
     const { machine } = this.openSession;
     machine.pause();
@@ -250,7 +250,7 @@ export class DebugAdapter {
   async endDebugging() {
     const { openSession } = this;
     if (!openSession) return "";
-    await this.halt();
+    await this.pauseAndWait();
     this.openSession = null;
     const { writer, session } = openSession.launchResult;
     if (!writer) return "";
@@ -354,7 +354,7 @@ export class DebugAdapter {
    * Returns the handlers of the requests about the machine state and the front panel, by command.
    * @returns {Record<string, RequestHandler>}
    */
-  queryRequestHandlers() {
+  stateHandlers() {
     const requirePaused = (/** @type {(queryHandlers: QueryHandlers, args: any) => unknown} */ action) => (/** @type {any} */ args) => {
       const { machine, queryHandlers } = this.currentSession;
       if (machine.isMoving) fail(NOT_STOPPED);
@@ -508,7 +508,7 @@ export class DebugAdapter {
     this.lastStop = moveEnd;
     this.sendFrontPanel();
     const isDataBreakpoint = moveEnd.reason === "data breakpoint";
-    const hit = moveEnd.reason === "breakpoint" ? openSession.breakpoints.hitBreakpoint(moveEnd.id)
+    const hit = moveEnd.reason === "breakpoint" ? openSession.breakpoints.describeHit(moveEnd.id)
       : { id: isDataBreakpoint ? moveEnd.id : 0, reason: moveEnd.reason };
     this.connection.sendEvent("stopped", {
       reason: hit.reason, description: moveEnd.message, threadId: THREAD_ID, allThreadsStopped: true,

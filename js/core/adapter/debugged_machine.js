@@ -1,5 +1,6 @@
-// Runs the debugged session. The machine makes one move at a time, such as a step or a run. A move consists of pieces. A task that arrives
-// during a move waits for the end of a piece, or for the end of the move. At each stop, the machine saves the session and reports the stop.
+// Runs the debugged session. The machine makes one move at a time, such as a step or a run. A move consists of pieces. If another task is
+// requested during a move, it waits until the current piece or the whole move has ended. At each stop, the machine saves the session and
+// reports the stop.
 
 import { CancelledError } from "../bench/bench_errors.js";
 import { formatCycles } from "../time/cycles.js";
@@ -124,7 +125,7 @@ export class Machine {
   }
 
   /**
-   * Converts the result of a move back or forward in time to the result of a run. If the move did nothing, prints its message.
+   * Creates the result of a run from the result of a move through time. If that move did nothing, prints its message.
    * @param {{ isDone: boolean, message: string, end: string, id: number }} pastMove
    * @param {string} reason the stop reason; "arrival" is replaced by the entry of REASONS_BY_END for `end`
    */

@@ -17,7 +17,7 @@ import { MAX_LISTING_LINES } from "../bench/rom_bytes.js";
 const nextAddress = ({ address, line }) => address + (line.slice(7, 9).trim() === "" ? 1 : 2);
 
 /**
- * Returns the instructions in a range. The listing starts at `from`, even if the second byte of an instruction is there.
+ * Returns the instructions in a range. The listing starts at `from`, even if this is the address of the second byte of an instruction.
  * @param {DebugSession} session
  * @param {number} from the first address
  * @param {number} to the address after the range
@@ -43,8 +43,8 @@ function listInstructions(session, from, to) {
  * @returns {InstructionRow[]}
  */
 export function listInstructionRows(session, address, offset, count) {
-  // An instruction has at most two bytes. If the source map has an instruction nearby, the listing is aligned to it, so that no row starts
-  // at the second byte of an instruction.
+  // An instruction has at most two bytes. If the source map has an instruction within four bytes after `start`, the listing is aligned to
+  // it. No row then starts at the second byte of an instruction.
   const start = Math.max(0, address + 2 * Math.min(0, offset) - 1);
   const candidates = indices(4).map((distance) => start + distance);
   const alignedStart = candidates.find((candidate) => candidate <= address && session.map.beginsInstruction(candidate)) ?? start;

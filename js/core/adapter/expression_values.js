@@ -4,7 +4,7 @@ import { hex } from "../bench/numbers.js";
 import { compileExpression } from "../conditions/condition_language.js";
 import { parsePlace } from "../conditions/places.js";
 import { MachineState } from "../debug/machine_state.js";
-import { joinPieces, valuesAt } from "../debug/word_values.js";
+import { joinPieces, valuePieces } from "../debug/word_values.js";
 import { convertToBase, formatInBase } from "./number_format.js";
 import { AdapterError } from "./dap_protocol.js";
 import * as say from "../../words/adapter.js";
@@ -33,7 +33,7 @@ const MARK_PLACES = /^(chain\d|lamps)$/;
  * @param {ExpressionContext} context
  * @param {Base} base
  */
-function placeValue(text, { session, face }, base) {
+function valueOfPlace(text, { session, face }, base) {
   const word = text.replace(/^lamp /, "").trim();
   const lamp = face.lampNumbers.get(word) ?? face.lampNumbers.get(word.replace(/ /g, "_"));
   const name = lamp === undefined ? text : `lamp ${lamp}`;
@@ -51,7 +51,7 @@ function placeValue(text, { session, face }, base) {
  * @param {DebugSession} session
  * @param {Base} base
  */
-function registerValue(text, session, base) {
+function valueOfRegister(text, session, base) {
   const word = text.toLowerCase();
   const { registers } = session;
   if (word === "pc") return convertToBase(`0x${registers.counter}${registers.counter && lineSuffix(session)}`, base);
@@ -71,7 +71,7 @@ function lineSuffix(session) {
  * @param {string} text
  * @param {DebugSession} session
  */
-function nameValue(text, { map }) {
+function valueOfName(text, { map }) {
   const name = map.names.get(text.replace(/^@/, ""));
   if (!name) return "";
   if (!name.isLabel) return `0x${hex(name.value, 2)}, ${name.value}`;
@@ -90,8 +90,8 @@ export function evaluateExpression(text, context, base = "default") {
   const trimmed = text.trim();
   if (trimmed === "") throw new AdapterError(say.NOTHING_TO_EVALUATE);
   if (trimmed === "display" || trimmed === "lamps") return context.frontPanelText();
-  const value = registerValue(trimmed, session, base) || convertToBase(nameValue(trimmed, session), base)
-    || placeValue(trimmed, context, base);
+  const value = valueOfRegister(trimmed, session, base) || convertToBase(valueOfName(trimmed, session), base)
+    || valueOfPlace(trimmed, context, base);
   if (value) return value;
   const { expression, error, column } = compileExpression(trimmed, session.names);
   if (!expression) throw new AdapterError(errorInColumn(error, column));
@@ -114,6 +114,6 @@ export function expressionHover(text, context) {
     return programName && { ...programName, description: session.map.meaningOf(name) };
   };
   const describeInstruction = (/** @type {string} */ word) => (instructions.get(word) || { effect: "" }).effect;
-  const pieces = valuesAt(trimmed, 0, new MachineState(session.debugger.session.takeSnapshot()), { nameOf, describeInstruction });
+  const pieces = valuePieces(trimmed, 0, new MachineState(session.debugger.session.takeSnapshot()), { nameOf, describeInstruction });
   return pieces.length > 0 ? joinPieces(pieces) : describeInstruction(trimmed.toUpperCase()) || evaluateExpression(trimmed, context);
 }

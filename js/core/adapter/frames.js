@@ -1,7 +1,7 @@
 // Reads the stack frames: a frame for the next instruction, and a frame for each call that has not returned.
 
 import { hex } from "../bench/numbers.js";
-import { findLiveReturns, callAddress } from "../machine/return_addresses.js";
+import { findLiveReturns, addressOfCall } from "../machine/return_addresses.js";
 
 /**
  * @typedef {import("../debug/debug_session.js").DebugSession} DebugSession
@@ -19,7 +19,7 @@ import { findLiveReturns, callAddress } from "../machine/return_addresses.js";
  */
 export function readStackFrames(session) {
   const { returns } = session;
-  const calls = returns.map((address) => callAddress(address));
+  const calls = returns.map((address) => addressOfCall(address));
   const lines = session.debugger.session.ask(calls.map((address) => `list ${address} 1\n`).join(""));
   const liveFlags = findLiveReturns(returns, lines.map((line) => line.slice(4, 6)), session.map);
   const openCalls = calls.filter((_, index) => liveFlags[index]);

@@ -47,8 +47,8 @@ export class FrontPanelText {
   }
 
   /**
-   * Returns the current text if it has changed since the previous call; otherwise "". The first call compares it with the text at
-   * construction.
+   * Returns the current text if it has changed since the previous call; otherwise "". The first call returns the text if it has changed
+   * since this object was created.
    */
   takeChange() {
     const currentText = this.currentText();

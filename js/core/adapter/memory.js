@@ -38,7 +38,7 @@ export function formatReference(number) {
 export const bankReference = (bank) => formatReference(CHARACTERS_BASE + BANK_SIZE * bank);
 
 /**
- * Returns the memory reference, as a number, of a RAM character or a status character; -1 for any other place.
+ * Returns the number in the memory reference of a RAM character or a status character; -1 for any other place.
  * @param {string} name
  */
 export function referenceNumberForPlace(name) {
@@ -69,7 +69,7 @@ function parseReference(reference, addressOf) {
  * @param {number} number the memory reference
  * @returns {MemoryRange | null}
  */
-function findRange(session, number) {
+function findMemoryRange(session, number) {
   if (number <= LAST_ADDRESS) return { start: 0, bytes: readRomBytes(session), placeAt: (index) => `rom.${index}` };
   const isStatus = number >= STATUS_BASE;
   const bank = Math.floor((number - (isStatus ? STATUS_BASE : CHARACTERS_BASE)) / BANK_SIZE);
@@ -96,7 +96,7 @@ function findRange(session, number) {
 function readRequestedLocation(args, session, addressOf) {
   const reference = requireText(args, "memoryReference").trim();
   const number = parseReference(reference, addressOf);
-  const range = findRange(session, number) || fail(say.boardHasNo(reference));
+  const range = findMemoryRange(session, number) || fail(say.boardHasNo(reference));
   return { range, from: number - range.start + requireNumber(args, "offset", 0) };
 }
 

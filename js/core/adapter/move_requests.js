@@ -32,10 +32,12 @@ export class MoveHandlers {
    */
   handlers() {
     const moveHandler = (/** @type {(machine: Machine) => void} */ startMove) => (
-      (/** @type {any} */ args) => this.moveResponse(args, startMove));
+      (/** @type {any} */ args) => this.createMoveResponse(args, startMove));
     return {
-      continue: (args) => (
-        new ResponseWithFollowUp({ allThreadsContinued: true }, this.moveResponse(args, (machine) => machine.runToGoal(null)).followUp)),
+      continue: (args) => {
+        const { followUp } = this.createMoveResponse(args, (machine) => machine.runToGoal(null));
+        return new ResponseWithFollowUp({ allThreadsContinued: true }, followUp);
+      },
       next: moveHandler((machine) => machine.runToGoal({ kind: "over" })),
       stepIn: (args) => this.stepIn(args),
       stepInTargets: (args) => {
@@ -60,7 +62,7 @@ export class MoveHandlers {
    * @param {any} args
    * @param {(machine: Machine) => void} startMove starts the move
    */
-  moveResponse(args, startMove) {
+  createMoveResponse(args, startMove) {
     this.checkPaused();
     this.checkThread(args);
     const { machine } = this.adapter.currentSession;
@@ -70,17 +72,17 @@ export class MoveHandlers {
   /** @param {any} args */
   stepIn(args) {
     const target = requireNumber(args, "targetId", -1);
-    if (target < 0) return this.moveResponse(args, (machine) => machine.stepInto());
+    if (target < 0) return this.createMoveResponse(args, (machine) => machine.stepInto());
     const { session } = this.adapter.currentSession.launchResult;
     if (!(target <= LAST_ADDRESS) || !isCall(session.debugger.session.romBytes[target])) fail(say.NO_TARGET);
-    return this.moveResponse(args, (machine) => machine.stepIntoCall(target));
+    return this.createMoveResponse(args, (machine) => machine.stepIntoCall(target));
   }
 
   /** @param {any} args */
   stepOut(args) {
-    const moveResponse = this.moveResponse(args, (machine) => machine.runToGoal({ kind: "out" }));
+    const response = this.createMoveResponse(args, (machine) => machine.runToGoal({ kind: "out" }));
     if (readStackFrames(this.adapter.currentSession.launchResult.session).length === 1) throw new AdapterError(NO_CALL_WAITS, true);
-    return moveResponse;
+    return response;
   }
 
   /** @param {any} args */

@@ -38,8 +38,8 @@ export function requestedBase(args) {
  */
 export function convertToBase(text, base) {
   if (base === "default") return text;
-  const singleNumber = text.replace(/^(0x[0-9A-F]+), \d+$/, "$1");
-  return base === "hex" ? singleNumber : singleNumber.replace(/\b0x[0-9A-F]+\b/g, (digits) => String(Number(digits)));
+  const hexText = text.replace(/^(0x[0-9A-F]+), \d+$/, "$1");
+  return base === "hex" ? hexText : hexText.replace(/\b0x[0-9A-F]+\b/g, (digits) => String(Number(digits)));
 }
 
 /**

@@ -4,7 +4,7 @@ import { parseRefusal } from "../bench/answers.js";
 import { compileExpression } from "../conditions/condition_language.js";
 import { maxPlaceValue } from "../conditions/places.js";
 import { ConditionError } from "../conditions/scanner.js";
-import { settingLines, settablePlace, parseSetting } from "../conditions/set_command.js";
+import { settingLines, settablePlaceName, parseSetting } from "../conditions/set_command.js";
 import { parseKey, keyLine, formatKey } from "../board/key_place.js";
 import { AdapterError } from "./dap_protocol.js";
 import * as say from "../../words/adapter.js";
@@ -71,7 +71,7 @@ export function compileSetLine(text, session) {
  * @returns {string}
  */
 export function findSettablePlace(text, face) {
-  const place = settablePlace(text);
+  const place = settablePlaceName(text);
   const [, name = ""] = /^key\s+(.+)$/i.exec(text.trim()) || [];
   const namedKey = listNamedKeys(face).get(name);
   if (namedKey) return `key ${formatKey(namedKey.key)}`;

@@ -55,7 +55,7 @@ export class Progress {
   }
 
   /**
-   * Creates an object that reports the progress of a task, which starts now.
+   * Creates an object that reports the progress of a task. The task starts now.
    * @param {string} title
    * @param {() => void} stop ends the task early
    */

@@ -67,8 +67,8 @@ export class RemoteFrontPanel {
       Object.assign(update, { board: bench.statusQueries.board, boardText: session.boardText });
     }
     Object.assign(update, this.reader.readSnapshot(bench.ask("state\n")));
-    const newOutput = bench.printerCodes && bench.printerCodes.takeChanges(bench.count.total);
-    if (newOutput) update.printed = newOutput;
+    const newCodes = bench.printerCodes && bench.printerCodes.takeChanges(bench.count.total);
+    if (newCodes) update.printed = newCodes;
     if (isMoving !== this.isRunning) update.isRunning = isMoving;
     this.isRunning = isMoving;
     return { ...update, ...this.takeLitShares() };

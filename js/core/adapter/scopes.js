@@ -68,7 +68,7 @@ const createDecimalVariable = (name, value, place) => ({ ...createVariable(name,
 const createReadOnlyVariable = (name, value, place) => ({ ...createVariable(name, value), evaluateName: place, watchPlace: place });
 
 /** @param {ShownState} state */
-function registerVariables({ machineState: { registers: cpu } }) {
+function listRegisterVariables({ machineState: { registers: cpu } }) {
   const { accumulator, carry, counter, bank, test, owed } = cpu;
   return [
     createVariable("acc", withHexPrefix(accumulator), "acc"), createDecimalVariable("cy", carry, "cy"),
@@ -79,12 +79,12 @@ function registerVariables({ machineState: { registers: cpu } }) {
 }
 
 /** @param {ShownState} state */
-function pairVariables({ machineState }) {
+function listPairVariables({ machineState }) {
   return indices(8).map((pair) => createVariable(`P${pair}`, withHexPrefix(machineState.pair(pair)), `p${pair}`));
 }
 
 /** @param {ShownState} state */
-function bankVariables({ machineState }) {
+function listBankVariables({ machineState }) {
   return [...machineState.ram].map(([bank, { registers: bankRegisters }]) => (
     { ...createVariable(`bank ${bank}`, say.chipCountText(bankRegisters.size / 4, bank === machineState.bank)),
       variablesReference: BANK_BASE + bank, count: bankRegisters.size, memory: bankReference(bank) }));
@@ -94,20 +94,21 @@ function bankVariables({ machineState }) {
  * @param {ShownState} state
  * @param {number} bank
  */
-function ramRegisterVariables({ machineState }, bank) {
+function listRamRegisterVariables({ machineState }, bank) {
   const ram = machineState.ram.get(bank);
   return [...(ram ? ram.registers : [])].map(([name, { characters: digits, status }]) => {
     const [, chip, register] = name.split(".").map(Number);
     const registerIndex = 4 * chip + register;
     return {
       ...createVariable(say.chipRegister(chip, register), `${digits} ${status}`),
-      variablesReference: REGISTER_BASE + 16 * bank + registerIndex, count: 20, memory: placeReference(`ram.${bank}.${16 * registerIndex}`),
+      variablesReference: REGISTER_BASE + 16 * bank + registerIndex, count: 20,
+      memory: memoryReference(`ram.${bank}.${16 * registerIndex}`),
     };
   });
 }
 
 /** @type {(place: string) => string} returns the memory reference of a RAM character or a status character */
-const placeReference = (place) => formatReference(referenceNumberForPlace(place));
+const memoryReference = (place) => formatReference(referenceNumberForPlace(place));
 
 /**
  * Returns the nibbles and status characters of a RAM register; an empty list if the board does not have the register. The name of a nibble
@@ -116,7 +117,7 @@ const placeReference = (place) => formatReference(referenceNumberForPlace(place)
  * @param {number} bank
  * @param {number} register
  */
-function characterVariables({ machineState, session }, bank, register) {
+function listCharacterVariables({ machineState, session }, bank, register) {
   const ramRegister = machineState.ramRegister(bank, register);
   if (!ramRegister) return [];
   const constants = [...session.map.names.values()].filter(({ isLabel }) => !isLabel);
@@ -126,17 +127,17 @@ function characterVariables({ machineState, session }, bank, register) {
       const constantNames = constants.filter((constant) => constant.value === byte && byte > 15).map(({ name }) => name);
       const place = `ram.${bank}.0x${hex(byte, 2)}`;
       const name = `0x${hex(byte, 2)}${constantNames.length > 0 ? ` ${constantNames.join(" ")}` : ""}`;
-      return { ...createVariable(name, withHexPrefix(value), place), memory: placeReference(place) };
+      return { ...createVariable(name, withHexPrefix(value), place), memory: memoryReference(place) };
     }),
     ...[...ramRegister.status].map((value, index) => {
       const place = `st.${bank}.${register}.${index}`;
-      return { ...createVariable(`status ${index}`, withHexPrefix(value), place), memory: placeReference(place) };
+      return { ...createVariable(`status ${index}`, withHexPrefix(value), place), memory: memoryReference(place) };
     }),
   ];
 }
 
 /** @param {ShownState} state */
-function portVariables({ machineState, face }) {
+function listPortVariables({ machineState, face }) {
   /** @type {(port: string) => string} */
   const portName = (port) => (face.ports.has(port) ? `${port} ${(face.ports.get(port) || { text: "" }).text}` : port);
   const { roms, chains, srcBytes } = machineState.ports;
@@ -158,7 +159,7 @@ function srcVariable(latchedByte) {
 }
 
 /** @param {ShownState} state */
-function lampVariables({ session, face, board }) {
+function listLampVariables({ session, face, board }) {
   const marks = readItems(session.debugger.session.ask("lamps\n")[0]).join("");
   return board.lamps.map((line, lamp) => {
     const name = (face.lamps.get(lamp) || { text: "" }).text.replace(/_/g, " ");
@@ -167,7 +168,7 @@ function lampVariables({ session, face, board }) {
 }
 
 /** @param {ShownState} state */
-function keyVariables({ machineState, face, board }) {
+function listKeyVariables({ machineState, face, board }) {
   const keysDown = new PressedKeys(machineState.ports.keys);
   return boardKeys(board, face).filter(({ legend }) => legend !== "").map(({ key, legend }) => {
     const isDown = keysDown.has(key, machineState.registers.test);
@@ -176,7 +177,7 @@ function keyVariables({ machineState, face, board }) {
 }
 
 /** @param {ShownState} state */
-function nameVariables({ session: { map } }) {
+function listNameVariables({ session: { map } }) {
   return [...map.names.values()].map(({ name, value, isLabel }) => (
     { ...createVariable(name, isLabel ? `0x${hex(value, 3)}, line ${map.lineOf(value)}` : `0x${hex(value, 2)}, ${value}`),
       evaluateName: name, ...(isLabel ? { memory: `0x${hex(value, 3)}` } : {}) }));
@@ -184,13 +185,13 @@ function nameVariables({ session: { map } }) {
 
 /** @type {Record<number, { title: string, listVariables: (state: ShownState) => Variable[], hint?: string }>} the scopes, by reference */
 const SCOPES = {
-  [REGISTERS]: { title: say.REGISTERS, listVariables: registerVariables, hint: "registers" },
-  [PAIRS]: { title: say.PAIRS, listVariables: pairVariables, hint: "registers" },
-  [RAM]: { title: "RAM", listVariables: bankVariables },
-  [PORTS]: { title: say.PORTS, listVariables: portVariables },
-  [LAMPS]: { title: say.LAMPS, listVariables: lampVariables },
-  [KEYS]: { title: say.KEYS, listVariables: keyVariables },
-  [NAMES]: { title: say.NAMES, listVariables: nameVariables },
+  [REGISTERS]: { title: say.REGISTERS, listVariables: listRegisterVariables, hint: "registers" },
+  [PAIRS]: { title: say.PAIRS, listVariables: listPairVariables, hint: "registers" },
+  [RAM]: { title: "RAM", listVariables: listBankVariables },
+  [PORTS]: { title: say.PORTS, listVariables: listPortVariables },
+  [LAMPS]: { title: say.LAMPS, listVariables: listLampVariables },
+  [KEYS]: { title: say.KEYS, listVariables: listKeyVariables },
+  [NAMES]: { title: say.NAMES, listVariables: listNameVariables },
 };
 
 export class Scopes {
@@ -225,7 +226,7 @@ export class Scopes {
    * @returns {Variable[] | null}
    */
   variables(reference, base = "default") {
-    const variables = this.rawVariables(reference);
+    const variables = this.unformattedVariables(reference);
     return variables && variables.map((variable) => (
       { ...variable, value: variable.isDecimal ? formatInBase(Number(variable.value), base) : convertToBase(variable.value, base) }));
   }
@@ -234,12 +235,12 @@ export class Scopes {
    * Returns the variables of a scope, bank or RAM register, in the default number format; null if the reference is unknown.
    * @param {number} reference
    */
-  rawVariables(reference) {
+  unformattedVariables(reference) {
     const { state } = this;
     if (Object.prototype.hasOwnProperty.call(SCOPES, reference)) return SCOPES[reference].listVariables(state);
-    if (reference >= BANK_BASE && reference < BANK_BASE + 8) return ramRegisterVariables(state, reference - BANK_BASE);
+    if (reference >= BANK_BASE && reference < BANK_BASE + 8) return listRamRegisterVariables(state, reference - BANK_BASE);
     const registerIndex = reference - REGISTER_BASE;
-    return registerIndex >= 0 && registerIndex < 128 ? characterVariables(state, registerIndex >> 4, registerIndex & 15) : null;
+    return registerIndex >= 0 && registerIndex < 128 ? listCharacterVariables(state, registerIndex >> 4, registerIndex & 15) : null;
   }
 
   /**

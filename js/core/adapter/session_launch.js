@@ -145,9 +145,9 @@ function readBenchText(name, mark, host) {
  * @param {ErrorMessages} messages
  */
 function refusalError(name, { number, line }, messages) {
-  const place = line > 0 ? `, line ${line}` : "";
+  const lineSuffix = line > 0 ? `, line ${line}` : "";
   const reason = number > 0 ? `${messages.refusalMeaning(number)} (no ${number})` : say.DOT_ALONE;
-  return new AdapterError(`${baseName(name)}${place}: ${reason}`, true);
+  return new AdapterError(`${baseName(name)}${lineSuffix}: ${reason}`, true);
 }
 
 /**
@@ -185,7 +185,7 @@ async function createSessionFromTest(engine, test, host) {
 
 /**
  * Opens or creates a session file. Resolves to the session and its writer. Rejects if a text for a new file is missing, if a text has
- * errors, or if ROM differs from a program that is not loaded.
+ * errors, or if a program that is not loaded differs from ROM.
  * @param {Engine} engine
  * @param {RequestedFiles} requestedFiles
  * @param {Host} host
@@ -206,7 +206,7 @@ async function openSessionFile(engine, requestedFiles, host, messages) {
     const writer = new SessionWriter(file, session.debugger.session);
     if (isNew) await serveText(session, "wire", sentText(board, "#"), requestedFiles.board, messages);
     if (isNew || requestedFiles.load) await serveText(session, "asm", sentText(program, ";"), requestedFiles.program, messages);
-    else if (program !== "") checkRom(session, engine, requestedFiles, messages);
+    else if (program !== "") checkProgramMatchesRom(session, engine, requestedFiles, messages);
     await writer.write(session.debugger.session);
     return { session, writer, note: "" };
   } catch (thrown) {
@@ -216,8 +216,8 @@ async function openSessionFile(engine, requestedFiles, host, messages) {
 }
 
 /**
- * Loads a copy of a session file into memory. Resolves to the session. Rejects if the program has errors, or if ROM differs from a program
- * that is not loaded.
+ * Loads a copy of a session file into memory. Resolves to the session. Rejects if the program has errors, or if a program that is not
+ * loaded differs from ROM.
  * @param {Engine} engine
  * @param {RequestedFiles} requestedFiles
  * @param {Host} host
@@ -230,7 +230,7 @@ async function loadSessionCopy(engine, requestedFiles, host, messages) {
   try {
     const session = new DebugSession(engine, { file, board, program: program || disassembleRom(engine, file) });
     if (requestedFiles.load && program !== "") await serveText(session, "asm", sentText(program, ";"), requestedFiles.program, messages);
-    else if (program !== "") checkRom(session, engine, requestedFiles, messages);
+    else if (program !== "") checkProgramMatchesRom(session, engine, requestedFiles, messages);
     return { session, writer: null, note: "" };
   } catch (thrown) {
     throw thrown instanceof BenchRefusal ? refusalError(requestedFiles.session, { number: thrown.number, line: 0 }, messages) : thrown;
@@ -270,7 +270,7 @@ export function describeDifference(session) {
  * @param {RequestedFiles} requestedFiles
  * @param {ErrorMessages} messages
  */
-function checkRom(session, engine, { program, session: file }, messages) {
+function checkProgramMatchesRom(session, engine, { program, session: file }, messages) {
   const { refusal } = assembleText(engine, sentText(session.program, ";"));
   if (refusal) throw refusalError(program, refusal, messages);
   const differenceText = describeDifference(session);

@@ -58,8 +58,8 @@ export class SessionWriter {
     const checkAnswers = (answers) => {
       const rejectedAnswer = answers.find((answer) => parseRefusal(answer));
       if (rejectedAnswer) throw new AdapterError(say.fileNotWritten(rejectedAnswer));
-      const isSame = answers[answers.length - 1] === state;
-      if (!isSame) throw new AdapterError(say.STATES_DIFFER);
+      const isStateEqual = answers[answers.length - 1] === state;
+      if (!isStateEqual) throw new AdapterError(say.STATES_DIFFER);
     };
     if (missingLines) checkAnswers(await this.file.ask(`${joinLines(missingLines)}state\n`, missingLines.length + 1));
     else await this.file.replace(lastSegment.file, `${joinLines(allLines)}state\n`, allLines.length + 1, checkAnswers);

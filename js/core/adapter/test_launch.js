@@ -40,7 +40,7 @@ export function findTestFiles(name, file, read) {
  * Returns the bench lines that repeat the commands of a test run.
  * @param {TestSession} session
  */
-function replayLines({ actions }) {
+function createReplayLines({ actions }) {
   return actions.map(({ line, cycles }) => {
     if (line !== "run") return `${line}\n`;
     const fullRuns = `run ${MAX_RUN_CYCLES}\n`.repeat(Math.floor(cycles / MAX_RUN_CYCLES));
@@ -69,7 +69,7 @@ export async function createTestSession(engine, texts, { name, file }, pause) {
   if (!testSession || (outcome.failure && !outcome.failure.file)) throw new AdapterError(failureLine(outcome).trim(), true);
   const contents = { file: engine.bytesOf(testSession.initialFile), board: texts.boardText, program: texts.programText };
   const session = new DebugSession(engine, contents);
-  const lines = replayLines(testSession);
+  const lines = createReplayLines(testSession);
   if (lines !== "") await session.debugger.session.serve(lines, async () => true);
   return { session, result: outcome.failure ? failureLine(outcome).trim().slice(2) : say.testHasPassed(name) };
 }

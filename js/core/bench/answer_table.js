@@ -1,5 +1,5 @@
-// Defines the answer format of each input line, and whether text follows the line. Both come from the table tools/lib/answers.txt; its
-// header explains the columns.
+// Defines the answer format of each input line, and whether text follows the line. Reads the table tools/lib/answers.txt, whose header
+// explains the columns.
 
 import table from "#answer-table";
 
@@ -13,7 +13,7 @@ import table from "#answer-table";
 /** The number of columns in a row of the table. */
 const COLUMN_COUNT = 5;
 /** The start of the pattern for the answer to a command. */
-const COMMAND_ANSWER = "^ok ";
+const COMMAND_ANSWER_PREFIX = "^ok ";
 
 /**
  * Parses the answer table; returns the answer formats by the first word of the input line.
@@ -23,7 +23,7 @@ const COMMAND_ANSWER = "^ok ";
 export function parseAnswerTable(text) {
   const rows = text.split("\n").filter((line) => !line.startsWith("#")).map((line) => line.split("\t"));
   return new Map(rows.filter((row) => row.length === COLUMN_COUNT).map(([word, opens, first, continuation, count]) => [word, {
-    opensText: opens === "text", isQuery: !first.startsWith(COMMAND_ANSWER), first: new RegExp(first),
+    opensText: opens === "text", isQuery: !first.startsWith(COMMAND_ANSWER_PREFIX), first: new RegExp(first),
     continuation: continuation === "-" ? null : new RegExp(continuation), count,
   }]));
 }

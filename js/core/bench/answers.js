@@ -29,8 +29,8 @@ import { isListingLine } from "./answer_table.js";
  * @typedef {{ chain: number, first: number, rows: number, columns: string[] }} Matrix the key matrix: bit `first + r` of the chain drives
  *   row r, and `columns` are the input lines
  *
- * The parts of a board. `lamps` are the lines that drive the lamps. `rows` and `columns` are the size of the key matrix; both are 0 without
- * a matrix.
+ * The parts of a board. `lamps` are the lines that drive the lamps. `rows` and `columns` are the size of the key matrix, or 0 without a
+ * matrix.
  * @typedef {{ banks: { bank: number, chips: number }[], chains: Chain[], roms: { chip: number, port: string }[], lamps: string[],
  *   rows: number, columns: number, matrix: Matrix | null }} Board
  */
@@ -61,7 +61,7 @@ export function readRun(answer) {
  * Returns whether an answer is a refusal, or reports a run that stopped early.
  * @param {string} answer
  */
-export function isStop(answer) {
+export function isRefusalOrStop(answer) {
   const run = readRun(answer);
   return run ? run.end !== "end" : parseRefusal(answer) !== null;
 }

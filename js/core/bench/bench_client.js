@@ -107,7 +107,7 @@ export class Bench {
   }
 
   /** The number of the oldest request without a reply. */
-  get oldestRequest() {
+  get oldestRequestNumber() {
     return this.pendingRequests.keys().next().value;
   }
 
@@ -131,8 +131,8 @@ export class Bench {
       request.progress(message.done, message.total);
       return;
     }
-    // Ignore an early result while older requests wait for their replies. The request then waits for its regular reply.
-    if (message.kind === "early" && message.number !== this.oldestRequest) return;
+    // An early reply is ignored while older requests wait for their replies. The request then waits for its regular reply.
+    if (message.kind === "early" && message.number !== this.oldestRequestNumber) return;
     this.pendingRequests.delete(message.number);
     if (message.kind === "reply" && message.error) request.reject(unpackError(message.error));
     else request.resolve(message.result);

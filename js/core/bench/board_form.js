@@ -43,7 +43,7 @@ const PORT_LINES = indices(4);
  * @param {Pick<Board, "roms" | "banks"> & { chains: { chips: number }[] }} board
  * @returns {BoardLine[]}
  */
-export function boardLines({ roms, banks, chains }) {
+export function signalLines({ roms, banks, chains }) {
   /** @type {BoardLine[]} */
   const lines = [];
   for (const { chip, port } of roms) {
@@ -61,7 +61,7 @@ export function boardLines({ roms, banks, chains }) {
 }
 
 /** The names of all signal lines that a board can have. */
-export const LINE_NAMES = new Set(boardLines({
+export const SIGNAL_LINE_NAMES = new Set(signalLines({
   roms: indices(MAX_PARTS.rom).map((chip) => ({ chip, port: "0000" })),
   banks: indices(MAX_PARTS.ram).map((bank) => ({ bank, chips: VALUE_RANGES["ram.chips"].to })),
   chains: indices(MAX_PARTS.chain).map(() => ({ chips: VALUE_RANGES["chain.chips"].to })),

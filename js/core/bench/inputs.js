@@ -14,7 +14,7 @@ export const INVALID_CHARACTER = /[^\t -~]/u;
 /** The maximum number of places in a `trace` line. */
 export const MAX_PLACES = 16;
 /** Matches a line that consists of one word, and captures the word. */
-const ONE_WORD = /^[ \t]*([a-z]+)[ \t]*$/;
+const ONE_WORD_LINE = /^[ \t]*([a-z]+)[ \t]*$/;
 
 /**
  * A command or query: its line, the words of the line, the first word (`kind`, "" for a line that is too long), and the lines of the text
@@ -35,7 +35,7 @@ export function stripCarriageReturn(rawLine) {
  * @param {string} line
  */
 export function opensText(line) {
-  const match = line.length <= MAX_LINE_LENGTH ? ONE_WORD.exec(line) : null;
+  const match = line.length <= MAX_LINE_LENGTH ? ONE_WORD_LINE.exec(line) : null;
   const format = match && ANSWER_FORMATS.get(match[1]);
   return Boolean(format && format.opensText);
 }
@@ -52,7 +52,7 @@ export function isSeqQuery(line) {
 export const SEQ_ANSWER = /^seq \d+$/;
 
 /**
- * Splits lines into inputs, without blank lines. Returns each input with the number of its line, from 1.
+ * Splits lines into inputs, and skips blank lines. Returns each input with the number of its first line, which counts from 1.
  * @param {string} lines
  */
 export function readNumberedInputs(lines) {
@@ -78,7 +78,7 @@ export function readNumberedInputs(lines) {
 }
 
 /**
- * Splits lines into inputs, without blank lines.
+ * Splits lines into inputs, and skips blank lines.
  * @param {string} lines
  * @returns {Input[]}
  */
@@ -94,12 +94,12 @@ export function readInputs(lines) {
  */
 export function findInputEnd(lines, from, minLength) {
   let offset = from;
-  let isOpen = false;
-  while (offset < lines.length && (isOpen || offset - from < minLength)) {
+  let isInText = false;
+  while (offset < lines.length && (isInText || offset - from < minLength)) {
     const lineFeed = lines.indexOf("\n", offset);
     const end = lineFeed < 0 ? lines.length : lineFeed;
     const line = stripCarriageReturn(lines.slice(offset, end));
-    isOpen = isOpen ? line !== "." : opensText(line);
+    isInText = isInText ? line !== "." : opensText(line);
     offset = Math.min(end + 1, lines.length);
   }
   return offset;
@@ -109,7 +109,7 @@ export function findInputEnd(lines, from, minLength) {
  * Returns the address after the last byte of a listing line.
  * @param {string} answer
  */
-function endOfListingLine(answer) {
+function addressAfterLine(answer) {
   return parseInt(answer.slice(0, 3), 16) + (answer[7] === " " ? 1 : 2);
 }
 
@@ -119,7 +119,7 @@ function endOfListingLine(answer) {
  * @param {string} answer
  */
 function continuesListing(previous, answer) {
-  return endOfListingLine(previous) <= LAST_ADDRESS && answer.slice(0, 3) > previous.slice(0, 3);
+  return addressAfterLine(previous) <= LAST_ADDRESS && answer.slice(0, 3) > previous.slice(0, 3);
 }
 
 /**

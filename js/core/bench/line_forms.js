@@ -68,8 +68,8 @@ const TRACE_ONLY_SYNTAXES = [
   syntaxOf("romN.N", [MAX_NIBBLE, 3]), syntaxOf("ramN.N.N", [MAX_BANK, 3, 3]), syntaxOf("chainN.N", [3, 79]),
 ];
 /** Place names for completion and suggestions. A name that ends with a dot is incomplete. */
-export const POKE_NAMES = ["acc", "cy", "pc", "dcl", ...indices(16).map((register) => `r${register}`), "rom.", "ram.", "st."];
-export const TRACE_NAMES = [...POKE_NAMES, "lamps", "ret", "src"];
+export const POKE_PLACE_NAMES = ["acc", "cy", "pc", "dcl", ...indices(16).map((register) => `r${register}`), "rom.", "ram.", "st."];
+export const TRACE_PLACE_NAMES = [...POKE_PLACE_NAMES, "lamps", "ret", "src"];
 
 /** @type {(word: string) => number} returns the value of a numeral; NaN for any other word */
 const parseNumeral = (word) => (new RegExp(`^${NUMERAL}$`).test(word) ? Number(word) : NaN);
@@ -116,7 +116,7 @@ const noSuchPlaceError = (word) => ({ number: BAD_NUMBER, message: say.noSuchPla
  */
 function findPokeError(word, value) {
   const syntax = findPlaceSyntax(word, PLACE_SYNTAXES);
-  if (!syntax) return unknownPlaceError(word, POKE_NAMES);
+  if (!syntax) return unknownPlaceError(word, POKE_PLACE_NAMES);
   return isInRange(word, syntax) ? findRangeError(value, rangeTo(syntax.maxValue)) : noSuchPlaceError(word);
 }
 
@@ -128,7 +128,7 @@ function findPokeError(word, value) {
 function findTraceError(count, places) {
   const syntaxes = [...PLACE_SYNTAXES, ...TRACE_ONLY_SYNTAXES];
   const unknownWord = places.slice(0, MAX_PLACES).find((word) => !findPlaceSyntax(word, syntaxes));
-  if (unknownWord !== undefined) return unknownPlaceError(unknownWord, TRACE_NAMES);
+  if (unknownWord !== undefined) return unknownPlaceError(unknownWord, TRACE_PLACE_NAMES);
   if (places.length > MAX_PLACES) return { number: NOT_A_COMMAND, message: say.tooManyPlacesMessage(MAX_PLACES) };
   const wrongWord = places.find((word) => !isInRange(word, /** @type {PlaceSyntax} */ (findPlaceSyntax(word, syntaxes))));
   return wrongWord === undefined ? findRangeError(count, [1, MAX_CYCLES]) : noSuchPlaceError(wrongWord);
@@ -157,7 +157,7 @@ function findWordError([first, ...words]) {
  * Returns a line's first character that the bench never accepts; "" if there is none.
  * @param {string} line
  */
-export function invalidCharacterIn(line) {
+export function findInvalidCharacter(line) {
   return (INVALID_CHARACTER.exec(line) || [""])[0];
 }
 
@@ -169,7 +169,7 @@ export function invalidCharacterIn(line) {
  */
 export function findLineError(line) {
   if (line.length > MAX_LINE_LENGTH) return { number: LINE_TOO_LONG, message: say.tooLongMessage(MAX_LINE_LENGTH, line.length) };
-  const character = invalidCharacterIn(line);
+  const character = findInvalidCharacter(line);
   if (character !== "") return { number: NOT_ASCII, message: say.invalidCharacter(character) };
   return findWordError(line.split(/[ \t]+/).filter((word) => word !== ""));
 }

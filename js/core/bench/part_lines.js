@@ -38,7 +38,7 @@ function partName({ table, keys }, counts) {
  * @param {string} text
  * @returns {Map<string, LineRange>}
  */
-export function partLines(text) {
+export function partLineRanges(text) {
   /** @type {Map<string, LineRange>} */
   const ranges = new Map();
   /** @type {Record<string, number>} */

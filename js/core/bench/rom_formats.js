@@ -2,7 +2,7 @@
 // image from its file name and its bytes.
 
 import { hex } from "./numbers.js";
-import { ImageBytes, RecordError, ImageError, readLines } from "./rom_image.js";
+import { ImageBytes, RecordError, ImageError, forEachLine } from "./rom_image.js";
 import * as say from "../../words/bench.js";
 
 /** @typedef {"hex" | "srec" | "bnpf" | "binary"} ImageFormat */
@@ -12,7 +12,7 @@ import * as say from "../../words/bench.js";
 /** The number of address bytes, by data record type. */
 const ADDRESS_SIZES = new Map([["1", 2], ["2", 3], ["3", 4]]);
 /** The types of records that can end a file. */
-const END_TYPES = ["7", "8", "9"];
+const END_RECORD_TYPES = ["7", "8", "9"];
 
 /**
  * Stores the bytes of a data record in the image. Ignores other records. Returns whether the record ends the file. Throws `RecordError` or
@@ -28,7 +28,7 @@ function storeSRecord(record, image) {
   const checksum = bytes[bytes.length - 1];
   if (checksum !== expectedChecksum) throw new ImageError(say.wrongChecksum(hex(checksum, 2), hex(expectedChecksum, 2)));
   const size = ADDRESS_SIZES.get(record[1]);
-  if (size === undefined) return END_TYPES.includes(record[1]);
+  if (size === undefined) return END_RECORD_TYPES.includes(record[1]);
   if (bytes.length < size + 1) throw new ImageError(say.SHORT_RECORD);
   image.put(bytes.slice(0, size).reduce((address, byte) => address * 256 + byte, 0), bytes.slice(size, -1));
   return false;
@@ -42,7 +42,7 @@ function storeSRecord(record, image) {
 export function readSRecords(text, offset = 0) {
   const image = new ImageBytes(offset);
   let isEnded = false;
-  readLines(text, (line) => {
+  forEachLine(text, (line) => {
     const record = line.trim();
     if (record === "") return;
     if (isEnded) throw new ImageError(say.AFTER_S9);
@@ -56,7 +56,7 @@ export function readSRecords(text, offset = 0) {
 // --- BNPF ---
 
 /** The number of letters in a BNPF word, not counting the final `F`. */
-const WORD_LENGTH = 9;
+const WORD_LETTERS = 9;
 /** Matches the text after the `B` of a BNPF word: the next three letters of the word, or fewer if the line ends. */
 const TEXT_AFTER_B = /[ \t]*(?:[NP][ \t]*[NP][ \t]*[NP]|(?:[NP][ \t]*)?(?:[NP][ \t]*)?$)/iy;
 
@@ -83,14 +83,14 @@ export function readBnpf(text, from = 0) {
   const addLetter = (/** @type {string} */ letter, /** @type {boolean} */ startsWord) => {
     if (word === "") {
       if (startsWord) word = letter;
-    } else if (/[NP]/.test(letter) && word.length < WORD_LENGTH) word += letter;
-    else if (letter === "F" && word.length === WORD_LENGTH) {
+    } else if (/[NP]/.test(letter) && word.length < WORD_LETTERS) word += letter;
+    else if (letter === "F" && word.length === WORD_LETTERS) {
       image.put(count, [parseInt(word.slice(1).replace(/P/g, "1").replace(/N/g, "0"), 2)]);
       count += 1;
       word = "";
     } else if (!/[ \t]/.test(letter)) throw new ImageError(say.bnpfSyntax(word + letter));
   };
-  readLines(text, (rawLine) => {
+  forEachLine(text, (rawLine) => {
     const line = rawLine.trim();
     for (let index = 0; index < line.length; index++) {
       addLetter(line[index].toUpperCase(), /b/i.test(line[index]) && beginsWord(line, index));

@@ -13,12 +13,12 @@ export class RecordError extends ImageError {}
 /** The maximum number of data bytes per written record. */
 const BYTES_PER_RECORD = 16;
 /** The record types for data, and for the end of the file. */
-const DATA_TYPE = 0;
-const END_TYPE = 1;
+const DATA_RECORD_TYPE = 0;
+const END_RECORD_TYPE = 1;
 /** The record types for segment and linear base addresses. In an image for a 4004, these base addresses must be 0. */
-const BASE_TYPES = [2, 4];
-/** The record types for a program's start address, which linkers write. The reader ignores such records: the 4004 starts at 000. */
-const START_TYPES = [3, 5];
+const BASE_RECORD_TYPES = [2, 4];
+/** The types of the records in which linkers write a program's start address. The reader ignores these records: the 4004 starts at 000. */
+const START_RECORD_TYPES = [3, 5];
 
 /** The bytes of a ROM image that is being read. */
 export class ImageBytes {
@@ -68,7 +68,7 @@ export function readBytes(file, from = 0) {
  * @param {string} text
  * @param {(line: string) => void} read
  */
-export function readLines(text, read) {
+export function forEachLine(text, read) {
   text.split("\n").forEach((line, index) => {
     try {
       read(line);
@@ -98,8 +98,8 @@ function readRecord(text) {
 }
 
 /** The number of data bytes per record, for types with a fixed size. */
-const DATA_SIZES = new Map([[END_TYPE, 0], ...BASE_TYPES.map((type) => /** @type {[number, number]} */ ([type, 2])),
-  ...START_TYPES.map((type) => /** @type {[number, number]} */ ([type, 4]))]);
+const DATA_SIZES = new Map([[END_RECORD_TYPE, 0], ...BASE_RECORD_TYPES.map((type) => /** @type {[number, number]} */ ([type, 2])),
+  ...START_RECORD_TYPES.map((type) => /** @type {[number, number]} */ ([type, 4]))]);
 
 /**
  * Stores a data record, and checks records of the other known types. Throws `ImageError` if the record is invalid.
@@ -108,10 +108,10 @@ const DATA_SIZES = new Map([[END_TYPE, 0], ...BASE_TYPES.map((type) => /** @type
  */
 function storeRecord({ address, type, data }, image) {
   const size = DATA_SIZES.get(type);
-  if (type === DATA_TYPE) image.put(address, data);
+  if (type === DATA_RECORD_TYPE) image.put(address, data);
   else if (size === undefined) throw new ImageError(say.unknownTypeMessage(hex(type, 2)));
   else if (data.length !== size) throw new ImageError(say.wrongRecordSize(hex(type, 2), size));
-  else if (BASE_TYPES.includes(type) && data.some((byte) => byte !== 0)) throw new ImageError(say.addressPastLast(type));
+  else if (BASE_RECORD_TYPES.includes(type) && data.some((byte) => byte !== 0)) throw new ImageError(say.addressPastLast(type));
 }
 
 /**
@@ -122,13 +122,13 @@ function storeRecord({ address, type, data }, image) {
 export function readHex(text, offset = 0) {
   const image = new ImageBytes(offset);
   let isEnded = false;
-  readLines(text, (line) => {
+  forEachLine(text, (line) => {
     const record = line.trim();
     if (record === "") return;
     if (isEnded) throw new ImageError(say.AFTER_LAST_RECORD);
     const parsedRecord = readRecord(record);
     storeRecord(parsedRecord, image);
-    isEnded = parsedRecord.type === END_TYPE;
+    isEnded = parsedRecord.type === END_RECORD_TYPE;
   });
   if (!isEnded) throw new ImageError(say.NO_LAST_RECORD);
   if (image.isEmpty) throw new ImageError(say.NO_BYTE);
@@ -148,7 +148,7 @@ function formatRecord(address, type, data) {
 }
 
 /**
- * Formats bytes as Intel HEX, without the addresses that have no byte. A record has at most 16 data bytes.
+ * Formats bytes as Intel HEX. Skips addresses without a byte. A record has at most 16 data bytes.
  * @param {Int16Array} bytes
  */
 export function writeHex(bytes) {
@@ -156,8 +156,8 @@ export function writeHex(bytes) {
   for (let address = 0; address < ADDRESS_COUNT;) {
     let end = address;
     while (end < ADDRESS_COUNT && end < address + BYTES_PER_RECORD && bytes[end] !== NO_BYTE) end += 1;
-    if (end > address) records += formatRecord(address, DATA_TYPE, [...bytes.subarray(address, end)]);
+    if (end > address) records += formatRecord(address, DATA_RECORD_TYPE, [...bytes.subarray(address, end)]);
     address = Math.max(end, address + 1);
   }
-  return records + formatRecord(0, END_TYPE, []);
+  return records + formatRecord(0, END_RECORD_TYPE, []);
 }

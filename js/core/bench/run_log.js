@@ -45,6 +45,6 @@ export class RunLog {
  * Returns the console text of an entry.
  * @param {RunEntry} entry
  */
-export function formatRuns({ line, runs, cycles }) {
+export function formatLogEntry({ line, runs, cycles }) {
   return runs > 1 ? say.mergedRuns(runs, cycles.toLocaleString("en")) : line;
 }

@@ -36,7 +36,7 @@ function canBeginAnswer({ kind, line }, answer) {
  * @param {string[]} answers
  * @param {number} from the index of the answer's first line
  */
-function completeLength(input, answers, from) {
+function completeAnswerLength(input, answers, from) {
   const format = ANSWER_FORMATS.get(input.kind);
   if (!format || !format.continuation || parseRefusal(answers[from])) return 1;
   return format.count === "all" || format.count === "list" ? answerLength(input, answers, from)
@@ -60,7 +60,7 @@ function findInvalidLine(input, answers, from, end) {
   return -1;
 }
 
-/** A reader that assigns answers to inputs, one input after the other. */
+/** Assigns answers to inputs, one input at a time. */
 class AnswerMatcher {
   /** @param {string[]} answers */
   constructor(answers) {
@@ -97,7 +97,7 @@ class AnswerMatcher {
     }
     if (this.message !== "") return "";
     if (word === "ok") this.commandCount += 1;
-    const end = start + completeLength(input, answers, start);
+    const end = start + completeAnswerLength(input, answers, start);
     const invalidLine = findInvalidLine(input, answers, start, end);
     if (invalidLine >= 0) this.message = messageAt(invalidLine);
     this.isIncomplete = end > answers.length;
@@ -107,8 +107,8 @@ class AnswerMatcher {
 }
 
 /**
- * Finds the answers to the inputs of a script. The first answer must be `session N`, or a refusal of the session, which leaves all inputs
- * without an answer. Each following `ok` must have the next command number.
+ * Finds the answers to the inputs of a script. The first answer must be `session N`. If it is instead a refusal of the session, no input
+ * has an answer. Each `ok` must have the next command number.
  * @param {string} script
  * @param {string[]} answers
  * @returns {AnsweredScript}

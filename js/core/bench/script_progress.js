@@ -1,4 +1,4 @@
-// Checks whether a session started with a script, and counts the script lines that the session has already received.
+// Checks whether the commands of a session are the first commands of a script, and counts the script lines that contain these commands.
 
 import { matchScriptAnswers } from "./script_answers.js";
 import { findInputEnd, opensText } from "./inputs.js";
@@ -10,8 +10,9 @@ import * as say from "../../words/bench.js";
  * @typedef {import("../engine/engine_host.js").EngineHost} EngineHost
  * @typedef {import("../engine/engine_host.js").State} State
  *
- * The number of script lines that a session has received. If the session did not start with the script, `message` is an error message.
- * `differingLines` then lists the differing answers: `<` marks the answers of the session, `>` those of the script.
+ * The number of script lines that a session has received. If the commands of the session are not the first commands of the script,
+ * `message` is an error message. `differingLines` then lists the differing answers: `<` marks the answers of the session, `>` those of the
+ * script.
  * @typedef {{ lineCount: number, message: string, differingLines: string[] }} ScriptComparison
  */
 

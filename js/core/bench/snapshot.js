@@ -36,18 +36,18 @@ export function buildSnapshot(inputs, answers) {
 const INITIAL_PARTS = { registers: "", test: "", ports: "", keys: "", lamps: "", breaks: "", watches: "" };
 
 /**
- * Finds the changes between snapshots. `readSnapshot` stores a snapshot and returns the changes of the front panel. `readOtherChanges`
- * returns all other changes since its previous call, and can be called less often.
+ * Finds the changes between snapshots. `readSnapshot` stores a snapshot and returns the changes of the front panel. `readStateChanges`
+ * returns the changes of everything else since its previous call, and can be called less often.
  */
 export class SnapshotReader {
   constructor() {
     /** @type {string[]} the last snapshot */
     this.snapshot = [];
     this.parts = INITIAL_PARTS;
-    /** @type {string[]} the last snapshot that `readOtherChanges` read */
+    /** @type {string[]} the last snapshot that `readStateChanges` read */
     this.lastReadSnapshot = [];
     this.lastReadParts = INITIAL_PARTS;
-    /** @type {Registers | null} the registers of the last snapshot that `readOtherChanges` read */
+    /** @type {Registers | null} the registers of the last snapshot that `readStateChanges` read */
     this.registers = null;
   }
 
@@ -76,10 +76,10 @@ export class SnapshotReader {
   }
 
   /**
-   * Returns the changes in all other parts of the snapshot since the previous call.
+   * Returns the changes of the snapshot since the previous call, except those of the front panel.
    * @returns {StateChanges}
    */
-  readOtherChanges() {
+  readStateChanges() {
     const { snapshot, parts, lastReadSnapshot: previousSnapshot, lastReadParts: previousParts } = this;
     this.lastReadSnapshot = snapshot;
     this.lastReadParts = parts;

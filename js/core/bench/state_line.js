@@ -1,4 +1,4 @@
-// Parses the answer to `state`, which is one line of keys and values in a fixed order. The line contains the whole state except ROM and
+// Parses the answer to `state`, which is one line of names and values in a fixed order. The line contains the whole state except ROM and
 // RAM.
 
 import { readRegisters } from "./answers.js";
@@ -21,27 +21,27 @@ const STATE_ANSWER = /^state seq \d+ (acc .* test (\d) .*) src (.* keys (\S+)) l
  */
 export function parseState(answer) {
   const match = STATE_ANSWER.exec(answer);
-  if (!match) throw new Error(`the bench answers state by ${answer}`);
+  if (!match) throw new Error(`the bench answers \`state\` with ${answer}`);
   const [, registers, test, ports, keys, lamps, breaks, watches] = match;
   return { registers, test, ports, keys, lamps, breaks, watches };
 }
 
 /**
- * Returns the value that follows a key in the answer, as unparsed text. Throws an error if the answer does not contain the key.
+ * Returns the value that follows a name in the answer, as unparsed text. Throws an error if the answer does not contain the name.
  * @param {string} answer
- * @param {string} key
+ * @param {string} name such as `pc`
  */
-export function stateValue(answer, key) {
-  const keyIndex = answer.indexOf(` ${key} `);
-  if (keyIndex < 0) throw new Error(`the bench answers state by ${answer}`);
-  return answer.slice(keyIndex + key.length + 2).split(" ", 1)[0];
+export function stateValue(answer, name) {
+  const nameIndex = answer.indexOf(` ${name} `);
+  if (nameIndex < 0) throw new Error(`the bench answers \`state\` with ${answer}`);
+  return answer.slice(nameIndex + name.length + 2).split(" ", 1)[0];
 }
 
 /**
  * Returns the answer without the command count, so that callers can compare the states of two sessions.
  * @param {string} answer the answer to `state`; other answers can follow in the same string
  */
-export function stripSeq(answer) {
+export function withoutCommandCount(answer) {
   return answer.replace(/^state seq \d+ /, "");
 }
 

@@ -1,5 +1,5 @@
-// Runs long work in a separate worker, so that the session worker stays responsive. The separate worker exists only while the work runs.
-// Stopping the work terminates the worker at once.
+// Runs a long task in a separate worker, so that the session worker stays responsive. The separate worker exists only while the task runs.
+// Stopping the task terminates the worker at once.
 
 import { WorkerDiedError } from "./bench_errors.js";
 
@@ -7,12 +7,12 @@ import { WorkerDiedError } from "./bench_errors.js";
  * @typedef {import("./bench_client.js").Bench} Bench
  * @typedef {import("../testing/test_preparation.js").ProjectTextError} ProjectTextError
  *
- * The result of the work. `errors` are the errors that prevented the work, found in the project's texts. `isStopped` is true if the worker
- * stopped before the end, for example because the user stopped the work.
+ * The result of a task. `errors` are the errors in the project's texts that prevented the task. `isStopped` is true if the worker ended
+ * before the task was done, for example because the user stopped the task.
  * @typedef {{ errors: ProjectTextError[], isStopped: boolean }} TaskResult
  */
 
-/** A worker for one kind of long work. */
+/** A worker for one kind of long task. */
 export class TaskWorker {
   /**
    * @param {() => Bench} makeBench
@@ -35,17 +35,17 @@ export class TaskWorker {
   }
 
   /**
-   * Starts the worker, runs the work in it, and ends the worker. Rejects if the work fails while the worker still runs.
+   * Starts the worker, runs the task in it, and ends the worker. Rejects if the task fails while the worker is alive.
    * @param {AbortSignal} signal when aborted, terminates the worker at once
-   * @param {(bench: Bench) => Promise<ProjectTextError[]>} work
+   * @param {(bench: Bench) => Promise<ProjectTextError[]>} task
    * @returns {Promise<TaskResult>}
    */
-  async runTask(signal, work) {
+  async runTask(signal, task) {
     const { bench } = this;
     signal.addEventListener("abort", () => bench.end());
     try {
       await bench.start();
-      return { errors: await work(bench), isStopped: false };
+      return { errors: await task(bench), isStopped: false };
     } catch (error) {
       if (error instanceof WorkerDiedError) return { errors: [], isStopped: true };
       throw error;

@@ -1,7 +1,7 @@
 // Announces changing text to screen readers. The text is announced after it has been unchanged for at least ANNOUNCEMENT_DELAY_MS. Text
-// that changes earlier is not announced.
+// that changes again before that time is not announced.
 
-/** The time for which a text must be unchanged before its announcement, in milliseconds. Also the minimum time between announcements. */
+/** The time that a text must stay unchanged before it is announced, in milliseconds. Also the minimum time between announcements. */
 export const ANNOUNCEMENT_DELAY_MS = 1000;
 
 /** Announces the changing text of one source, such as a display. */

@@ -24,7 +24,7 @@ const FALLBACK_LETTERS = "1234567890qwertyuiopasdfghjklzxcvbnm";
  * @param {string} name the name of the key
  * @param {Set<string>} usedLetters
  */
-function freeLetter(name, usedLetters) {
+function findFreeLetter(name, usedLetters) {
   return [...name.toLowerCase(), ...name.toUpperCase(), ...FALLBACK_LETTERS].find((letter) => !usedLetters.has(letter)) || "";
 }
 
@@ -39,7 +39,7 @@ export function boardKeys(board, face) {
   const usedLetters = new Set([...face.keys.values()].map(({ text }) => text).filter((name) => name.length === 1));
   /** @type {(legend: string, name: string) => string} */
   const takeLetter = (legend, name) => {
-    const letter = legend.length === 1 ? legend : freeLetter(name, usedLetters);
+    const letter = legend.length === 1 ? legend : findFreeLetter(name, usedLetters);
     if (letter) usedLetters.add(letter);
     return letter;
   };
@@ -53,7 +53,7 @@ export function boardKeys(board, face) {
       keys.push({ key, legend, description, isNamed: Boolean(keyName && legend), isSwitch: false, letter });
     }
   }
-  return face.test ? [...keys, testKey(face.test, takeLetter)] : keys;
+  return face.test ? [...keys, createTestPinKey(face.test, takeLetter)] : keys;
 }
 
 /**
@@ -61,7 +61,7 @@ export function boardKeys(board, face) {
  * @param {import("./face.js").TestPin} test
  * @param {(legend: string, name: string) => string} takeLetter reserves and returns the keyboard character for a key
  */
-function testKey({ kind, name, level }, takeLetter) {
+function createTestPinKey({ kind, name, level }, takeLetter) {
   const legend = name.replace(/_/g, " ");
   const description = say.keyAtTest(kind, legend);
   return { key: pinKey(level), legend, description, isNamed: true, isSwitch: kind === "switch", letter: takeLetter(legend, name) };

@@ -17,8 +17,8 @@ export const MIN_ON_DUTY = 0.5;
 /** The minimum time without a change before a lamp or display can count as steady, in milliseconds. */
 const MIN_REST_MS = 2;
 /**
- * The gamma of the eye: the perceived brightness is the duty cycle to the power of 1 / GAMMA. The eye distinguishes dark lamps better than
- * bright ones.
+ * The gamma of the eye: the perceived brightness is the duty cycle to the power of 1 / GAMMA. The eye distinguishes dim lamps better than
+ * bright lamps.
  */
 const GAMMA = 2.2;
 /** The minimum duty cycles of the brightness levels: dim, half, full. */
@@ -131,13 +131,13 @@ export class PerceivedDigit {
     return this.largestComponent.pattern;
   }
 
-  /** True if no pattern makes up at least half of the mixture. */
+  /** True if each pattern makes up less than half of the mixture. */
   get isSmeared() {
     const total = [...this.shares.values()].reduce((sum, share) => sum + share, 0);
     return this.largestComponent.share < MIN_ON_DUTY * total;
   }
 
-  /** The pattern with the largest share, and that share. */
+  /** The pattern with the largest share of the mixture, and the size of this share. */
   get largestComponent() {
     const largest = { pattern: 0, share: 0 };
     for (const [pattern, share] of this.shares) if (share > largest.share) Object.assign(largest, { pattern, share });
@@ -213,7 +213,7 @@ export class Brightness {
     this.scannedGroups.forEach((duties, index) => this.updateDuties(duties, litShares.scanned[index], cycles, remainingShare));
     litShares.displays.forEach((display, index) => {
       this.displaySteadiness[index].add(display.changeSummary, cycles, time);
-      this.addDisplay(index, display, cycles, remainingShare);
+      this.updateDisplay(index, display, cycles, remainingShare);
     });
   }
 
@@ -238,7 +238,7 @@ export class Brightness {
    * @param {number} cycles the length of the period in cycles
    * @param {number} remainingShare the share of the earlier light that remains, from 0 to 1
    */
-  addDisplay(displayIndex, { patterns, changeSummary, patternTimes }, cycles, remainingShare) {
+  updateDisplay(displayIndex, { patterns, changeSummary, patternTimes }, cycles, remainingShare) {
     const isSteady = this.displaySteadiness[displayIndex].isSteady && !isMultiplexed(this.displays[displayIndex]);
     this.digits[displayIndex].forEach((digit, index) => {
       if (isSteady) {

@@ -54,7 +54,7 @@ function segmentsAt(marks, firstLamp) {
  * Returns whether a digit with the given number of lamps has a decimal point.
  * @param {number} columns the number of lamps
  */
-export function hasPoints(columns) {
+export function hasDecimalPoint(columns) {
   return columns === 5 || columns === 8;
 }
 
@@ -63,7 +63,7 @@ export function hasPoints(columns) {
  * @param {string} marks one mark per lamp, `*` if the lamp is on
  * @param {number} firstLamp the number of the first lamp
  */
-function valueAt(marks, firstLamp) {
+function binaryValueAt(marks, firstLamp) {
   return (isLit(marks, firstLamp) ? 8 : 0) + (isLit(marks, firstLamp + 1) ? 4 : 0)
     + (isLit(marks, firstLamp + 2) ? 2 : 0) + (isLit(marks, firstLamp + 3) ? 1 : 0);
 }
@@ -85,9 +85,9 @@ export function digitPatterns(display, marks) {
  * @param {string} marks one mark per lamp, `*` if the lamp is on
  */
 function multiplexedPatterns({ first, rows, columns, firstRowLamp }, marks) {
-  const value = valueAt(marks, first);
+  const value = binaryValueAt(marks, first);
   const segments = columns >= 7 ? segmentsAt(marks, first) : value < 10 ? DIGIT_PATTERNS[value] : INVALID_DIGIT_PATTERN;
-  const point = hasPoints(columns) && isLit(marks, first + columns - 1) ? POINT_BIT : 0;
+  const point = hasDecimalPoint(columns) && isLit(marks, first + columns - 1) ? POINT_BIT : 0;
   return Array.from({ length: rows }, (_, digit) => (isLit(marks, firstRowLamp + digit) ? segments + point : UNLIT_PATTERN));
 }
 
@@ -100,14 +100,14 @@ function directPatterns({ first, rows, columns }, marks) {
   const patterns = [];
   let isLeading = true;
   for (let digit = 0; digit < rows; digit++) {
-    const firstMark = first + digit * columns;
-    const point = hasPoints(columns) && isLit(marks, firstMark + columns - 1) ? POINT_BIT : 0;
+    const firstLamp = first + digit * columns;
+    const point = hasDecimalPoint(columns) && isLit(marks, firstLamp + columns - 1) ? POINT_BIT : 0;
     if (columns >= 7) {
-      patterns.push(segmentsAt(marks, firstMark) + point);
+      patterns.push(segmentsAt(marks, firstLamp) + point);
       continue;
     }
     const isLast = digit === rows - 1;
-    const value = valueAt(marks, firstMark);
+    const value = binaryValueAt(marks, firstLamp);
     isLeading = isLeading && value === 0 && point === 0 && !isLast;
     patterns.push(isLeading ? 0 : (value < 10 ? DIGIT_PATTERNS[value] : INVALID_DIGIT_PATTERN) + (isLast ? 0 : point));
   }

@@ -1,7 +1,9 @@
 // Parses the front panel of a board: the names, colours and positions in the comments of the board text. `tools/lib/face.txt` defines the
 // syntax.
 
-import { COLOURS, fitsHead, fitsWords, parseFaceLine, isNumber, findLimit, formatMessage, parseSize, splitWords } from "./face_words.js";
+import {
+  COLOURS, areWordsValid, findLimit, formatMessage, isHeadValid, isNumber, parseFaceLine, parseSize, splitWords,
+} from "./face_words.js";
 import { matrixKey, formatKey } from "./key_place.js";
 import * as say from "../../words/board.js";
 
@@ -117,8 +119,8 @@ export class Face {
     this.isFatal = kind.isFatal;
     if (kind.countsWords) this.wordCount += splitWords(words).filter((word) => word !== "_").length;
     if (this.wordCount > MAX_WORDS) this.reportError(line, formatMessage("too many words"));
-    else if (!fitsHead(kind, first, last)) this.reportError(line, kind.headError);
-    else if (kind.size === "-" && !fitsWords(kind, splitWords(words))) this.reportError(line, kind.wordsError);
+    else if (!isHeadValid(kind, first, last)) this.reportError(line, kind.headError);
+    else if (kind.size === "-" && !areWordsValid(kind, splitWords(words))) this.reportError(line, kind.wordsError);
     else if (name === "colour" && last !== undefined) this.readColourRange(Number(first), Number(last), words, line, kind);
     else LINE_READERS[name](this, { name, kind, first: (first || "").toLowerCase(), words, line });
   }
@@ -138,7 +140,7 @@ export class Face {
    * @param {string} text
    * @param {number} line
    */
-  readRow(row, text, line) {
+  readKeyRow(row, text, line) {
     if (!this.defineOnce(`row ${row}`, line, "second row", row)) return;
     splitWords(text).forEach((name, column) => {
       const isNone = name === "_";
@@ -273,7 +275,7 @@ export class Face {
    * @param {string} text
    * @param {number} line
    */
-  readTest(text, line) {
+  readTestPin(text, line) {
     const [kind, name, , level] = splitWords(text);
     if (this.defineOnce("test", line, "second test")) this.test = { kind, name, level: Number(level || 0), line };
   }
@@ -331,12 +333,12 @@ const readGroup = (face, line) => face.readGroup(line);
  */
 const LINE_READERS = {
   title: (face, { words, line }) => face.readTitle(words, line),
-  row: (face, { first, words, line }) => face.readRow(Number(first), words, line),
+  row: (face, { first, words, line }) => face.readKeyRow(Number(first), words, line),
   lamp: (face, { first, words, line }) => face.readLamps(Number(first), words, line),
   colour: (face, { first, words, line }) => face.readColours(Number(first), words, line),
   grid: (face, { first, words, line }) => face.readGrid(Number(first), words, line),
   display: readGroup, die: readGroup, bar: readGroup, matrix: readGroup,
-  test: (face, { words, line }) => face.readTest(words, line),
+  test: (face, { words, line }) => face.readTestPin(words, line),
   buzzer: (face, { first, words, line }) => face.readBuzzer(first, words, line),
   printer: (face, { first, words, line }) => face.readPrinter(first, words, line),
   port: (face, { first, words, line }) => face.readPort(first, words, line),

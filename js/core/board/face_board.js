@@ -33,8 +33,8 @@ function hasPart(board, part) {
 export function hasOutput(board, line) {
   const [place, bit] = [line.slice(0, line.lastIndexOf(".")), Number(line.slice(line.lastIndexOf(".") + 1))];
   if (!hasPart(board, place)) return false;
-  const number = Number(place.slice(-1));
-  if (place.startsWith("chain")) return bit < BITS_PER_CHIP * board.chains[number].chips;
+  const lastDigit = Number(place.slice(-1));
+  if (place.startsWith("chain")) return bit < BITS_PER_CHIP * board.chains[lastDigit].chips;
   return place.startsWith("ram") || board.roms.some(({ chip, port }) => `rom${Number(chip)}` === place && port[3 - bit] !== "i");
 }
 
@@ -60,7 +60,7 @@ export function findPrinter(board, { printer }) {
  * Returns the highest lamp number of a group, plus 1.
  * @param {Group} group
  */
-export function groupEnd({ first, rows, columns, firstRowLamp }) {
+export function endOfGroup({ first, rows, columns, firstRowLamp }) {
   return firstRowLamp < 0 ? first + rows * columns : Math.max(first + columns, firstRowLamp + rows);
 }
 
@@ -68,7 +68,7 @@ export function groupEnd({ first, rows, columns, firstRowLamp }) {
  * Returns the lamp numbers of a group.
  * @param {Group} group
  */
-export function groupLamps({ first, rows, columns, firstRowLamp }) {
+export function lampsOfGroup({ first, rows, columns, firstRowLamp }) {
   const numbersFrom = (/** @type {number} */ start, /** @type {number} */ count) => indices(count).map((index) => start + index);
   return firstRowLamp < 0 ? numbersFrom(first, rows * columns) : [...numbersFrom(first, columns), ...numbersFrom(firstRowLamp, rows)];
 }
@@ -82,7 +82,7 @@ export const isMultiplexed = ({ firstRowLamp }) => firstRowLamp >= 0;
  * @param {number} count the number of lamps on the board
  */
 export function fittingGroups(face, count) {
-  return face.groups.filter((group) => groupEnd(group) <= count);
+  return face.groups.filter((group) => endOfGroup(group) <= count);
 }
 
 /**
@@ -100,7 +100,7 @@ export function minusLamp({ lampNumbers }) {
  */
 export function lampsOutsideGroups(face, count) {
   const groups = fittingGroups(face, count);
-  const placedLamps = new Set([...groups.flatMap(groupLamps), ...face.grid.map(({ lamp }) => lamp)]);
+  const placedLamps = new Set([...groups.flatMap(lampsOfGroup), ...face.grid.map(({ lamp }) => lamp)]);
   if (groups.some(({ kind }) => kind === "display")) placedLamps.add(minusLamp(face));
   return indices(count).filter((lamp) => !placedLamps.has(lamp));
 }
@@ -137,7 +137,7 @@ export function missingPartErrors(face, board) {
   }
   for (const { lamp, line } of face.grid) if (lamp >= lampCount) addError("grid", line, "no lamp for place", lamp, lampCount);
   for (const group of face.groups) {
-    if (groupEnd(group) > lampCount) addError(group.kind, group.line, "no lamps for group", group.kind, groupEnd(group) - 1, lampCount);
+    if (endOfGroup(group) > lampCount) addError(group.kind, group.line, "no lamps for group", group.kind, endOfGroup(group) - 1, lampCount);
   }
   const { buzzer } = face;
   if (buzzer && !hasOutput(board, buzzer.place)) addError("buzzer", buzzer.line, "no output line", buzzer.place);
@@ -176,12 +176,12 @@ export function lampColours(face, count) {
 }
 
 /**
- * Returns the number of the last lamp that each colour line applies to, by line number.
+ * Returns the number of the last lamp that each colour line colours, by the number of the colour line.
  * @param {Face} face
  */
 function lastColouredLamps(face) {
   /** @type {Map<number, number>} */
-  const last = new Map();
-  for (const [lamp, { line }] of face.colours) last.set(line, Math.max(lamp, last.get(line) || 0));
-  return last;
+  const lastLamps = new Map();
+  for (const [lamp, { line }] of face.colours) lastLamps.set(line, Math.max(lamp, lastLamps.get(line) || 0));
+  return lastLamps;
 }

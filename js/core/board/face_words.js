@@ -23,13 +23,13 @@ const allRows = table.split("\n").filter((line) => line !== "" && !line.startsWi
 const tableRows = (word) => allRows.filter((row) => row[0] === word).map((row) => row.slice(1));
 
 /**
- * Converts a table row to the first word of a line and its kind.
+ * Converts a table row to a pair: the first word of a kind of line, and this kind.
  * @param {string[]} columns
  * @returns {[string, Kind]}
  */
-function parseKind([word, head, counts, weight, size, pattern, headError, wordsError]) {
+function parseKind([word, head, counts, severity, size, pattern, headError, wordsError]) {
   return [word, {
-    head, countsWords: counts === "list", isFatal: weight === "refused", size, pattern: pattern === "-" ? null : new RegExp(pattern),
+    head, countsWords: counts === "list", isFatal: severity === "refused", size, pattern: pattern === "-" ? null : new RegExp(pattern),
     headError,
     wordsError: wordsError === "-" ? headError : wordsError,
   }];
@@ -39,13 +39,13 @@ function parseKind([word, head, counts, weight, size, pattern, headError, wordsE
 export const LINE_KINDS = new Map(tableRows("kind").map(parseKind));
 /** The colour names that a front panel can use. */
 export const COLOURS = new Set(tableRows("colour").map(([word]) => word));
-/** @type {Map<string, string>} the characters of a seven-segment digit, by the marks of segments a to g */
+/** @type {Map<string, string>} the characters that a seven-segment digit can show, by the on and off marks of segments a to g */
 export const SEGMENT_CHARACTERS = new Map(tableRows("digit").map(([marks, word]) => [marks, word === "_" ? " " : word]));
 /** The limits in the table, by name. */
 const LIMITS = new Map(tableRows("limit").map(([name, number]) => [name, Number(number)]));
 /** The patterns of the text between the first word and the colon, by name. */
 const HEADS = new Map(tableRows("head").map(([name, expression]) => [name, new RegExp(expression)]));
-/** For each synonym, the first word of a line that the synonym can replace. */
+/** The first words of front-panel lines that have a synonym, by synonym. */
 const SYNONYMS = new Map(tableRows("other").map(([synonym, word]) => [synonym, word]));
 /** The error messages, by name. */
 const MESSAGES = new Map(tableRows("say").map(([name, words]) => [name, words]));
@@ -87,7 +87,7 @@ function matchesHead(name, word) {
  * @param {string | undefined} first the word after the first word of the line
  * @param {string | undefined} last the word after `to`
  */
-export function fitsHead({ head }, first, last) {
+export function isHeadValid({ head }, first, last) {
   if (head === "-") return first === undefined;
   if (head === "N to N") return isNumber(first) && (last === undefined || isNumber(last));
   return matchesHead(head, first) && last === undefined;
@@ -98,7 +98,7 @@ export function fitsHead({ head }, first, last) {
  * @param {Kind} kind
  * @param {string[]} words
  */
-export function fitsWords({ pattern: expression }, words) {
+export function areWordsValid({ pattern: expression }, words) {
   return expression === null || expression.test(words.join(" "));
 }
 
@@ -109,7 +109,7 @@ export function fitsWords({ pattern: expression }, words) {
  * @param {string[]} words
  */
 export function parseSize(kind, words) {
-  if (!fitsWords(kind, words)) return null;
+  if (!areWordsValid(kind, words)) return null;
   const scannedIndex = words.indexOf("scanned");
   const rowLamp = scannedIndex < 0 ? "" : words[words.length - 1];
   if (rowLamp && !isNumber(rowLamp)) return null;

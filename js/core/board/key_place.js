@@ -11,7 +11,7 @@
  */
 
 /** The factor that combines a row and a column into one number. It exceeds the maximum number of columns. */
-const COLUMN_FACTOR = 256;
+const ROW_FACTOR = 256;
 
 /**
  * Creates a matrix key.
@@ -79,7 +79,7 @@ export class PressedKeys {
     this.numbers = new Set();
     for (const keyText of keyTexts) {
       const [row, column] = keyText.split(".");
-      this.numbers.add(Number(row) * COLUMN_FACTOR + Number(column));
+      this.numbers.add(Number(row) * ROW_FACTOR + Number(column));
     }
   }
 
@@ -93,6 +93,6 @@ export class PressedKeys {
    * @param {string} level the current TEST level, `0` or `1`
    */
   has(key, level) {
-    return key.kind === "matrix" ? this.numbers.has(key.row * COLUMN_FACTOR + key.column) : level === String(key.level);
+    return key.kind === "matrix" ? this.numbers.has(key.row * ROW_FACTOR + key.column) : level === String(key.level);
   }
 }

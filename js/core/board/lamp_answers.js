@@ -3,14 +3,14 @@
 
 import { PerceivedText, hasScannedDisplay } from "../engine/perceived_text.js";
 import { DisplayText, joinDisplayText } from "./display_text.js";
-import { groupEnd } from "./face_board.js";
+import { endOfGroup } from "./face_board.js";
 import * as say from "../../words/board.js";
 
 /**
  * @typedef {import("../bench/answers.js").Board} Board
  * @typedef {import("./face.js").Face} Face
  *
- * The display text for each answer about lamps. `error` is an error message, or "". If there is an error, the list of texts is empty.
+ * The display text for each answer about lamps. `error` is an error message, or "". If there is an error, `lines` is empty.
  * @typedef {{ lines: string[], error: string }} DisplayTexts
  */
 
@@ -31,7 +31,7 @@ class LampAnswerReader {
   constructor(face, board, name) {
     this.name = name;
     const displays = face.groups.filter(({ kind }) => kind === "display");
-    this.requiredLampCount = Math.max(...displays.map(groupEnd));
+    this.requiredLampCount = Math.max(...displays.map(endOfGroup));
     this.isScanned = hasScannedDisplay(face);
     this.text = new DisplayText(displays, [...face.lamps].map(([lamp, { text }]) => ({ lamp, text })));
     this.perceivedText = new PerceivedText(face, board.lamps.length);

@@ -17,7 +17,7 @@ import { isLit } from "./digit_patterns.js";
  * @param {number} lamp the lamp number
  * @returns {LampReader}
  */
-export function lampAt(lamp) {
+export function lampReader(lamp) {
   return { isLit: (marks) => isLit(marks, lamp), duty: ({ lampDuties }) => lampDuties[lamp], isOn: ({ isOn }) => isOn[lamp] };
 }
 
@@ -29,7 +29,7 @@ export function lampAt(lamp) {
  * @param {number} lampIndex the lamp's index in the group, row by row
  * @returns {LampReader & { column: number, row: number }} `column` and `row` are the board lamps that select the lamp
  */
-export function scannedLampAt({ first, rows, columns, firstRowLamp }, groupIndex, lampIndex) {
+export function scannedLampReader({ first, rows, columns, firstRowLamp }, groupIndex, lampIndex) {
   const [column, row] = [first + (lampIndex % columns), firstRowLamp + Math.floor(lampIndex / columns)];
   /** @type {LampReader["duty"]} */
   const duty = ({ scannedGroups }) => Math.min(1, scannedGroups[groupIndex][lampIndex] * rows);

@@ -23,7 +23,7 @@ export class PendingKeys {
    * Adds a change that is in transit to the worker. Returns a function that the caller must call when the worker has received the change.
    * @param {RequestedChange} change
    */
-  send(change) {
+  addInTransit(change) {
     this.changesInTransit.push(change);
     return () => {
       this.changesInTransit = this.changesInTransit.filter((pendingChange) => pendingChange !== change);

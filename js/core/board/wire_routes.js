@@ -13,7 +13,7 @@
 const CONTROL_OFFSET = 12;
 /** The distance from pins and parts to the turning points of a wire. */
 const TURN_DISTANCE = 8;
-/** The minimum horizontal distance from a pin to a control point, in all other direct curves. */
+/** The minimum horizontal distance from a pin to a control point, in direct curves between two columns. */
 const MIN_CONTROL_OFFSET = 30;
 /** The distance between a wire and the part that it passes. */
 const LANE_DISTANCE = 5;
@@ -34,12 +34,12 @@ function directCurve({ from, to }) {
 }
 
 /**
- * Returns a curve that is horizontal at both ends.
+ * Returns an S-shaped curve, which is horizontal at both ends.
  * @param {Point} from
  * @param {Point} to
  * @returns {Curve}
  */
-function levelCurve(from, to) {
+function sCurve(from, to) {
   const x = (from.x + to.x) / 2;
   return [from, { x, y: from.y }, { x, y: to.y }, to];
 }
@@ -90,7 +90,7 @@ function sortedLanes({ from, to }, boxes) {
 }
 
 /**
- * Returns the y coordinate of the lane with the shortest detour that avoids all parts between the ends.
+ * Returns the y coordinate of a lane that avoids all parts between the ends. Selects the lane with the shortest detour.
  * @param {Ends} ends
  * @param {Box[]} boxesBetween the boxes of the parts between the ends
  */
@@ -111,7 +111,7 @@ function laneAround({ from, to }, boxesBetween) {
  * @returns {Curve[]}
  */
 function turningRoute({ from, to }, y, left, right) {
-  return [levelCurve(from, { x: left, y }), levelCurve({ x: left, y }, { x: right, y }), levelCurve({ x: right, y }, to)];
+  return [sCurve(from, { x: left, y }), sCurve({ x: left, y }, { x: right, y }), sCurve({ x: right, y }, to)];
 }
 
 /**
@@ -127,13 +127,13 @@ function detourRoute(ends, y) {
   const [above, below] = [{ x: from.x, y }, { x: to.x, y }];
   return [
     [from, { x: from.x + CONTROL_OFFSET, y: from.y }, { x: from.x + CONTROL_OFFSET, y }, above],
-    levelCurve(above, below),
+    sCurve(above, below),
     [below, { x: to.x - CONTROL_OFFSET, y }, { x: to.x - CONTROL_OFFSET, y: to.y }, to],
   ];
 }
 
 /**
- * Returns the curves of a wire. They form the first possible route that no part covers, or else the direct curve.
+ * Returns the curves of a wire: the first possible route that no part covers, or else the direct curve.
  * @param {Ends} ends
  * @param {Box[]} boxes the boxes of the parts
  * @param {number} wireNumber the number of the wire, which selects its offset in LANE_OFFSETS
@@ -152,9 +152,9 @@ export function routeWire(ends, boxes, wireNumber) {
   const left = Math.min(...boxesBetween.map(({ x }) => x)) - TURN_DISTANCE;
   const right = Math.max(...boxesBetween.map(({ x, width }) => x + width)) + TURN_DISTANCE;
   const hasRoom = boxesBetween.length > 0 && left > from.x && right < to.x;
-  const lanesAround = hasRoom ? [turningRoute(ends, laneAround(ends, boxesBetween) + offset, left, right)] : [];
+  const routesAround = hasRoom ? [turningRoute(ends, laneAround(ends, boxesBetween) + offset, left, right)] : [];
   const detours = sortedLanes(ends, avoidableBoxes).map((lane) => detourRoute(ends, lane + offset));
-  return [...lanesAround, ...detours].find(isRouteFree) || directRoute;
+  return [...routesAround, ...detours].find(isRouteFree) || directRoute;
 }
 
 /**

@@ -14,7 +14,7 @@ const MAX_TEXTS = 4;
  * @param {string} text
  * @param {WiredText} wiredText
  */
-export function describesBoard(text, wiredText) {
+export function describesSameBoard(text, wiredText) {
   return sentText(text, "#") === sentText(wiredText.text, "#") || new BoardDraft(text).matchesAnswers(wiredText.board.split("\n"));
 }
 
@@ -34,7 +34,7 @@ export function currentWiredText(answers, text, storedTexts) {
 /**
  * Returns the texts that the session stores after a board is wired, newest first.
  * @param {WiredText} wiredText the text of the board
- * @param {WiredText[]} [storedTexts] the texts that the session has stored before
+ * @param {WiredText[]} [storedTexts] the texts that the session already stores
  */
 export function textsToStore(wiredText, storedTexts = []) {
   return [wiredText, ...storedTexts.filter(({ board }) => board !== wiredText.board)].slice(0, MAX_TEXTS);

@@ -87,8 +87,8 @@ class Column {
     const height = TITLE_HEIGHT + Math.max(left.length, right.length, 1) * PIN_STEP;
     this.bottom += height + PART_GAP;
     /** @type {(pinX: number) => (pin: UnplacedPin, index: number) => Pin} */
-    const placePin = (pinX) => (pin, index) => ({ ...pin, x: pinX, y: y + TITLE_HEIGHT + index * PIN_STEP + PIN_STEP / 2 });
-    return { ...part, x, y, width, height, pins: [...left.map(placePin(x)), ...right.map(placePin(x + width))] };
+    const positionPin = (pinX) => (pin, index) => ({ ...pin, x: pinX, y: y + TITLE_HEIGHT + index * PIN_STEP + PIN_STEP / 2 });
+    return { ...part, x, y, width, height, pins: [...left.map(positionPin(x)), ...right.map(positionPin(x + width))] };
   }
 }
 
@@ -101,7 +101,7 @@ class LineUses {
   constructor(board, buzzer) {
     /** @type {Map<string, string[]>} the descriptions of the uses, by line */
     this.descriptions = new Map();
-    /** @type {Map<string, number>} the ranks of the lines, in the order of first use */
+    /** @type {Map<string, number>} the ranks of the lines: 0 for the line that was used first */
     this.ranks = new Map();
     board.chains.forEach(({ clock, data }, chain) => {
       this.add(clock, say.clocksChain(chain));
@@ -167,7 +167,7 @@ function portPins(chip) {
 }
 
 /**
- * Adds the processor to a column; returns it as a part.
+ * Adds the processor to a column, and returns the new part.
  * @param {Column} column
  * @param {TestPin | null} test
  */
@@ -187,7 +187,7 @@ function displayedName({ name }) {
 }
 
 /**
- * Adds the button or switch at the TEST pin to a column; returns it as a part.
+ * Adds the button or switch at the TEST pin to a column, and returns the new part.
  * @param {Column} column
  * @param {TestPin} test
  */
@@ -199,7 +199,7 @@ function addTestPart(column, test) {
 }
 
 /**
- * Adds a ROM to a column; returns it as a part.
+ * Adds a ROM to a column, and returns the new part.
  * @param {Column} column
  * @param {Board["roms"][number]} rom
  * @param {LineUses} uses
@@ -212,7 +212,7 @@ function addRom(column, { chip, port }, uses) {
 }
 
 /**
- * Adds a RAM chip to a column; returns it as a part.
+ * Adds a RAM chip to a column, and returns the new part.
  * @param {Column} column
  * @param {number} bank
  * @param {number} chip
@@ -225,7 +225,7 @@ function addRam(column, bank, chip, uses) {
 }
 
 /**
- * Adds a chain to a column, with its used bits and some unused bits; returns it as a part.
+ * Adds a chain to a column, and returns the new part. The part shows all used bits, and the first of the unused bits.
  * @param {Column} column
  * @param {Board["chains"][number]} chain
  * @param {number} number the chain number
@@ -245,7 +245,7 @@ function addChain(column, { clock, data, chips }, number, uses) {
 }
 
 /**
- * Adds the key matrix to a column; returns it as a part.
+ * Adds the key matrix to a column, and returns the new part.
  * @param {Column} column
  * @param {NonNullable<Board["matrix"]>} matrix
  */
@@ -260,7 +260,7 @@ function addKeys(column, { chain, first, rows, columns }) {
 }
 
 /**
- * Adds the lamps to a column; returns them as one part.
+ * Adds all lamps to a column as one part, and returns this part.
  * @param {Column} column
  * @param {string[]} lamps
  * @param {Appearance} appearance
@@ -273,7 +273,7 @@ function addLamps(column, lamps, { names, colours }) {
 }
 
 /**
- * Adds the buzzer to a column; returns it as a part.
+ * Adds the buzzer to a column, and returns the new part.
  * @param {Column} column
  * @param {Buzzer} buzzer
  */

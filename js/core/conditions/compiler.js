@@ -1,9 +1,9 @@
 // Compiles the syntax tree of a condition, for a board and a program, into functions. These functions evaluate the condition from the
 // bench's answers. The compiler also collects the places that the condition depends on.
 
-import { compileChain, compileCounter, compileCycles, compileDisplay, compileLamps, compilePrinted } from "./keyword_conditions.js";
+import { compileChain, compileProgramCounter, compileCycles, compileDisplay, compileLamps, compilePrinted } from "./keyword_conditions.js";
 import { fail } from "./scanner.js";
-import { withErrorColumn, nibbleValues, keyValue, findLabelAddress, lampValue, compileValue } from "./values.js";
+import { withErrorColumn, valuesOfNibbles, valueOfKey, findLabelAddress, valueOfLamp, compileValue } from "./values.js";
 import * as say from "../../words/conditions.js";
 
 /**
@@ -19,7 +19,7 @@ import * as say from "../../words/conditions.js";
  * @typedef {import("./values.js").Value} Value
  *
  * A compiled condition. `matches` returns whether the condition is true. `explain` returns a message with the actual and the required
- * value. If `isNot` is true, the condition must be false, and the message contains the forbidden value instead of the required one.
+ * value. If `isNot` is true, the condition must be false, and the message contains the forbidden value instead of the required value.
  * `address` is the address in a condition `pc = ADDRESS`, otherwise -1.
  * @typedef {{ matches: (values: string[], extraValues: ExtraValues) => boolean,
  *   explain: (values: string[], extraValues: ExtraValues, isNot: boolean) => string, address: number }} CompiledCondition
@@ -36,10 +36,10 @@ const COMPARISONS = {
  * @type {Record<string, (words: string[], names: Names, dependencies: Dependencies) => CompiledCondition>} the condition compilers, by
  *   keyword
  */
-const COMPILERS = { lamps: compileLamps, display: compileDisplay, printed: compilePrinted, cycles: compileCycles };
+const KEYWORD_COMPILERS = { lamps: compileLamps, display: compileDisplay, printed: compilePrinted, cycles: compileCycles };
 
 /**
- * Compiles a comparison of two compiled values.
+ * Returns the condition that compares two compiled values.
  * @param {Value} value
  * @param {CompareNode["sign"]} sign
  * @param {Value} requiredValue
@@ -87,7 +87,7 @@ function compileComparison({ sign, left, right }, names, dependencies) {
   const isCounterEquality = value.name === "pc" && requiredValue.isConstant && (sign === "=" || sign === "!=");
   if (!isCounterEquality) return createComparison(value, sign, requiredValue);
   const address = requiredValue.read([]);
-  const condition = compileCounter(address, String(address), names, dependencies);
+  const condition = compileProgramCounter(address, String(address), names, dependencies);
   return sign === "=" ? condition : negateCondition(condition, "");
 }
 
@@ -104,7 +104,7 @@ function compilePlaceValues({ place, values, text, column }, names, dependencies
   if (values.length === 1) {
     return compileComparison({ kind: "compare", sign: "=", left: place, right: firstValue, text, column }, names, dependencies);
   }
-  const nibbles = nibbleValues(place, values.length, names, dependencies);
+  const nibbles = valuesOfNibbles(place, values.length, names, dependencies);
   const requiredValues = values.map((value, index) => {
     const requiredValue = compileValue(value, names, dependencies);
     checkRange(nibbles[index], value, requiredValue);
@@ -129,7 +129,7 @@ function compilePlaceValues({ place, values, text, column }, names, dependencies
  */
 function compileKeyword({ words: [head, ...operands] }, names, dependencies) {
   const words = operands.map(({ text }) => text);
-  const compile = COMPILERS[head.text];
+  const compile = KEYWORD_COMPILERS[head.text];
   return compile ? compile(words, names, dependencies) : compileChain(head.text, words, names, dependencies);
 }
 
@@ -141,7 +141,7 @@ function compileKeyword({ words: [head, ...operands] }, names, dependencies) {
  * @returns {CompiledCondition}
  */
 function compilePanelState({ subject, name, isOn }, names, dependencies) {
-  const value = subject === "lamp" ? lampValue(name, names, dependencies) : keyValue(name, names, dependencies);
+  const value = subject === "lamp" ? valueOfLamp(name, names, dependencies) : valueOfKey(name, names, dependencies);
   const stateNames = subject === "lamp" ? ["off", "on"] : ["up", "down"];
   return {
     address: -1,
@@ -206,7 +206,7 @@ export function compileConditionNode(node, names, dependencies) {
     if (node.kind === "compare") return compileComparison(node, names, dependencies);
     if (node.kind === "values") return compilePlaceValues(node, names, dependencies);
     if (node.kind === "panel") return compilePanelState(node, names, dependencies);
-    if (node.kind === "at") return compileCounter(findLabelAddress(node.label, names), `@${node.label}`, names, dependencies);
+    if (node.kind === "at") return compileProgramCounter(findLabelAddress(node.label, names), `@${node.label}`, names, dependencies);
     if (node.kind === "keyword") return compileKeyword(node, names, dependencies);
     return joinConditions(node.kind, node.parts.map((part) => compileConditionNode(part, names, dependencies)), node.text);
   });

@@ -5,9 +5,9 @@
 //     const { condition, error } = compileCondition("lamp open on and (r9 >= 8 or cy = 1)", { face, board, map });
 //     if (condition) .. `trace 1000 ${condition.places.join(" ")}` ..; condition.holds(rowValues(row))
 //
-// `places` has at most 16 different entries: places that `trace` reports, and members of STATE_PLACES, which `state` reports (probes.js
-// queries both). The argument of `holds` contains the values of these places, in the same order. `error` is an error message, and `column`
-// is the error's column, counted from 0.
+// `places` has at most 16 different entries: places that `trace` reports, and members of STATE_PLACES, which `state` reports. The queries
+// for these places are in probes.js. The argument of `holds` contains the values of these places, in the same order. `error` is an error
+// message, and `column` is the error's column, counted from 0.
 //
 // There are three functions that compile conditions:
 // - compileCondition: the condition of a breakpoint;
@@ -32,8 +32,8 @@ import * as say from "../../words/conditions.js";
  * @typedef {{ face: Face, board: Board, map: Pick<SourceMap, "names" | "nameOf"> | null, watched?: Map<string, string> }} Names
  *
  * Values that `trace` does not report. `test`, `owed` (1 if a second cycle is pending) and `keys` are strings from the answer to `state`.
- * `cycles` is the number of cycles since the last mark in a test. `lampForecast` is the answer to LAMPS_FORECAST_QUERY, for the perceived
- * lamps. `printed` are the words on the printout.
+ * `cycles` is the number of cycles since the last `mark` line of a test. `lampForecast` is the answer to LAMPS_FORECAST_QUERY, for the
+ * perceived lamps. `printed` are the words on the printout.
  * @typedef {{ test: string, owed: string, keys: string, cycles: number, lampForecast: string[], printed: string[] }} ExtraValues
  *
  * A compiled condition. `explain` returns "" if the condition is true, otherwise a message with the actual and the required values.
@@ -113,7 +113,7 @@ function negateText(node, text) {
  * @param {Dependencies} dependencies collects the places that the condition depends on
  * @returns {Pick<Condition, "text" | "negation"> & import("./compiler.js").CompiledCondition}
  */
-function compileText(conditionText, names, dependencies) {
+function compileConditionText(conditionText, names, dependencies) {
   const node = parseCondition(conditionText, createLampNameTest(names));
   const text = collapseBlanks(conditionText);
   return { ...compileConditionNode(node, names, dependencies), text, negation: negateText(node, text) };
@@ -128,7 +128,7 @@ function compileText(conditionText, names, dependencies) {
 export function compileCondition(conditionText, names) {
   return conditionOrError(() => {
     const dependencies = new Dependencies();
-    const { text, negation, address, matches, explain } = compileText(conditionText, names, dependencies);
+    const { text, negation, address, matches, explain } = compileConditionText(conditionText, names, dependencies);
     checkPlaceCount(dependencies.places);
     return {
       text, negation, places: dependencies.places, needs: [], address,
@@ -147,7 +147,7 @@ export function compileCondition(conditionText, names) {
 export function compileTestCondition(conditionText, names) {
   return conditionOrError(() => {
     const dependencies = new Dependencies(true);
-    const { text, negation, address, matches, explain } = compileText(conditionText, names, dependencies);
+    const { text, negation, address, matches, explain } = compileConditionText(conditionText, names, dependencies);
     const { places: allPlaces } = dependencies;
     const statePlaces = allPlaces.filter(isStatePlace);
     const places = allPlaces.filter((place) => !isStatePlace(place));

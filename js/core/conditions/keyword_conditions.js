@@ -4,7 +4,7 @@
 
 import { hex, indices } from "../bench/numbers.js";
 import { DisplayText } from "../board/display_text.js";
-import { groupLamps, findPrinter } from "../board/face_board.js";
+import { lampsOfGroup, findPrinter } from "../board/face_board.js";
 import { PerceivedText, hasScannedDisplay } from "../engine/perceived_text.js";
 import { parseExactDuration } from "./durations.js";
 import { parsePlace } from "./places.js";
@@ -31,7 +31,7 @@ import * as say from "../../words/conditions.js";
  * @param {KeywordConditionParts} parts
  * @returns {CompiledCondition}
  */
-function createCondition({ subject, required, isPlural = false, measure, matches, remark, address = -1 }) {
+function createKeywordCondition({ subject, required, isPlural = false, measure, matches, remark, address = -1 }) {
   return {
     address,
     matches: (values, extraValues) => matches(measure(values, extraValues), extraValues),
@@ -61,7 +61,7 @@ const lampMarks = (value) => (value === "-" ? "" : value);
  */
 function isUnnamedDisplayLamp(lamp, { face }) {
   if (face.lamps.has(lamp)) return false;
-  return face.groups.some((group) => group.kind === "display" && groupLamps(group).includes(lamp));
+  return face.groups.some((group) => group.kind === "display" && lampsOfGroup(group).includes(lamp));
 }
 
 /**
@@ -86,7 +86,7 @@ export function compileLamps(words, names, dependencies) {
     const litLamps = [...names.face.lamps].filter(([lamp]) => actual[lamp] === "*").sort(([a], [b]) => a - b);
     return litLamps.length === 0 ? "" : say.litLamps(litLamps.map(([, { text }]) => text).join(" "));
   };
-  return createCondition({
+  return createKeywordCondition({
     subject: "lamps", isPlural: true, required, remark: describeLitLamps, measure: (values) => lampMarks(values[place]),
     matches: (actual) => matchesPattern(actual, required),
   });
@@ -112,13 +112,13 @@ export function compileDisplay(words, names, dependencies) {
   if (hasScannedDisplay(face)) {
     dependencies.addNeed("lampForecast", say.DIGITS_ARE_MULTIPLEXED);
     const perceivedText = new PerceivedText(face, board.lamps.length);
-    return createCondition({
+    return createKeywordCondition({
       subject: "display", required, matches, measure: (_, extraValues) => displayedWords(perceivedText.read(extraValues.lampForecast)),
     });
   }
   const reader = new DisplayText(displays, [...face.lamps].map(([lamp, { text }]) => ({ lamp, text })));
   const place = dependencies.addPlace("lamps");
-  return createCondition({
+  return createKeywordCondition({
     subject: "display", required, matches, measure: (values) => displayedWords(reader.read(lampMarks(values[place]))),
   });
 }
@@ -134,14 +134,14 @@ export function compilePrinted(words, { face, board }, dependencies) {
   if (words.length === 0) fail(say.PRINTED_SYNTAX);
   dependencies.addNeed("printed", say.LINE_BY_LINE);
   const required = words.join(" ");
-  return createCondition({
+  return createKeywordCondition({
     subject: "printed", required, matches: (actual) => actual === required,
     measure: (_, { printed }) => printed.slice(-words.length).join(" ") || "nothing",
   });
 }
 
 /**
- * Compiles `cycles 538`, `cycles at most 20 ms` or `cycles at least 1 s`, which compare the cycles since the last mark in a test.
+ * Compiles `cycles 538`, `cycles at most 20 ms` or `cycles at least 1 s`, which compare the cycles since the last `mark` line of a test.
  * @param {string[]} words
  * @param {Names} names
  * @param {Dependencies} dependencies
@@ -176,7 +176,7 @@ export function compileChain(name, words, { board }, dependencies) {
   const required = words.join("");
   if (!/^[01?]+$/.test(required) || required.length !== bitCount) fail(say.chainBits(name.slice("chain".length), bitCount));
   const valueIndex = dependencies.addPlace(name);
-  return createCondition({
+  return createKeywordCondition({
     subject: name, required, measure: (values) => values[valueIndex], matches: (actual) => matchesPattern(actual, required),
   });
 }
@@ -198,10 +198,10 @@ function formatAddress(address, { map }) {
  * @param {Names} names
  * @param {Dependencies} dependencies
  */
-export function compileCounter(address, required, names, dependencies) {
+export function compileProgramCounter(address, required, names, dependencies) {
   const digits = hex(address, 3);
   const valueIndex = dependencies.addPlace("pc");
-  return createCondition({
+  return createKeywordCondition({
     subject: "pc", required, address,
     measure: (values, { owed }) => `${formatAddress(parseInt(values[valueIndex], 16), names)}${owed === "1" ? say.WITHIN_INSTRUCTION : ""}`,
     matches: (actual, { owed }) => actual.slice(0, 3) === digits && owed !== "1",

@@ -37,9 +37,9 @@ export const KEYWORDS = new Set(["or", "and", "not", "lamps", "lamp", "key", "di
   "off", "down", "up", "none", "in", "out"]);
 
 /** The maximum length of a condition in characters. */
-export const MAX_LENGTH = 2000;
+export const MAX_CONDITION_LENGTH = 2000;
 /** The maximum nesting depth of parentheses. */
-export const MAX_DEPTH = 30;
+export const MAX_PARENTHESIS_DEPTH = 30;
 
 /** @type {Record<string, Sign>} the comparison operators, by spelling */
 const OPERATORS = { "=": "=", "==": "=", "!=": "!=", "<": "<", "<=": "<=", ">": ">", ">=": ">=" };
@@ -53,8 +53,8 @@ const CONDITION_KINDS = new Set(["or", "and", "not", "compare", "keyword", "valu
 const SPACED_NUMERALS = new Map([["ram", 2], ["st", 3]]);
 /** The node kinds whose text needs no parentheses: single names and numbers. */
 const SIMPLE_KINDS = new Set(["number", "name", "lamp", "key"]);
-/** The error messages for a lamp or key without a state. */
-const PANEL_MESSAGES = { lamp: say.LAMP_SYNTAX, key: say.KEY_SYNTAX };
+/** The error messages if a condition names a lamp or key, but not its state. */
+const PANEL_SYNTAX_MESSAGES = { lamp: say.LAMP_SYNTAX, key: say.KEY_SYNTAX };
 /** The words for the state of a lamp or key; true means on or pressed. */
 const PANEL_STATES = new Map([["on", true], ["off", false], ["down", true], ["up", false]]);
 
@@ -169,7 +169,7 @@ class Parser {
     if (node.kind === "name" && node.text.startsWith("@")) {
       return { kind: "at", label: node.text.slice(1), text: node.text, column: node.column };
     }
-    if (node.kind === "lamp" || node.kind === "key") return fail(PANEL_MESSAGES[node.kind], node.column);
+    if (node.kind === "lamp" || node.kind === "key") return fail(PANEL_SYNTAX_MESSAGES[node.kind], node.column);
     return fail(say.noComparisonMessage(node.text), node.column);
   }
 
@@ -197,7 +197,7 @@ class Parser {
     if (left.kind === "name" && PORT_NAME.test(left.text) && left.direction === "" && this.isValueNext()) {
       fail(say.portSyntax(left.text), left.column);
     }
-    return left.kind === "name" && this.isValueNext() ? this.placeValuesNode(left, this.parseValues()) : left;
+    return left.kind === "name" && this.isValueNext() ? this.createPlaceValuesNode(left, this.parseValues()) : left;
   }
 
   /**
@@ -211,7 +211,7 @@ class Parser {
     this.requireOperand(sign);
     const right = this.requireValue(this.parseSum());
     if (this.isValueNext() && (sign === "=" || sign === "!=") && left.kind === "name") {
-      const node = this.placeValuesNode(left, [right, ...this.parseValues()]);
+      const node = this.createPlaceValuesNode(left, [right, ...this.parseValues()]);
       return sign === "=" ? node : { kind: "not", part: node, text: this.textFrom(column), column };
     }
     return { kind: "compare", sign, left, right, text: this.textFrom(column), column };
@@ -223,7 +223,7 @@ class Parser {
    * @param {ValueNode[]} values
    * @returns {PlaceValuesNode}
    */
-  placeValuesNode(place, values) {
+  createPlaceValuesNode(place, values) {
     return { kind: "values", place, values, text: this.textFrom(place.column), column: place.column };
   }
 
@@ -298,7 +298,7 @@ class Parser {
   parseParentheses() {
     const { column } = this.scanner.next();
     this.depth += 1;
-    if (this.depth > MAX_DEPTH) fail(say.tooDeepMessage(MAX_DEPTH), column);
+    if (this.depth > MAX_PARENTHESIS_DEPTH) fail(say.tooDeepMessage(MAX_PARENTHESIS_DEPTH), column);
     const node = this.parseJoined("or");
     const token = this.scanner.peek();
     if (token.text !== ")" || token.kind !== "sign") {
@@ -321,7 +321,7 @@ class Parser {
     if (word === "display") return this.parseDisplay(token);
     if (word === "printed" || word === "cycles") {
       this.scanner.goTo(token.end);
-      return this.keywordNode(token, this.parseWords(word === "printed"));
+      return this.createKeywordNode(token, this.parseWords(word === "printed"));
     }
     const panel = word === "lamp" || word === "key" ? this.parsePanel(token, word) : null;
     if (panel) return panel;
@@ -375,7 +375,7 @@ class Parser {
     const { scanner } = this;
     scanner.goTo(token.end);
     const name = scanner.nextRawWord(this.depth > 0);
-    if (!name) return fail(PANEL_MESSAGES[kind], token.column);
+    if (!name) return fail(PANEL_SYNTAX_MESSAGES[kind], token.column);
     const stateToken = this.peekName();
     const isOn = stateToken.kind === "word" ? PANEL_STATES.get(stateToken.text.toLowerCase()) : undefined;
     if (isOn !== undefined && (kind === "key") === /^(down|up)$/i.test(stateToken.text)) {
@@ -386,7 +386,7 @@ class Parser {
       scanner.goTo(token.column);
       return null;
     }
-    if (stateToken.kind === "word") return fail(PANEL_MESSAGES[kind], token.column);
+    if (stateToken.kind === "word") return fail(PANEL_SYNTAX_MESSAGES[kind], token.column);
     return { kind, text: name.text, column: token.column };
   }
 
@@ -402,7 +402,7 @@ class Parser {
     if (kind === "sign" && (text in OPERATORS || /^[+\-&]$/.test(text))) {
       return { kind: "name", text: token.text, direction: "", column: token.column };
     }
-    return this.keywordNode(token, this.parseWords(false, true));
+    return this.createKeywordNode(token, this.parseWords(false, true));
   }
 
   /**
@@ -413,7 +413,7 @@ class Parser {
   parseDisplay(head) {
     this.scanner.goTo(head.end);
     const isNot = this.skipEquality();
-    const node = this.keywordNode(head, this.parseWords(true, true));
+    const node = this.createKeywordNode(head, this.parseWords(true, true));
     return isNot ? { kind: "not", part: node, text: node.text, column: head.column } : node;
   }
 
@@ -482,7 +482,7 @@ class Parser {
    * @param {Token[]} words
    * @returns {KeywordNode}
    */
-  keywordNode(head, words) {
+  createKeywordNode(head, words) {
     const { column } = head;
     return { kind: "keyword", words: [{ ...head, text: head.text.toLowerCase() }, ...words], text: this.textFrom(column), column };
   }
@@ -506,7 +506,7 @@ class Parser {
       }
       words.push(word);
     }
-    const node = this.keywordNode(head, words);
+    const node = this.createKeywordNode(head, words);
     return isNot ? { kind: "not", part: node, text: node.text, column: head.column } : node;
   }
 }
@@ -518,7 +518,7 @@ class Parser {
  * @returns {Node}
  */
 export function parseExpression(text, isLampName = () => false) {
-  if (text.length > MAX_LENGTH) fail(say.tooLongMessage(MAX_LENGTH), MAX_LENGTH - 1);
+  if (text.length > MAX_CONDITION_LENGTH) fail(say.tooLongMessage(MAX_CONDITION_LENGTH), MAX_CONDITION_LENGTH - 1);
   return new Parser(text, isLampName).parseCompleteText();
 }
 
@@ -529,7 +529,7 @@ export function parseExpression(text, isLampName = () => false) {
  * @returns {ConditionNode}
  */
 export function parseCondition(text, isLampName = () => false) {
-  if (text.length > MAX_LENGTH) fail(say.tooLongMessage(MAX_LENGTH), MAX_LENGTH - 1);
+  if (text.length > MAX_CONDITION_LENGTH) fail(say.tooLongMessage(MAX_CONDITION_LENGTH), MAX_CONDITION_LENGTH - 1);
   const parser = new Parser(text, isLampName);
   return parser.requireCondition(parser.parseCompleteText());
 }

@@ -40,7 +40,7 @@ export const PLACE_WORDS = [
 export const maxPlaceValue = (place) => MAX_VALUES.get(place) ?? (/^(p\d$|rom\.)/.test(place) ? MAX_BYTE : MAX_DIGIT);
 
 /** @type {(answers: string[]) => string} returns the only answer for a place that `trace` reports under one name */
-const firstAnswer = ([answer]) => answer;
+const onlyAnswer = ([answer]) => answer;
 
 /**
  * Returns the number whose hexadecimal digits are the answers, most significant digit first.
@@ -54,9 +54,9 @@ const parseHexDigits = (answers) => parseInt(answers.join(""), 16);
  * @param {(board: Board) => boolean} [existsOn] returns whether a board has the place
  * @returns {Place}
  */
-function singlePlace(name, existsOn = () => true) {
+function createTracePlace(name, existsOn = () => true) {
   return {
-    name, maxValueOn: () => maxPlaceValue(name), probesOn: (board) => (existsOn(board) ? [name] : []), textOf: firstAnswer,
+    name, maxValueOn: () => maxPlaceValue(name), probesOn: (board) => (existsOn(board) ? [name] : []), textOf: onlyAnswer,
     numberOf: parseHexDigits,
   };
 }
@@ -67,8 +67,8 @@ function singlePlace(name, existsOn = () => true) {
  * @param {(board: Board) => boolean} existsOn returns whether a board has the line
  * @returns {Place}
  */
-function linePlace(name, existsOn) {
-  return { ...singlePlace(name, existsOn), maxValueOn: () => 1 };
+function createSignalLinePlace(name, existsOn) {
+  return { ...createTracePlace(name, existsOn), maxValueOn: () => 1 };
 }
 
 /**
@@ -86,12 +86,12 @@ function hasRam({ banks }, bank, chip) {
  * @param {string} name
  * @returns {Place | null}
  */
-function registerPlace(name) {
-  if (/^(acc|cy|pc|dcl|src|ret|r\d|r1[0-5])$/.test(name)) return singlePlace(name);
+function parseRegisterPlace(name) {
+  if (/^(acc|cy|pc|dcl|src|ret|r\d|r1[0-5])$/.test(name)) return createTracePlace(name);
   const pairMatch = /^p([0-7])$/.exec(name);
   if (!pairMatch) return null;
   const halves = [0, 1].map((half) => `r${2 * Number(pairMatch[1]) + half}`);
-  return { ...singlePlace(name), probesOn: () => halves, textOf: (answers) => answers.join("") };
+  return { ...createTracePlace(name), probesOn: () => halves, textOf: (answers) => answers.join("") };
 }
 
 /**
@@ -100,7 +100,7 @@ function registerPlace(name) {
  * @param {string} text
  * @returns {Place | null}
  */
-function memoryPlace(text) {
+function parseMemoryPlace(text) {
   const [word, ...parts] = text.split(/[\s.]+/);
   const [bank, byteOrRegister, statusNumber = 0] = parts.map(parseNumber);
   const isCharacter = word === "ram" && parts.length === 2 && byteOrRegister <= MAX_BYTE;
@@ -108,7 +108,7 @@ function memoryPlace(text) {
   if (!(bank <= 7) || (!isCharacter && !isStatus)) return null;
   const chip = (isStatus ? byteOrRegister : byteOrRegister >> 4) >> 2;
   const name = isStatus ? `st.${bank}.${byteOrRegister}.${statusNumber}` : `ram.${bank}.0x${hex(byteOrRegister, 2)}`;
-  return singlePlace(name, (board) => hasRam(board, bank, chip));
+  return createTracePlace(name, (board) => hasRam(board, bank, chip));
 }
 
 /**
@@ -116,14 +116,14 @@ function memoryPlace(text) {
  * @param {string} name
  * @returns {Place | null}
  */
-function portPlace(name) {
+function parsePortPlace(name) {
   const match = /^(?:(rom)(\d|1[0-5])|ram([0-7])\.([0-3]))(\.[0-3])?$/.exec(name);
   if (!match) return null;
   const [, romWord, rom, bank, chip, line] = match;
   /** @type {(board: Board) => boolean} */
   const existsOn = (board) => (
     romWord ? board.roms.some((romChip) => Number(romChip.chip) === Number(rom)) : hasRam(board, Number(bank), Number(chip)));
-  return line ? linePlace(name, existsOn) : singlePlace(name, existsOn);
+  return line ? createSignalLinePlace(name, existsOn) : createTracePlace(name, existsOn);
 }
 
 /**
@@ -139,11 +139,11 @@ function marksToNumber([marks]) {
  * @param {string} name
  * @returns {Place | null}
  */
-function lampPlace(name) {
+function parseLampPlace(name) {
   if (name === "lamps") {
     return {
       name, maxValueOn: ({ lamps }) => (lamps.length <= MAX_NUMERIC_LAMPS ? 2 ** lamps.length - 1 : -1),
-      probesOn: ({ lamps }) => (lamps.length > 0 ? ["lamps"] : []), textOf: firstAnswer, numberOf: marksToNumber,
+      probesOn: ({ lamps }) => (lamps.length > 0 ? ["lamps"] : []), textOf: onlyAnswer, numberOf: marksToNumber,
     };
   }
   const lampMatch = /^lamp[ .]?(\d+)$/.exec(name);
@@ -151,15 +151,17 @@ function lampPlace(name) {
     const lampNumber = Number(lampMatch[1]);
     // The value of a lamp is the level of its signal line.
     return {
-      ...linePlace(`lamp ${lampNumber}`, () => true), probesOn: ({ lamps }) => lamps.slice(lampNumber, lampNumber + 1),
+      ...createSignalLinePlace(`lamp ${lampNumber}`, () => true), probesOn: ({ lamps }) => lamps.slice(lampNumber, lampNumber + 1),
       textOf: ([answer]) => (answer === "1" ? "*" : "."),
     };
   }
   const chainMatch = /^chain([0-3])(?:\.(\d+))?$/.exec(name);
   if (!chainMatch) return null;
   const [, number, bit] = chainMatch;
-  if (bit === undefined) return { ...singlePlace(name, ({ chains }) => Number(number) < chains.length), maxValueOn: () => -1 };
-  return linePlace(name, ({ chains }) => Number(number) < chains.length && Number(bit) < chains[Number(number)].chips * BITS_PER_CHIP);
+  if (bit === undefined) return { ...createTracePlace(name, ({ chains }) => Number(number) < chains.length), maxValueOn: () => -1 };
+  const existsOn = (/** @type {Board} */ { chains }) => (
+    Number(number) < chains.length && Number(bit) < chains[Number(number)].chips * BITS_PER_CHIP);
+  return createSignalLinePlace(name, existsOn);
 }
 
 /**
@@ -169,7 +171,7 @@ function lampPlace(name) {
  */
 export function parsePlace(text) {
   const name = text.trim().toLowerCase().replace(/\s+/g, " ");
-  return registerPlace(name) || memoryPlace(name) || portPlace(name) || lampPlace(name);
+  return parseRegisterPlace(name) || parseMemoryPlace(name) || parsePortPlace(name) || parseLampPlace(name);
 }
 
 /**

@@ -1,4 +1,4 @@
-// Builds the queries that report the values of places, and reads the answers. `trace` reports most places. `state` reports the others,
+// Builds the queries that report the values of places, and reads the answers. `trace` reports most places. `state` reports the places in
 // STATE_PLACES.
 
 import { MAX_PLACES } from "../bench/inputs.js";

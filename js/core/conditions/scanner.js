@@ -129,7 +129,7 @@ export class Scanner {
   }
 
   /**
-   * The column after the consumed text, or of the peeked token. A later `goTo` can return to this column.
+   * The column after the consumed text, or the column of the peeked token. A later `goTo` can return to this column.
    * @returns {number}
    */
   get position() {

@@ -10,7 +10,7 @@ import * as say from "../../words/conditions.js";
 /**
  * @typedef {import("./condition_language.js").Names} Names
  * @typedef {import("./parser.js").ValueNode} ValueNode
- * @typedef {{ place: string, value: ValueNode }} Setting a place with its new value; `place` has the spelling that `settablePlace` returns
+ * @typedef {{ place: string, value: ValueNode }} Setting a place with its new value; `place` is a result of `settablePlaceName`
  *
  * The place and the bench lines that set it. If the text has an error, `error` is the message and `column` is the column in the text after
  * `set`.
@@ -24,7 +24,7 @@ const SETTABLE_PLACE = /^(acc|cy|pc|dcl|r\d+|p\d|(ram|st)\..*)$/;
  * Returns the standard spelling of a place, such as `ram.0.0x12`, if `set` can change it; "" for any other text.
  * @param {string} text
  */
-export function settablePlace(text) {
+export function settablePlaceName(text) {
   const word = text.trim().toLowerCase();
   if (word === "test") return word;
   const addressMatch = /^rom\.(\w+)$/.exec(word);
@@ -35,7 +35,7 @@ export function settablePlace(text) {
 
 /**
  * Returns the bench lines that set a place.
- * @param {string} place the place, as spelled by `settablePlace`
+ * @param {string} place the place, as spelled by `settablePlaceName`
  * @param {number} value the value, in the range of the place
  */
 export function settingLines(place, value) {
@@ -65,13 +65,14 @@ export function parseSetting(text) {
  * @returns {Setting}
  */
 function createSetting({ text, column }, value) {
-  const place = settablePlace(text);
+  const place = settablePlaceName(text);
   if (place !== "") return { place, value };
   return fail(parsePlace(text) || !hintFor(text) ? say.cannotBeSetMessage(text) : say.noSuchPlaceMessage(text, hintFor(text)), column);
 }
 
 /**
- * Translates the text after `set` into bench lines. VALUE can contain numbers and names from the program.
+ * Translates the text after `set`, which has the form `PLACE = VALUE`, into bench lines. VALUE can contain numbers and names from the
+ * program.
  * @param {string} text
  * @param {Names["map"]} map the source map of the program
  * @param {import("./condition_language.js").Board | null} [board] if given, a place that the board does not have is an error

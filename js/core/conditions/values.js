@@ -121,7 +121,7 @@ export function findLampNumber(name, { face, board }) {
  * @param {Dependencies} dependencies
  * @returns {Value}
  */
-export function lampValue(name, names, dependencies) {
+export function valueOfLamp(name, names, dependencies) {
   const lamp = findLampNumber(name, names);
   return bitValue(`lamp ${name}`, dependencies.addPlace("lamps"), (marks) => Number(marks[lamp] === "*"));
 }
@@ -133,7 +133,7 @@ export function lampValue(name, names, dependencies) {
  * @param {Dependencies} dependencies
  * @returns {Value}
  */
-export function keyValue(name, { face }, dependencies) {
+export function valueOfKey(name, { face }, dependencies) {
   const key = [...listKeyInputs(face), ...(face.test ? [createTestInput(face)] : [])].find((input) => input.name === name);
   if (!key) {
     const knownNames = [...listKeyInputs(face), ...(face.test ? [createTestInput(face)] : [])].map((input) => input.name);
@@ -174,7 +174,7 @@ export function findLabelAddress(name, names) {
  * @param {Dependencies} dependencies
  * @returns {Value | null} null if `place` is null
  */
-function placeValue(place, { board }, dependencies) {
+function valueOfPlace(place, { board }, dependencies) {
   if (!place) return null;
   const { name } = place;
   const probes = place.probesOn(board);
@@ -188,15 +188,15 @@ function placeValue(place, { board }, dependencies) {
 }
 
 /**
- * Returns the value of a port with a direction. `rom1 in` is the value that RDR reads; an output line reads as its bit in the port mask of
- * the board. `rom1 out` and `ram0.1 out` are the value in the port latch, with 0 for input lines. Throws `ConditionError` if the board
- * lacks the port, or if `in` follows a RAM port.
+ * Returns the value of a port with a direction. `rom1 in` is the value that RDR reads. In this value, the bit of an output line is the
+ * constant from the port mask in the board text. `rom1 out` and `ram0.1 out` are the value in the port latch, with 0 for input lines.
+ * Throws `ConditionError` if the board lacks the port, or if `in` follows a RAM port.
  * @param {NameNode} node
  * @param {Names} names
  * @param {Dependencies} dependencies
  * @returns {Value}
  */
-function portValue({ text, direction }, { board }, dependencies) {
+function valueOfPort({ text, direction }, { board }, dependencies) {
   const port = text.toLowerCase();
   const place = parsePlace(port);
   if (!place || place.probesOn(board).length === 0) return fail(say.boardLacks(port));
@@ -255,7 +255,7 @@ function failForUnknownName(text, names) {
  * @param {Dependencies} dependencies
  * @returns {Value}
  */
-function watchNameValue(name, text, names, dependencies) {
+function valueOfWatchName(name, text, names, dependencies) {
   if (dependencies.depth >= MAX_NAME_DEPTH) return fail(say.namesTooDeep(name, MAX_NAME_DEPTH));
   const node = parseExpression(text, (lamp) => names.face.lampNumbers.has(lamp));
   if (isCondition(node)) return fail(say.nameIsConditionMessage(name, text));
@@ -277,23 +277,23 @@ function watchNameValue(name, text, names, dependencies) {
  * @param {Dependencies} dependencies
  * @returns {Value}
  */
-function nameValue(node, names, dependencies) {
+function valueOfName(node, names, dependencies) {
   const { text, direction } = node;
   const word = text.toLowerCase();
-  if (direction !== "") return portValue(node, names, dependencies);
+  if (direction !== "") return valueOfPort(node, names, dependencies);
   if (text.startsWith("@")) {
     const programName = findProgramName(text.slice(1), names.map);
     return constantValue(programName ? programName.value : fail(say.noLabelMessage(text.slice(1))));
   }
   if (word === "test" || word === "owed") return bitValue(word, dependencies.addPlace(word), Number);
-  const place = placeValue(parsePlace(text), names, dependencies);
+  const place = valueOfPlace(parsePlace(text), names, dependencies);
   if (place) return place;
   const watchExpression = names.watched && names.watched.get(text);
-  if (watchExpression !== undefined) return watchNameValue(text, watchExpression, names, dependencies);
+  if (watchExpression !== undefined) return valueOfWatchName(text, watchExpression, names, dependencies);
   const programName = findProgramName(text, names.map);
   if (programName) return constantValue(programName.value);
-  if (names.face.lampNumbers.has(text)) return lampValue(text, names, dependencies);
-  return placeValue(placeByAlias(text), names, dependencies) || failForUnknownName(text, names);
+  if (names.face.lampNumbers.has(text)) return valueOfLamp(text, names, dependencies);
+  return valueOfPlace(placeByAlias(text), names, dependencies) || failForUnknownName(text, names);
 }
 
 /**
@@ -305,7 +305,7 @@ function nameValue(node, names, dependencies) {
  * @param {Dependencies} dependencies
  * @returns {Value[]}
  */
-export function nibbleValues({ text, column }, count, names, dependencies) {
+export function valuesOfNibbles({ text, column }, count, names, dependencies) {
   return withErrorColumn(column, () => {
     const place = parsePlace(text);
     const placeName = place ? place.name : "";
@@ -314,7 +314,7 @@ export function nibbleValues({ text, column }, count, names, dependencies) {
       const nibbleAddress = parseInt(byte, 16) + index;
       const nibblePlace = nibbleAddress <= LAST_NIBBLE ? parsePlace(`ram.${bank}.${nibbleAddress}`) : null;
       if (index > 0 && (!nibblePlace || nibblePlace.probesOn(names.board).length === 0)) fail(say.NO_RAM_FOR_LAST);
-      return placeValue(nibblePlace || place, names, dependencies) || failForUnknownName(text, names);
+      return valueOfPlace(nibblePlace || place, names, dependencies) || failForUnknownName(text, names);
     });
   });
 }
@@ -326,7 +326,7 @@ export function nibbleValues({ text, column }, count, names, dependencies) {
  * @param {Dependencies} dependencies
  * @returns {Value}
  */
-function sumValue({ sign, left, right, text }, names, dependencies) {
+function valueOfSum({ sign, left, right, text }, names, dependencies) {
   const [first, second] = [compileValue(left, names, dependencies), compileValue(right, names, dependencies)];
   const isConstant = first.isConstant && second.isConstant;
   return { name: text, maxValue: Infinity, isConstant, read: (values) => OPERATIONS[sign](first.read(values), second.read(values)) };
@@ -355,9 +355,9 @@ export function evaluateConstant(node, map) {
 export function compileValue(node, names, dependencies) {
   return withErrorColumn(node.column, () => {
     if (node.kind === "number") return constantValue(node.value);
-    if (node.kind === "sum") return sumValue(node, names, dependencies);
-    if (node.kind === "name") return nameValue(node, names, dependencies);
-    return node.kind === "key" ? keyValue(node.text, names, dependencies) : lampValue(node.text, names, dependencies);
+    if (node.kind === "sum") return valueOfSum(node, names, dependencies);
+    if (node.kind === "name") return valueOfName(node, names, dependencies);
+    return node.kind === "key" ? valueOfKey(node.text, names, dependencies) : valueOfLamp(node.text, names, dependencies);
   });
 }
 

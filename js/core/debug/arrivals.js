@@ -82,7 +82,7 @@ export class Arrivals {
         continue;
       }
       const cyclesBefore = doneCycles;
-      const cyclesRun = this.run(engine, this.fileCopy, { lines, count: answerCount, cycles: plannedCycles(plannedLine) },
+      const cyclesRun = this.runWithBreakpoints(engine, this.fileCopy, { lines, count: answerCount, cycles: plannedCycles(plannedLine) },
         (end, row, partCycles) => end !== "break" || this.recordArrival(row, cyclesBefore + partCycles, events));
       if (cyclesRun < 0) return events;
       doneCycles += cyclesRun;
@@ -112,13 +112,13 @@ export class Arrivals {
    * @param {(end: string, row: string[], cyclesRun: number) => boolean} visit called at each stop with the bench's reason for the stop
    *   (such as "break"), the values of `places`, and the cycles so far; returns true to end the run
    */
-  run(engine, file, { lines, count, cycles }, visit) {
+  runWithBreakpoints(engine, file, { lines, count, cycles }, visit) {
     let [linesBefore, skippedCount, cyclesRun, arrivalCount] = [lines, count, 0, 0];
     while (cyclesRun < cycles) {
       const cyclesLeft = cycles - cyclesRun;
       const runCount = Math.min(cyclesLeft, MAX_RUNS, Math.max(1, Math.round(2 * this.arrivalsPerCycle * cyclesLeft)));
-      const runWithQueries = `run ${Math.floor(cyclesLeft / runCount)}\n${this.probes.lines}`;
-      const answers = new ForecastAnswers(engine.serve(file, linesBefore + runWithQueries.repeat(runCount), file).answers);
+      const runAndQueryLines = `run ${Math.floor(cyclesLeft / runCount)}\n${this.probes.lines}`;
+      const answers = new ForecastAnswers(engine.serve(file, linesBefore + runAndQueryLines.repeat(runCount), file).answers);
       answers.skip(skippedCount);
       [linesBefore, skippedCount] = ["", 0];
       while (!answers.isEmpty) {
@@ -138,7 +138,7 @@ export class Arrivals {
    * Returns the breakpoint at the program counter if its condition is true; otherwise null.
    * @param {string[]} row the values of `places`, beginning with the program counter
    */
-  breakpointAt(row) {
+  findBreakpoint(row) {
     const breakpoint = this.breakpointsByAddress.get(parseInt(row[0], 16));
     return breakpoint && breakpoint.holds(this.breakpointValues(breakpoint, row)) ? breakpoint : null;
   }
@@ -199,7 +199,7 @@ export class Arrivals {
    * Adds new hits to the hit counts after the session has run the lines.
    * @param {BreakpointEvents} events the result of `searchLines` for these lines
    */
-  count({ hits }) {
+  countHits({ hits }) {
     for (const breakpoint of this.breakpoints) breakpoint.hits += hits.get(breakpoint.id) || 0;
   }
 }

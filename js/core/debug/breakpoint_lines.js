@@ -24,7 +24,7 @@ function quote(text) {
 }
 
 /**
- * Returns the text without its escapes, truncated to MAX_TEXT_LENGTH characters.
+ * Removes the backslashes of escaped characters, and truncates the text to MAX_TEXT_LENGTH characters.
  * @param {string} [text]
  */
 function unquote(text = "") {

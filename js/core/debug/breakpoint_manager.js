@@ -28,8 +28,8 @@ import * as say from "../../words/debug.js";
  */
 
 const TOO_MANY_ENABLED = say.tooManyEnabledMessage(MAX_ENABLED_BREAKPOINTS);
-/** The maximum number of sessions with a stored list. */
-const MAX_LISTS = 30;
+/** The maximum number of sessions whose breakpoint lists are stored. */
+const MAX_STORED_LISTS = 30;
 
 /** Synchronizes the list of breakpoints with the breakpoints of the bench. */
 export class BreakpointManager {
@@ -49,7 +49,7 @@ export class BreakpointManager {
     this.errors = new Map();
     /** @type {Set<number> | null} the addresses of the bench's breakpoints; null before the bench first reports them for a session */
     this.benchAddresses = null;
-    /** @type {string[] | null} the bench's breakpoint addresses that were reported during a request; they are applied after the request */
+    /** @type {string[] | null} the breakpoint addresses that the bench reported while a request was unanswered; used after the answer */
     this.postponedAddresses = null;
     /** True if the saved session contains a list of breakpoints. */
     this.hasSavedList = false;
@@ -57,7 +57,7 @@ export class BreakpointManager {
     this.pendingCount = 0;
     this.lastRequest = "";
     /** @type {Promise<void>} resolves after all requests are answered */
-    this.sendingEnd = Promise.resolve();
+    this.requestsDone = Promise.resolve();
     /**
      * @type {{ id: number, changes: Partial<SavedBreakpoint> } | null} the fields that the user is editing, with the id of their breakpoint
      */
@@ -73,14 +73,14 @@ export class BreakpointManager {
    * @param {SavedBreakpoint[] | undefined} savedBreakpoints the saved breakpoints; if undefined, the breakpoints of the session file are
    *   used
    */
-  open(id, savedBreakpoints) {
+  switchToSession(id, savedBreakpoints) {
     const storedList = this.listsById.get(id);
     const isReusable = storedList && JSON.stringify(storedList.savedBreakpoints) === JSON.stringify(savedBreakpoints);
     this.list = storedList && isReusable ? storedList : new BreakpointList(savedBreakpoints);
     this.list.resetHits();
     this.listsById.delete(id);
     this.listsById.set(id, this.list);
-    for (const oldestId of [...this.listsById.keys()].slice(0, -MAX_LISTS)) this.listsById.delete(oldestId);
+    for (const oldestId of [...this.listsById.keys()].slice(0, -MAX_STORED_LISTS)) this.listsById.delete(oldestId);
     this.hasSavedList = savedBreakpoints !== undefined;
     this.map = null;
     this.mapError = "";
@@ -98,13 +98,13 @@ export class BreakpointManager {
    */
   setWatchExpressions(texts) {
     this.watchTexts = texts;
-    if (this.benchAddresses) this.apply();
+    if (this.benchAddresses) this.sendIfChanged();
   }
 
   /** Sends the list again after the bench has restarted, because a restart deletes the bench's breakpoints. */
   resend() {
     this.lastRequest = "";
-    this.apply();
+    this.sendIfChanged();
   }
 
   /**
@@ -114,7 +114,7 @@ export class BreakpointManager {
   applyTextEdits(edits) {
     const effectiveEdits = edits.filter((edit) => this.list.applyEdit(edit));
     if (effectiveEdits.length === 0) return;
-    if (this.benchAddresses) this.apply();
+    if (this.benchAddresses) this.sendIfChanged();
     else this.callbacks.handleChange();
   }
 
@@ -129,7 +129,7 @@ export class BreakpointManager {
     if (!this.benchAddresses) return;
     const messages = map ? this.list.locate(map) : [];
     if (messages.length > 0) this.callbacks.showMessage(messages.join(" "));
-    this.apply();
+    this.sendIfChanged();
   }
 
   /**
@@ -139,13 +139,14 @@ export class BreakpointManager {
   updateFromBench(breaks) {
     const addresses = breaks.map((address) => parseInt(address, 16));
     const previousAddresses = this.benchAddresses;
-    if (previousAddresses && this.isApplying) {
+    if (previousAddresses && this.hasPendingRequest) {
       this.postponedAddresses = breaks;
       return;
     }
     this.benchAddresses = new Set(addresses);
     if (!previousAddresses) {
-      // This is the first report since the session was opened. If the session was saved without a list, its breakpoints come from the file.
+      // This is the first report since the session was opened. A session that was saved without a breakpoint list has the breakpoints of
+      // its session file.
       if (!this.hasSavedList) for (const address of addresses) this.addFromBench(address);
       this.callbacks.handleChange();
       return;
@@ -155,7 +156,7 @@ export class BreakpointManager {
     for (const address of newAddresses) this.addFromBench(address);
     const missingAddresses = [...wantedAddresses].filter((address) => previousAddresses.has(address) && !addresses.includes(address));
     for (const address of missingAddresses) this.removeMissing(address);
-    this.apply();
+    this.sendIfChanged();
   }
 
   /** The addresses of the enabled breakpoints that stop the machine at every arrival. */
@@ -194,9 +195,9 @@ export class BreakpointManager {
    * Adds the new hits in a tally to the hit counts of the list.
    * @param {Tally} tally
    */
-  count({ hits }) {
+  countHits({ hits }) {
     if (hits.length === 0) return;
-    this.list.count(hits);
+    this.list.countHits(hits);
     this.callbacks.handleNewHits();
   }
 
@@ -253,8 +254,8 @@ export class BreakpointManager {
   }
 
   /**
-   * Adds a breakpoint, which is disabled if the maximum number of breakpoints is already enabled. If the list is full, only shows a
-   * message.
+   * Adds a breakpoint. If the maximum number of breakpoints is already enabled, disables the new breakpoint. If the list is full, shows a
+   * message instead.
    * @param {Partial<SavedBreakpoint>} fields
    */
   add(fields) {
@@ -265,17 +266,18 @@ export class BreakpointManager {
     const isFull = this.list.enabledCount >= MAX_ENABLED_BREAKPOINTS;
     if (isFull) this.callbacks.showMessage(TOO_MANY_ENABLED);
     this.list.add({ ...fields, isOn: !isFull });
-    this.saveAndApply();
+    this.saveAndSend();
   }
 
   /** @param {number} id */
   remove(id) {
     this.list.remove(id);
-    this.saveAndApply();
+    this.saveAndSend();
   }
 
   /**
-   * Saves the changes of a breakpoint while the user types. The bench receives the changes only from `change`, after the user has finished.
+   * Saves the changes of a breakpoint while the user types. The bench does not receive them until the user has finished and `change` is
+   * called.
    * @param {number} id
    * @param {Partial<SavedBreakpoint>} changes the changed fields
    */
@@ -311,7 +313,7 @@ export class BreakpointManager {
       return;
     }
     this.list.change(id, changes);
-    this.saveAndApply();
+    this.saveAndSend();
   }
 
   /**
@@ -324,44 +326,46 @@ export class BreakpointManager {
       this.list.change(id, { isOn: isOn && freeCount > 0 });
       freeCount -= 1;
     }
-    this.saveAndApply();
+    this.saveAndSend();
   }
 
   removeAll() {
     this.list.all = [];
-    this.saveAndApply();
+    this.saveAndSend();
   }
 
   /** Resets the hit counts in the list, and sends the list again to reset the debugger's hit counts. */
   resetHits() {
     this.list.resetHits();
     this.lastRequest = "";
-    this.apply();
+    this.sendIfChanged();
   }
 
   // --- The bench ---
 
   /** True while a request to the bench is unanswered. */
-  get isApplying() {
+  get hasPendingRequest() {
     return this.pendingCount > 0;
   }
 
-  /** Saves and applies a change by the user. */
-  saveAndApply() {
+  /** Saves a change by the user, and sends it to the bench. */
+  saveAndSend() {
     this.callbacks.saveList();
-    this.apply();
+    this.sendIfChanged();
   }
 
-  /** Sends the list to the bench, unless the bench already has this list. `sendingEnd` resolves after the bench has set the breakpoints. */
-  apply() {
+  /**
+   * Reports the change, and sends the list to the bench unless the bench already has this list. `requestsDone` resolves after the bench has
+   * set the breakpoints.
+   */
+  sendIfChanged() {
     this.callbacks.handleChange();
     const { locatedBreakpoints } = this.list;
-    // A name in a condition can have another meaning in another source text, or with other watch expressions, so the comparison includes
-    // both.
+    // The request includes the source text and the watch expressions, because they define the names in conditions.
     const names = locatedBreakpoints.some(isSoft) ? [this.map ? this.map.text : "", this.watchTexts] : [];
     const request = JSON.stringify([names, locatedBreakpoints.map((breakpoint) => ({ ...breakpoint, line: 0, hits: 0 }))]);
-    const isNothingSet = locatedBreakpoints.length === 0 && this.benchAddresses !== null && this.benchAddresses.size === 0;
-    if (request === this.lastRequest || (this.lastRequest === "" && isNothingSet)) return;
+    const hasNoBreakpoint = locatedBreakpoints.length === 0 && this.benchAddresses !== null && this.benchAddresses.size === 0;
+    if (request === this.lastRequest || (this.lastRequest === "" && hasNoBreakpoint)) return;
     this.lastRequest = request;
     this.send(locatedBreakpoints);
   }
@@ -373,7 +377,7 @@ export class BreakpointManager {
   send(breakpoints) {
     const { list, hardAddresses } = this;
     this.pendingCount += 1;
-    this.sendingEnd = Promise.all([this.callbacks.setBreakpoints(breakpoints), this.sendingEnd])
+    this.requestsDone = Promise.all([this.callbacks.setBreakpoints(breakpoints), this.requestsDone])
       .finally(() => {
         this.pendingCount -= 1;
       })
@@ -382,8 +386,8 @@ export class BreakpointManager {
   }
 
   /**
-   * Handles the bench's answer to a list.
-   * @param {BreakpointList} list
+   * Handles the bench's answer to a request that set breakpoints.
+   * @param {BreakpointList} list the list whose breakpoints were set
    * @param {number[]} hardAddresses the addresses of the breakpoints that stop the machine at every arrival
    * @param {[number, string][]} errors the ids and error messages of breakpoints that cannot be compiled
    */
@@ -398,7 +402,7 @@ export class BreakpointManager {
   /** Applies the addresses that the bench reported during a request. They can differ from the list if the user typed `break` meanwhile. */
   applyPostponedAddresses() {
     const { postponedAddresses } = this;
-    if (this.isApplying || !postponedAddresses) return;
+    if (this.hasPendingRequest || !postponedAddresses) return;
     this.postponedAddresses = null;
     this.updateFromBench(postponedAddresses);
   }

@@ -40,8 +40,8 @@ export class BreakpointList {
     /** @type {Breakpoint[]} sorted by line; breakpoints without a line are last */
     this.all = savedBreakpoints.map((savedBreakpoint) => this.createBreakpoint(savedBreakpoint));
     /**
-     * @type {{ text: string, breakpoint: Breakpoint }[]} the breakpoints that were deleted with their lines, and the text of these lines,
-     *   newest last
+     * @type {{ text: string, breakpoint: Breakpoint }[]} the breakpoints that were deleted because their source lines were deleted, each
+     *   with the text of its line, newest last
      */
     this.deletedBreakpoints = [];
     /** @type {Map<string, Breakpoint[]>} the breakpoints of replaced source texts, by source text, newest last */
@@ -124,7 +124,7 @@ export class BreakpointList {
    * @param {Edit} edit
    */
   applyEdit(edit) {
-    return (edit.replacesAll === true && this.replaceText(edit)) || this.move(edit);
+    return (edit.replacesAll === true && this.replaceText(edit)) || this.moveWithLines(edit);
   }
 
   /**
@@ -173,9 +173,9 @@ export class BreakpointList {
    * Moves breakpoints with their lines, and deletes breakpoints whose lines are deleted. Returns false only if no breakpoint has changed.
    * @param {Edit} edit
    */
-  move(edit) {
-    const { first, last, count, isUnrelated } = replacedLines(edit);
-    if (isUnrelated) return this.detachAll();
+  moveWithLines(edit) {
+    const { first, last, count, isUnrelated } = findReplacedLines(edit);
+    if (isUnrelated) return this.detachFromLines();
     const shift = count - (last - first + 1);
     if (shift === 0) return false;
     const isMoved = this.all.some(({ line }) => line >= first);
@@ -195,7 +195,7 @@ export class BreakpointList {
    * Clears the line of each breakpoint that has an address, after an unrelated text has replaced the whole text. Returns whether there are
    * any breakpoints.
    */
-  detachAll() {
+  detachFromLines() {
     this.all = this.all.map((breakpoint) => (breakpoint.address >= 0 ? { ...breakpoint, line: 0 } : breakpoint));
     this.sort();
     return this.all.length > 0;
@@ -232,8 +232,8 @@ export class BreakpointList {
 
   /**
    * Moves each breakpoint to an instruction of the program, and sets its address. Removes all but one of the breakpoints with the same
-   * address. Called after the source has been assembled into ROM. Returns messages about breakpoints that moved or that no instruction
-   * follows.
+   * address. Called after the source has been assembled into ROM. Returns messages about breakpoints that moved, and about breakpoints
+   * after the last instruction.
    * @param {SourceMap} map
    */
   locate(map) {
@@ -266,7 +266,7 @@ export class BreakpointList {
    * Adds hits to the hit counts.
    * @param {[number, number][]} hits pairs of a breakpoint id and its number of new hits
    */
-  count(hits) {
+  countHits(hits) {
     for (const [id, newHits] of hits) {
       const breakpoint = this.get(id);
       if (breakpoint) breakpoint.hits += newHits;
@@ -306,12 +306,12 @@ function countEqualLines(oldLines, newLines, max, isAtEnd) {
  * line at the start or at the end.
  * @param {Edit} edit
  */
-function replacedLines({ from, to, text, removed = Array(to.line - from.line + 1).fill("\n"), replacesAll = false }) {
+function findReplacedLines({ from, to, text, removed = Array(to.line - from.line + 1).fill("\n"), replacesAll = false }) {
   const maxCount = Math.min(removed.length, text.length);
-  const isBefore = from.ch === 0;
-  const firstCount = countEqualLines(removed, text, maxCount, isBefore);
-  const secondCount = countEqualLines(removed, text, maxCount - firstCount, !isBefore);
-  const [before, after] = isBefore ? [secondCount, firstCount] : [firstCount, secondCount];
+  const isAtLineStart = from.ch === 0;
+  const preferredCount = countEqualLines(removed, text, maxCount, isAtLineStart);
+  const otherCount = countEqualLines(removed, text, maxCount - preferredCount, !isAtLineStart);
+  const [before, after] = isAtLineStart ? [otherCount, preferredCount] : [preferredCount, otherCount];
   const unchangedLines = [...text.slice(0, before), ...text.slice(text.length - after)];
   const isUnrelated = replacesAll && unchangedLines.join("").trim() === "" && removed.length > 2 && text.length > 2;
   return { first: from.line + 1 + before, last: to.line + 1 - after, count: text.length - before - after, isUnrelated };
@@ -326,7 +326,7 @@ function replacedLines({ from, to, text, removed = Array(to.line - from.line + 1
 export function instructionForLine(line, map) {
   const lineAddress = map.addressOf(line);
   if (lineAddress !== undefined) return { line, address: lineAddress, message: "" };
-  for (let next = line + 1; next <= map.count; next++) {
+  for (let next = line + 1; next <= map.lineCount; next++) {
     const address = map.addressOf(next);
     if (address !== undefined) {
       const message = say.breakpointMovedToLine(line, next);
@@ -338,7 +338,8 @@ export function instructionForLine(line, map) {
 
 /**
  * Returns the line and the address of the instruction at an address; the line is 0 if the address is not in the source. If the address is
- * the second byte of an instruction, the result is the next instruction, or this instruction if no other follows, with a `message`.
+ * the second byte of an instruction, returns the next instruction instead, with a `message`. If no instruction follows, returns the
+ * instruction that contains the address, with a `message`.
  * @param {number} address
  * @param {SourceMap} map
  */

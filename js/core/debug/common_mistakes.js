@@ -17,7 +17,7 @@
 import { readBoard } from "../bench/answers.js";
 import { hex } from "../bench/numbers.js";
 import { Probes } from "../conditions/probes.js";
-import { findLiveReturns, callAddress } from "../machine/return_addresses.js";
+import { findLiveReturns, addressOfCall } from "../machine/return_addresses.js";
 import { isCall, isReturn, romCodes } from "../engine/rom_codes.js";
 import { ForecastAnswers, rowValues } from "../engine/forecast_answers.js";
 import { plannedCycles, truncateLines } from "./goal_search.js";
@@ -86,7 +86,7 @@ export class CommonMistakes {
     this.callCount = 0;
   }
 
-  /** Prepares for a run, so that each kind of mistake is reported again. */
+  /** Forgets the mistakes of the last run, so that the next run can report each kind of mistake again. */
   beginRun() {
     this.reportedKinds.clear();
     this.remainingCycles = FULLY_CHECKED_CYCLES;
@@ -94,7 +94,9 @@ export class CommonMistakes {
     this.stopAddress = -1;
   }
 
-  /** Discards the cached contents of ROM and the selection by SRC. Called after any change of the session except a run. */
+  /**
+   * Discards the cached contents of ROM, and what is known about the selection by SRC. Called after any change of the session except a run.
+   */
   forgetRom() {
     this.codes = null;
     this.selection = null;
@@ -104,7 +106,7 @@ export class CommonMistakes {
    * Returns the mistakes in the next lines, up to the first mistake that stops the machine. Checks only the cycles that `cyclesToCheck`
    * chooses.
    * @param {PlannedLine[]} plannedLines the next lines
-   * @param {Uint8Array} [file] the session file from before the lines, if the lines have already run
+   * @param {Uint8Array} [file] the session file as it was before the lines ran; omitted if they have not run yet
    * @returns {FoundMistakes}
    */
   searchLines(plannedLines, file = this.session.file) {
@@ -122,7 +124,7 @@ export class CommonMistakes {
    * Returns whether a mistake stops the machine.
    * @param {CommonMistake} mistake
    * @param {PlannedLine[]} plannedLines the lines with the mistake
-   * @param {Uint8Array} file the session file from before these lines
+   * @param {Uint8Array} file the session file before these lines run
    */
   stopsMachine({ kind, cycles }, plannedLines, file) {
     if (!this.stoppingKinds.has(kind)) return false;
@@ -137,9 +139,9 @@ export class CommonMistakes {
   }
 
   /**
-   * Returns the number of cycles to check in the next lines, at most MAX_CYCLES_PER_CALL. All cycles up to this limit are checked for some
-   * time after the machine starts or a key changes. If mistakes stop the machine, all cycles are checked unless they exceed the limit.
-   * Otherwise only a sample is checked, because a check runs each cycle three more times.
+   * Returns the number of cycles to check in the next lines, at most MAX_CYCLES_PER_CALL. Checks as many cycles as possible for
+   * FULLY_CHECKED_CYCLES cycles after the machine starts or a key changes. If mistakes stop the machine and the lines are short enough,
+   * always checks all cycles. Otherwise checks only a sample, because a check runs each cycle three more times.
    * @param {PlannedLine[]} plannedLines
    */
   cyclesToCheck(plannedLines) {
@@ -153,7 +155,7 @@ export class CommonMistakes {
     return maxCycles;
   }
 
-  /** Returns the contents of ROM, and the object that tracks the selection by SRC. Creates them from the session if they are unknown. */
+  /** Returns the contents of ROM, and the object that tracks the selection by SRC. If they are not cached, reads them from the session. */
   readRom() {
     const { engine, file, statusQueries } = this.session;
     this.codes = this.codes || romCodes(engine, file);
@@ -164,7 +166,7 @@ export class CommonMistakes {
   /**
    * Returns all mistakes in the planned lines.
    * @param {PlannedLine[]} plannedLines
-   * @param {Uint8Array} file the session file from before the lines
+   * @param {Uint8Array} file the session file before the lines run
    */
   findMistakes(plannedLines, file) {
     const { engine } = this.session;
@@ -204,12 +206,12 @@ export class CommonMistakes {
     let values = rowValues(changes.row);
     let changeIndex = 0;
     for (const line of instructions) {
-      const blank = line.indexOf(" ");
-      const address = parseInt(line.slice(blank + 1), 16);
+      const blankIndex = line.indexOf(" ");
+      const address = parseInt(line.slice(blankIndex + 1), 16);
       const code = codes[address];
       const hasChanged = changeIndex < changes.lines.length && changes.lines[changeIndex].startsWith(line);
       if (hasChanged || usesSelection(code) || isCall(code) || isReturn(code) || this.isOutsideProgram(address)) {
-        const cycles = cyclesBefore + Number(line.slice(0, blank));
+        const cycles = cyclesBefore + Number(line.slice(0, blankIndex));
         const mistake = this.findMistake(codes, address, values) || selection.findMistake(code, address, values);
         this.addMistake(mistakes, address, cycles, mistake);
         if (hasChanged) {
@@ -222,8 +224,8 @@ export class CommonMistakes {
   }
 
   /**
-   * Adds a mistake. Ignores a mistake whose kind was reported before, unless that kind has a condition. Also ignores the mistake at
-   * `skippedAddress` if the run starts there.
+   * Adds a mistake. If its kind was reported before and has no condition, ignores the mistake. Also ignores the mistake at `skippedAddress`
+   * if the run starts there.
    * @param {CommonMistake[]} mistakes receives the mistake
    * @param {number} address the address of the instruction
    * @param {number} cycles the cycles before the instruction
@@ -252,7 +254,7 @@ export class CommonMistakes {
     if (!isCall(code) && !isReturn(code)) return null;
     const returns = values[2].split(",").map((digits) => parseInt(digits, 16));
     const [newestDigits, , oldestDigits] = returns.map((returnAddress) => hex(returnAddress, 3));
-    const liveFlags = findLiveReturns(returns, returns.map((returnAddress) => hex(codes[callAddress(returnAddress)], 2)), this.map);
+    const liveFlags = findLiveReturns(returns, returns.map((returnAddress) => hex(codes[addressOfCall(returnAddress)], 2)), this.map);
     if (isReturn(code)) return liveFlags[0] ? null : { kind: "return", message: say.returnWithoutCall(newestDigits) };
     return liveFlags[2] ? { kind: "calls", message: say.returnAddressLost(oldestDigits) } : null;
   }

@@ -1,6 +1,6 @@
 // Finds the changes of watched places. A data watch stops the machine when its place changes. The place is a register, a port, the lamps,
-// or a chain. It can also be a RAM character that the bench itself does not watch, for example because the watch has a condition. Queries
-// find the changes before the session runs. The session file contains no data watch.
+// or a chain. It can also be a RAM character that the bench itself does not watch, for example because the watch has a condition. Before
+// the session runs, queries predict the changes. The session file contains no data watch.
 
 import { readBoard } from "../bench/answers.js";
 import { MAX_PLACES } from "../bench/inputs.js";
@@ -96,7 +96,7 @@ export class DataWatches {
     if (this.isEmpty) return events;
     const copy = file.slice();
     let doneCycles = 0;
-    for (const { line, change, cycles } of plannedLines.flatMap(splitLine)) {
+    for (const { line, change, cycles } of plannedLines.flatMap(splitRunLine)) {
       const query = change ? "" : `trace ${cycles} ${this.places.join(" ")}\n`;
       const answers = new ForecastAnswers(engine.serve(copy, `${query}${line}\n`, copy).answers);
       if (change) continue;
@@ -176,7 +176,7 @@ export class DataWatches {
    * Adds the new changes to the counts, after the session has run the lines.
    * @param {Map<number, number>} changes the number of new changes, by watch id
    */
-  count(changes) {
+  addChangeCounts(changes) {
     for (const watch of this.watches) watch.changeCount += changes.get(watch.id) || 0;
   }
 
@@ -219,7 +219,7 @@ class LastWatchedChangeFinder extends LastChangeFinder {
  * Splits a `run` line into shorter `run` lines of at most MAX_QUERY_CYCLES cycles. Returns a key change unchanged, with 0 cycles.
  * @param {PlannedLine} plannedLine
  */
-function splitLine(plannedLine) {
+function splitRunLine(plannedLine) {
   const total = plannedCycles(plannedLine);
   /** @type {(PlannedLine & { cycles: number })[]} */
   const shortLines = plannedLine.change ? [{ ...plannedLine, cycles: 0 }] : [];
@@ -231,8 +231,7 @@ function splitLine(plannedLine) {
 }
 
 /**
- * Finds, in advance, the stops at soft breakpoints (arrivals.js) and at data watches. The earliest stop ends the run. A caller can use it
- * in place of an `Arrivals` object.
+ * Finds, in advance, the stops at soft breakpoints (arrivals.js) and at data watches. The earliest stop ends the run.
  */
 export class SoftStopFinder {
   /**
@@ -271,9 +270,9 @@ export class SoftStopFinder {
    * Adds the new hits and changes to the counts, after the session has run the lines.
    * @param {import("./arrivals.js").BreakpointEvents} events the result of `searchLines` for these lines
    */
-  count(events) {
-    this.arrivals.count(events);
-    this.dataWatches.count(events.changes);
+  countEvents(events) {
+    this.arrivals.countHits(events);
+    this.dataWatches.addChangeCounts(events.changes);
   }
 
   /** The hit counts of the breakpoints, followed by the change counts of the watches. */

@@ -21,7 +21,7 @@ import { PieceSize } from "../engine/piece_size.js";
 import { assembleText } from "../engine/program_check.js";
 import { WorkerSession } from "../engine/worker_session.js";
 import { BreakpointList } from "./breakpoints.js";
-import { Debugger, NO_TALLY, joinTallies, nearDistance } from "./debugger.js";
+import { Debugger, NO_TALLY, joinTallies, maxNearDistance } from "./debugger.js";
 import { describeTimeTravel, describeUserPause, addressWithName, pauseMessage, describeBreakpointCondition } from "../../words/stops.js";
 import * as say from "../../words/debug.js";
 
@@ -123,9 +123,9 @@ export class DebugSession {
   }
 
   /**
-   * Sends the breakpoint list to the debugger and the bench. In the result, `messages` are the messages about breakpoints that moved to
-   * another instruction, or that no instruction follows. `errors` contains the ids and error messages of breakpoints that cannot be
-   * compiled.
+   * Sends the breakpoint list to the debugger and the bench. In the result, `messages` are messages about breakpoints that moved to another
+   * instruction, and about breakpoints after the last instruction. `errors` contains the ids and error messages of breakpoints that cannot
+   * be compiled.
    */
   async applyBreakpoints() {
     const { session } = this.debugger;
@@ -151,8 +151,8 @@ export class DebugSession {
       return this.runInPieces(null, shouldContinue);
     }
     debug.names = this.names;
-    const { searchResult, tally } = await debug.runToGoal(goal, nearDistance(goal), shouldContinue);
-    this.breakpoints.count(tally.hits);
+    const { searchResult, tally } = await debug.runToGoal(goal, maxNearDistance(goal), shouldContinue);
+    this.breakpoints.countHits(tally.hits);
     if (debug.isMoving) return this.runInPieces(goal, shouldContinue);
     const { cycles, isReached, end, id, endsAtReturn, change } = searchResult;
     return this.describeStop(goal, { reason: isReached ? "goal" : end, cycles, id, endsAtReturn, change }, tally);
@@ -178,13 +178,13 @@ export class DebugSession {
    */
   async runInPieces(goal, shouldContinue, maxCycles = Infinity) {
     const debug = this.debugger;
-    const piece = new PieceSize(Math.min(MAX_FIRST_PIECE_CYCLES, this.maxPieceCycles), 1, this.maxPieceCycles);
+    const pieceSize = new PieceSize(Math.min(MAX_FIRST_PIECE_CYCLES, this.maxPieceCycles), 1, this.maxPieceCycles);
     /** @type {Tally} */
     let tally = NO_TALLY;
     for (let doneCycles = 0; ;) {
-      const frame = piece.measure(() => debug.advance(Math.min(piece.size, maxCycles - doneCycles)));
+      const frame = pieceSize.measure(() => debug.advance(Math.min(pieceSize.size, maxCycles - doneCycles)));
       doneCycles += frame.cycles;
-      this.breakpoints.count(frame.tally.hits);
+      this.breakpoints.countHits(frame.tally.hits);
       tally = joinTallies(tally, frame.tally);
       if (frame.stop) return this.describeStop(goal, frame.stop, tally);
       const isOver = doneCycles >= maxCycles;
@@ -238,12 +238,12 @@ export class DebugSession {
     return { ...result, message: describeTimeTravel(goal, result, this.counterText, this.breakpoints.get(result.id)) };
   }
 
-  /** Joins the last two moves back into one move, which `goForward` undoes as a whole. */
-  joinMovesBack() {
-    this.debugger.session.timeline.joinMovesBack();
+  /** Joins the last two backward moves, so that one call of `goForward` undoes both moves. */
+  joinBackwardMoves() {
+    this.debugger.session.timeline.joinBackwardMoves();
   }
 
-  /** Undoes the last move back: returns to the moment from which that move started. */
+  /** Undoes the last backward move: returns to the moment from which that move started. */
   goForward() {
     const result = this.debugger.goForward();
     return { ...result, message: describeTimeTravel({ kind: "forward" }, result, this.counterText) };
@@ -257,8 +257,9 @@ export class DebugSession {
    *   to false, `serve` throws CancelledError and no line takes effect
    */
   async serve(lines, shouldContinue = continueAlways) {
-    const { result, typedResult: { id, reason, change, cutLine, cycles, tally } } = await this.debugger.serveTyped(lines, shouldContinue);
-    this.breakpoints.count(tally.hits);
+    const { result, typedResult } = await this.debugger.serveTypedLines(lines, shouldContinue);
+    const { id, reason, change, cutLine, cycles, tally } = typedResult;
+    this.breakpoints.countHits(tally.hits);
     if (id === 0) return { ...result, tally, message: "" };
     const { message } = this.describeStop(null, { reason, id, cycles, endsAtReturn: false, change }, tally);
     return { ...result, tally, message: say.lineEnded(message, cutLine) };

@@ -1,12 +1,12 @@
-// The debugger of a session. It handles breakpoints, moves to a goal, stop reasons, values, and moves back in time. It runs in the page's
-// worker and in Node. All its reports are based on answers of the bench. Apart from typed lines, it adds only runs and breakpoint changes
-// to the session.
+// The debugger of a session. It handles breakpoints, stop reasons, values, and moves: forward to a goal, and back in time. It runs in the
+// page's worker and in Node. All its reports are based on answers of the bench. Apart from typed lines, it adds only runs and breakpoint
+// changes to the session.
 //
 //     const session = new WorkerSession(engine, file);               (debug_session.js does this, and also stores the source)
 //     const debug = new Debugger(session);
 //     debug.setBreakpoints([{ id: 1, address: 0x14, condition: "r9 = 9", from: 1, note: "", hits: 0 }], names);
-//     const { searchResult } = await debug.runToGoal({ kind: "over" }, NEAR_CYCLES, shouldContinue);
-//     while (debug.isMoving) { const { stop } = debug.advance(FRAME_CYCLES); if (stop) .. }    for a goal that is not near
+//     const { searchResult } = await debug.runToGoal({ kind: "over" }, MAX_NEAR_CYCLES, shouldContinue);
+//     while (debug.isMoving) { const { stop } = debug.advance(FRAME_CYCLES); if (stop) .. }        for a goal that is not near
 //     debug.values(["r4", "lamps"]); await debug.goBack({ kind: "instruction" }, shouldContinue); debug.goForward();
 //
 // A move has a goal (goals.js). The debugger runs to a near goal at once. For any other goal, `isMoving` is true until `advance` reports a
@@ -18,7 +18,7 @@ import { readBoard, readRun } from "../bench/answers.js";
 import { hex } from "../bench/numbers.js";
 import { parsePlace } from "../conditions/places.js";
 import { Probes } from "../conditions/probes.js";
-import { EMPTY_SEARCH_RESULT, findBackTarget } from "../engine/past_search.js";
+import { EMPTY_SEARCH_RESULT, findPastGoal } from "../engine/past_search.js";
 import { runLines } from "../engine/key_queue.js";
 import { SEARCH_PIECE_CYCLES } from "../engine/piece_size.js";
 import { ForecastAnswers } from "../engine/forecast_answers.js";
@@ -88,10 +88,10 @@ import { CommonMistakes } from "./common_mistakes.js";
  */
 
 /** The maximum distance of a near goal in cycles: one second of a real 4004. */
-export const NEAR_CYCLES = CYCLES_PER_SECOND;
-/** The maximum distances of a near goal, in cycles: for a change or a condition, and for a number of instructions. */
-const NEAR_CHANGE_CYCLES = 10000000;
-const NEAR_COUNT_CYCLES = 100000000;
+export const MAX_NEAR_CYCLES = CYCLES_PER_SECOND;
+/** The maximum distances of other near goals, in cycles: for a change or a condition, and for a number of instructions. */
+const MAX_NEAR_CYCLES_FOR_CHANGE = 10000000;
+const MAX_NEAR_CYCLES_FOR_COUNT = 100000000;
 
 /** @type {Tally} a tally without any event */
 export const NO_TALLY = { hits: [], notes: [], noteCount: 0, mistakes: [] };
@@ -115,9 +115,9 @@ export function joinTallies(earlier, later) {
  * Returns the maximum distance of a near goal, in cycles.
  * @param {Goal} goal
  */
-export function nearDistance({ kind }) {
-  if (kind === "change" || kind === "when") return NEAR_CHANGE_CYCLES;
-  return kind === "count" ? NEAR_COUNT_CYCLES : NEAR_CYCLES;
+export function maxNearDistance({ kind }) {
+  if (kind === "change" || kind === "when") return MAX_NEAR_CYCLES_FOR_CHANGE;
+  return kind === "count" ? MAX_NEAR_CYCLES_FOR_COUNT : MAX_NEAR_CYCLES;
 }
 
 /** The debugger of a session. */
@@ -150,7 +150,7 @@ export class Debugger {
   // --- Breakpoints ---
 
   /**
-   * Sets the breakpoints, at most one per address. Returns the bench lines for the hard breakpoints, which the caller must send. Also
+   * Sets the breakpoints, at most one per address. Returns the bench lines that the caller must send to set the hard breakpoints. Also
    * returns the ids and error messages of breakpoints that cannot be compiled. Such a breakpoint stops the machine at every arrival.
    * @param {LocatedBreakpoint[]} breakpoints the enabled breakpoints
    * @param {Names} names
@@ -167,7 +167,7 @@ export class Debugger {
     this.names = names;
     this.stopFinder = this.createStopFinder(softBreakpoints);
     this.hardBreakpoints = new Map(breakpoints.filter((breakpoint) => !isSoft(breakpoint)).map(({ id, address }) => [address, id]));
-    return { lines: this.breakLines(), errors };
+    return { lines: this.hardBreakpointLines(), errors };
   }
 
   /**
@@ -192,8 +192,8 @@ export class Debugger {
     return errors;
   }
 
-  /** Returns the bench lines that set the hard breakpoints and delete all others; "" before `setBreakpoints`. */
-  breakLines() {
+  /** Returns the bench lines that set the hard breakpoints and delete all other breakpoints; "" before `setBreakpoints`. */
+  hardBreakpointLines() {
     const { hardBreakpoints } = this;
     if (!hardBreakpoints) return "";
     const benchAddresses = new Set(this.session.breakpointAddresses);
@@ -234,7 +234,7 @@ export class Debugger {
     if (foundMistakes.stop >= 0) plannedLines = truncateLines(plannedLines, foundMistakes.stop);
     const countBefore = session.count.total;
     const frame = session.advanceBy(plannedLines);
-    this.stopFinder.count(events);
+    this.stopFinder.countEvents(events);
     this.uncheckedLines = checksLater ? plannedLines : null;
     const stop = this.findMistakeOrRecordingStop(frame, foundMistakes.stop) || this.findStop(frame, events, cyclesBeforeGoal);
     if (stop) this.endMove();
@@ -243,8 +243,8 @@ export class Debugger {
   }
 
   /**
-   * Checks the last lines for mistakes, if `advance` has not checked them. `session.nextFile` still contains the session file from before
-   * these lines.
+   * Checks the last lines for mistakes, if `advance` has not checked them. `session.nextFile` still contains the session file as it was
+   * before these lines.
    */
   checkLastLines() {
     const { uncheckedLines } = this;
@@ -271,7 +271,7 @@ export class Debugger {
   }
 
   /**
-   * Returns a stop that no breakpoint has caused.
+   * Returns a stop that was not caused by a breakpoint.
    * @param {string} reason
    * @returns {Stop}
    */
@@ -312,7 +312,7 @@ export class Debugger {
     return parseCounter(this.session.ask("regs\n")[0]).counter;
   }
 
-  /** Ends a move or run. First checks its last lines for mistakes, if that has not been done. */
+  /** Ends a move or run. If its last lines are not yet checked for mistakes, checks them first. */
   endMove() {
     this.checkLastLines();
     this.watcher = null;
@@ -352,7 +352,7 @@ export class Debugger {
     const goalResult = await searchGoal(session.engine, session.file, goal, shouldContinue, maxDistance, readCodes);
     const goalSearch = { ...goalResult, id: 0, endsAtReturn };
     if (!watcher) return { searchResult: goalSearch, result: null, tally: NO_TALLY };
-    const events = await this.searchStops(goalSearch.cycles, shouldContinue);
+    const events = await this.searchForStop(goalSearch.cycles, shouldContinue);
     if (goalSearch.end === "bound" && events.cycles < 0) {
       this.watcher = watcher;
       return { searchResult: goalSearch, result: null, tally: NO_TALLY };
@@ -361,7 +361,7 @@ export class Debugger {
     const searchResult = cycles < 0 ? { ...goalSearch, change: "" }
       : { cycles, isReached: false, end: events.reason, id, endsAtReturn, change };
     const result = await session.serve(runLines(Math.max(1, searchResult.cycles)), async () => true);
-    this.stopFinder.count(events);
+    this.stopFinder.countEvents(events);
     if (!searchResult.isReached && searchResult.id === 0) searchResult.id = this.breakpointIdAtStop(searchResult.end);
     return { searchResult, result, tally: this.createTally(events, { reason: searchResult.end, id: searchResult.id }, this.startTotal) };
   }
@@ -371,7 +371,7 @@ export class Debugger {
    * @param {number} cycles
    * @param {ShouldContinue} shouldContinue
    */
-  async searchStops(cycles, shouldContinue) {
+  async searchForStop(cycles, shouldContinue) {
     const allEvents = createEmptyEvents();
     if (this.stopFinder.isEmpty) return allEvents;
     const { engine, file } = this.session;
@@ -400,7 +400,7 @@ export class Debugger {
    * @param {(done: number) => Promise<boolean>} shouldContinue called with the number of processed characters; resolves to true to continue
    * @returns {Promise<{ result: LinesResult & { snapshot: string[] }, typedResult: TypedResult }>}
    */
-  async serveTyped(lines, shouldContinue) {
+  async serveTypedLines(lines, shouldContinue) {
     const { session, stopFinder } = this;
     const countBefore = session.count.total;
     const { counts } = stopFinder;
@@ -440,11 +440,11 @@ export class Debugger {
   async goBack(goal, shouldContinue) {
     this.beginMove();
     const { session } = this;
-    const { moment, present, ...report } = await this.findBackTarget(goal, shouldContinue);
+    const { moment, present, ...report } = await this.findPastGoal(goal, shouldContinue);
     if (!moment) return { ...report, isDone: false, hasChangedBoard: false, cycles: 0 };
     const sessionAtMoment = present || await session.timeline.sessionAt(session.engine, moment, shouldContinue);
     session.timeline.goBack(moment, session);
-    return { ...report, ...this.enterMoment(sessionAtMoment) };
+    return { ...report, ...this.restoreMoment(sessionAtMoment) };
   }
 
   /**
@@ -453,13 +453,13 @@ export class Debugger {
    * @param {(done?: number) => Promise<boolean>} shouldContinue
    * @returns {Promise<BackSearchResult>}
    */
-  async findBackTarget(goal, shouldContinue) {
+  async findPastGoal(goal, shouldContinue) {
     const { session, watches } = this;
     if (goal.kind === "call") return findLastCall(session, goal.call, goal.returns, shouldContinue);
     if (goal.kind === "arrival") {
       return findLastArrival(session, this.stoppingBreakpoints(), { place: goal.place, watches }, shouldContinue);
     }
-    return findBackTarget(session.engine, session, this.compileGoal(goal), shouldContinue);
+    return findPastGoal(session.engine, session, this.compileGoal(goal), shouldContinue);
   }
 
   /**
@@ -475,14 +475,14 @@ export class Debugger {
   }
 
   /**
-   * Finds the last change of a place without going back in time.
+   * Finds the last change of a place. The session stays at the present moment.
    * @param {string} place
    * @param {(done?: number) => Promise<boolean>} shouldContinue
    * @returns {Promise<LastChange>}
    */
   async findLastChange(place, shouldContinue) {
     const { session } = this;
-    const { moment, present, ...report } = await findBackTarget(session.engine, session, { kind: "change", place }, shouldContinue);
+    const { moment, present, ...report } = await findPastGoal(session.engine, session, { kind: "change", place }, shouldContinue);
     if (!moment) return { ...report, isFound: false, cycles: 0, address: -1 };
     const { file, count } = present || await session.timeline.sessionAt(session.engine, moment, shouldContinue);
     const { counter } = parseCounter(session.engine.ask(file, "regs\n").answers[0]);
@@ -490,28 +490,28 @@ export class Debugger {
   }
 
   /**
-   * Undoes the last move back: returns to the moment from which that move started. In the result, `isDone` is false if there is no move to
-   * undo.
+   * Undoes the last backward move: returns to the moment from which that move started. In the result, `isDone` is false if there is no move
+   * to undo.
    * @returns {BackResult}
    */
   goForward() {
     this.beginMove();
     const sessionAtMoment = this.session.timeline.goForward();
     return sessionAtMoment
-      ? { ...EMPTY_SEARCH_RESULT, ...this.enterMoment(sessionAtMoment) }
+      ? { ...EMPTY_SEARCH_RESULT, ...this.restoreMoment(sessionAtMoment) }
       : { ...EMPTY_SEARCH_RESULT, isDone: false, hasChangedBoard: false, cycles: 0 };
   }
 
   /**
-   * Replaces the state of the session with the state at another moment, but keeps the current breakpoints. Returns part of the result of
-   * the move.
+   * Replaces the state of the session with the state at another moment, but keeps the current breakpoints. Returns the fields `isDone`,
+   * `hasChangedBoard` and `cycles` of a `BackResult`.
    * @param {SessionAtMoment} sessionAtMoment
    */
-  enterMoment(sessionAtMoment) {
+  restoreMoment(sessionAtMoment) {
     const { session } = this;
     const countBefore = session.count.total;
     const hasChangedBoard = session.replaceState(sessionAtMoment);
-    const lines = this.breakLines();
+    const lines = this.hardBreakpointLines();
     if (lines) session.changeBreakpoints(lines);
     this.commonMistakes.forgetRom();
     this.startTotal = session.count.total;

@@ -5,7 +5,7 @@ import { CancelledError } from "../bench/bench_errors.js";
 import { MAX_RUN_CYCLES } from "../engine/key_queue.js";
 import { FIRST_PIECE_CYCLES, PieceSize } from "../engine/piece_size.js";
 import { ForecastAnswers } from "../engine/forecast_answers.js";
-import { MAX_PIECE_CYCLES, missingGoalEnd, createWatcher } from "./goals.js";
+import { MAX_PIECE_CYCLES, endForMissingGoal, createWatcher } from "./goals.js";
 
 /**
  * @typedef {import("../engine/engine_host.js").EngineHost} Engine
@@ -59,12 +59,12 @@ function searchAnswers(answers, watcher) {
 export async function searchGoal(engine, file, goal, shouldContinue, maxCycles, readCodes) {
   const copy = file.slice();
   const watcher = createWatcher(engine, file, goal, readCodes);
-  if (!watcher) return { cycles: 0, isReached: false, end: missingGoalEnd(goal) };
+  if (!watcher) return { cycles: 0, isReached: false, end: endForMissingGoal(goal) };
   if (watcher.setupLine) engine.serve(copy, watcher.setupLine, copy);
-  const piece = new PieceSize(FIRST_PIECE_CYCLES, 1, MAX_PIECE_CYCLES);
+  const pieceSize = new PieceSize(FIRST_PIECE_CYCLES, 1, MAX_PIECE_CYCLES);
   for (let doneCycles = 0; doneCycles < maxCycles;) {
-    const cycles = Math.min(piece.size, watcher.maxRun(), maxCycles - doneCycles);
-    const result = piece.measure(() => (
+    const cycles = Math.min(pieceSize.size, watcher.maxRun(), maxCycles - doneCycles);
+    const result = pieceSize.measure(() => (
       searchAnswers(new ForecastAnswers(engine.serve(copy, pieceLines(watcher, cycles), copy).answers), watcher)));
     if (result) return { ...result, cycles: doneCycles + result.cycles };
     doneCycles += cycles;
@@ -82,7 +82,7 @@ export function plannedCycles({ line, change }) {
 }
 
 /**
- * Returns the number of cycles until the next lines reach the goal; -1 if the lines do not reach the goal or stop earlier.
+ * Returns the number of cycles until the next lines reach the goal; -1 if they stop before the goal or do not reach it.
  * @param {Engine} engine
  * @param {Uint8Array} file the session file; not changed
  * @param {PlannedLine[]} plannedLines the next lines

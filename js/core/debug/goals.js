@@ -3,7 +3,7 @@
 
 import { readBoard, readCounter, readRegisters } from "../bench/answers.js";
 import { parsePlace } from "../conditions/places.js";
-import { callAddress } from "../machine/return_addresses.js";
+import { addressOfCall } from "../machine/return_addresses.js";
 import { MAX_RUN_CYCLES } from "../engine/key_queue.js";
 import { isCall, isReturn, romCodes } from "../engine/rom_codes.js";
 import { parseTraceLine } from "../engine/forecast_answers.js";
@@ -16,8 +16,8 @@ import { becomesTrue } from "./condition_search.js";
  * @typedef {import("./condition_search.js").SearchCondition} SearchCondition
  *
  * The goal of a move, by its `kind`. `over`: the end of the next instruction, or of the subroutine that this instruction calls. `out`: the
- * return from the current subroutine. `here`: an address. `count`: a number of instructions. `change`: a change of a place. `when`: a
- * condition becomes true; `searchCondition` is the compiled condition.
+ * return from the current subroutine. `here`: an arrival at an address. `count`: a number of instructions. `change`: a change of a place.
+ * `when`: a condition becomes true; `searchCondition` is the compiled condition.
  * @typedef {{ kind: "over" } | { kind: "out" } | { kind: "here", address: number } | { kind: "count", count: number } | { kind: "change",
  * place: string } | { kind: "when", condition: string, searchCondition?: SearchCondition }} Goal
  *
@@ -54,7 +54,7 @@ export function parseCounter(regs) {
  * @param {(traced: TracedInstruction) => number} cyclesToGoal returns the cycles up to the goal if an instruction reaches it, otherwise -1
  * @returns {Watcher}
  */
-function traceWatcher(places, cyclesToGoal) {
+function createTraceWatcher(places, cyclesToGoal) {
   return {
     setupLine: "",
     maxRun: () => MAX_PIECE_CYCLES,
@@ -79,9 +79,9 @@ function traceWatcher(places, cyclesToGoal) {
  * @param {SearchCondition} condition
  * @returns {Watcher}
  */
-function conditionWatcher(condition) {
+function createConditionWatcher(condition) {
   let lastRow = "";
-  const watcher = traceWatcher(` ${condition.places.join(" ")}`, () => -1);
+  const watcher = createTraceWatcher(` ${condition.places.join(" ")}`, () => -1);
   return {
     ...watcher,
     readAnswers: (answers) => {
@@ -105,9 +105,9 @@ function conditionWatcher(condition) {
  * @param {number} targetDepth the depth to reach: 0 for the return from the next call, -1 for the return from the current subroutine
  * @returns {Watcher}
  */
-function returnWatcher(codes, targetDepth) {
+function createReturnWatcher(codes, targetDepth) {
   let depth = 0;
-  const watcher = traceWatcher(" ret", ({ cycles, address }) => {
+  const watcher = createTraceWatcher(" ret", ({ cycles, address }) => {
     if (isCall(codes[address])) depth += 1;
     if (!isReturn(codes[address])) return -1;
     depth -= 1;
@@ -122,7 +122,7 @@ function returnWatcher(codes, targetDepth) {
  * @param {boolean} isSecondCyclePending true if the second cycle of an instruction is pending
  * @returns {Watcher}
  */
-function countWatcher(count, isSecondCyclePending) {
+function createInstructionCountWatcher(count, isSecondCyclePending) {
   let instructionsLeft = count;
   let wasSecondCyclePending = isSecondCyclePending;
   return {
@@ -150,10 +150,10 @@ function countWatcher(count, isSecondCyclePending) {
  * @param {number} address
  * @returns {Watcher}
  */
-function addressWatcher(engine, file, address) {
+function createAddressWatcher(engine, file, address) {
   const setupLine = `break ${address}\n`;
   const [answer] = engine.ask(file, setupLine).answers;
-  if (!answer.startsWith("ok ")) return instructionWatcher(address);
+  if (!answer.startsWith("ok ")) return createEveryInstructionWatcher(address);
   return {
     setupLine,
     maxRun: () => MAX_PIECE_CYCLES,
@@ -172,9 +172,9 @@ function addressWatcher(engine, file, address) {
  * Returns a watcher that compares the address of each instruction with the goal address. It skips the instruction at which the move starts.
  * @param {number} address
  */
-function instructionWatcher(address) {
+function createEveryInstructionWatcher(address) {
   let isFirst = true;
-  return traceWatcher("", (instruction) => {
+  return createTraceWatcher("", (instruction) => {
     const isStartInstruction = isFirst && instruction.cycles === 0;
     isFirst = false;
     return instruction.address === address && !isStartInstruction ? instruction.cycles : -1;
@@ -187,14 +187,14 @@ function instructionWatcher(address) {
  * @param {Uint8Array} codes the bytes of ROM
  */
 function isInSubroutine(regs, codes) {
-  return isCall(codes[callAddress(parseInt(readRegisters(regs).returns[0], 16))]);
+  return isCall(codes[addressOfCall(parseInt(readRegisters(regs).returns[0], 16))]);
 }
 
 /**
  * Returns the `end` of the search result for a goal that does not exist in the current state.
  * @param {Goal} goal
  */
-export function missingGoalEnd(goal) {
+export function endForMissingGoal(goal) {
   return goal.kind === "out" ? "outside" : "lacks";
 }
 
@@ -207,16 +207,17 @@ export function missingGoalEnd(goal) {
  * @returns {Watcher | null} null if the goal does not exist in the current state
  */
 export function createWatcher(engine, file, goal, readCodes = () => romCodes(engine, file)) {
-  if (goal.kind === "here") return addressWatcher(engine, file, goal.address);
+  if (goal.kind === "here") return createAddressWatcher(engine, file, goal.address);
   if (goal.kind === "change") {
     const place = parsePlace(goal.place);
     const probes = place ? place.probesOn(readBoard(engine.ask(file, "board\n").answers)) : [];
-    return probes.length > 0 ? traceWatcher(` ${probes.join(" ")}`, ({ cycles }) => cycles + 1) : null;
+    return probes.length > 0 ? createTraceWatcher(` ${probes.join(" ")}`, ({ cycles }) => cycles + 1) : null;
   }
-  if (goal.kind === "when") return goal.searchCondition ? conditionWatcher(goal.searchCondition) : null;
+  if (goal.kind === "when") return goal.searchCondition ? createConditionWatcher(goal.searchCondition) : null;
   const [regs] = engine.ask(file, "regs\n").answers;
   const { counter, isSecondCyclePending } = parseCounter(regs);
-  if (goal.kind === "count") return countWatcher(goal.count, isSecondCyclePending);
-  if (goal.kind === "out") return isInSubroutine(regs, readCodes()) ? returnWatcher(readCodes(), -1) : null;
-  return isSecondCyclePending || !isCall(readCodes()[counter]) ? countWatcher(1, isSecondCyclePending) : returnWatcher(readCodes(), 0);
+  if (goal.kind === "count") return createInstructionCountWatcher(goal.count, isSecondCyclePending);
+  if (goal.kind === "out") return isInSubroutine(regs, readCodes()) ? createReturnWatcher(readCodes(), -1) : null;
+  if (isSecondCyclePending || !isCall(readCodes()[counter])) return createInstructionCountWatcher(1, isSecondCyclePending);
+  return createReturnWatcher(readCodes(), 0);
 }

@@ -32,7 +32,7 @@ class LastArrivalFinder {
   constructor(session, breakpoints) {
     this.engine = session.engine;
     this.arrivals = new Arrivals(breakpoints);
-    /** The cycle count and the program counter at present. An arrival at the present moment does not count. */
+    /** The cycle count and the program counter at present. An arrival at the present moment is ignored. */
     this.presentMoment = { total: session.count.total, counter: parseCounter(session.ask("regs\n")[0]).counter };
     this.fileCopy = new Uint8Array(0);
     this.totalCycles = 0;
@@ -73,8 +73,8 @@ class LastArrivalFinder {
         continue;
       }
       const cyclesBefore = this.totalCycles;
-      arrivals.run(engine, fileCopy, { lines, count: answerCount, cycles }, (_, row, cyclesRun) => {
-        const breakpoint = arrivals.breakpointAt(row);
+      arrivals.runWithBreakpoints(engine, fileCopy, { lines, count: answerCount, cycles }, (_, row, cyclesRun) => {
+        const breakpoint = arrivals.findBreakpoint(row);
         const isNow = cyclesBefore + cyclesRun === presentMoment.total
           && breakpoint !== null && breakpoint.address === presentMoment.counter;
         if (breakpoint && !isNow) {
@@ -99,8 +99,8 @@ class LastArrivalFinder {
 function laterResult(first, second) {
   if (!first || !second) return first || second;
   const [a, b] = [first, second].map(({ moment }) => moment || { segment: -1, entry: -1, cycles: -1 });
-  const isLater = [b.segment - a.segment, b.entry - a.entry, b.cycles - a.cycles].find((difference) => difference !== 0) || 0;
-  return isLater > 0 ? second : first;
+  const order = [b.segment - a.segment, b.entry - a.entry, b.cycles - a.cycles].find((difference) => difference !== 0) || 0;
+  return order > 0 ? second : first;
 }
 
 /**
@@ -116,14 +116,15 @@ function combineFinders(finders) {
 }
 
 /**
- * The places to search in addition to the places that the bench watches: `place` ("" for none), and the places of the data watches.
+ * The places whose changes are searched for, in addition to those that the bench watches: `place` ("" for none), and the places of the data
+ * watches.
  * @typedef {{ place: string, watches?: import("./data_watches.js").DataWatches }} ExtraWatches
  */
 
 /**
  * Finds the last arrival at a breakpoint, or the last change of a watched place, before the present. Resolves to a search result with that
- * moment, or with the start of the stored past if neither happened. The result has a `reason` instead if the board lacks the place, or if
- * no past is stored.
+ * moment, or with the start of the stored past if there is no such moment. The result has a `reason` instead if the board lacks the place,
+ * or if no past is stored.
  * @param {WorkerSession} session
  * @param {SoftBreakpoint[]} breakpoints the breakpoints that stop the machine
  * @param {ExtraWatches} extraWatches

@@ -2,7 +2,7 @@
 // made. A step is one instruction, or a call that the user stepped over.
 //
 //     const changes = new LineChanges();
-//     changes.addPause(machineState, cycles, map);   at a pause; `cycles` is the total cycle count of the session
+//     changes.recordPause(machineState, cycles, map);   at a pause; `cycles` is the total cycle count of the session
 //     changes.lines                              Map { 12 => "acc 5 cy 1" }, newest line last
 
 import { splitStatement } from "../text/assembly.js";
@@ -18,8 +18,8 @@ const MAX_LINES = 8;
 const MAX_CHANGES = 6;
 
 /**
- * Describes the values that changed between two pauses: their names and new values. Lists at most MAX_CHANGES values, then the number of
- * the others.
+ * Describes the values that changed between two pauses: their names and new values. Lists at most MAX_CHANGES values, and then says how
+ * many values are left out.
  * @param {MachineState} before
  * @param {MachineState} after
  */
@@ -70,12 +70,13 @@ export class LineChanges {
   }
 
   /**
-   * Adds the changes since the last pause, if they were made by one step. Otherwise removes all changes, unless the machine has not run.
+   * If the machine has made one step since the last pause, adds the changes that the step made. If the machine has run in another way,
+   * removes all changes.
    * @param {MachineState} machineState the state at the pause
    * @param {number} cycles the total cycle count of the session at the pause
    * @param {SourceMap | null} map the source map of the program in ROM; null if the source is unknown
    */
-  addPause(machineState, cycles, map) {
+  recordPause(machineState, cycles, map) {
     const { lastState } = this;
     const elapsedCycles = cycles - this.lastCycles;
     this.lastState = machineState;

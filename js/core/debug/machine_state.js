@@ -1,4 +1,4 @@
-// Parses the machine state in a snapshot: registers, RAM, ports, and the selection by SRC. A snapshot contains the answers to `state`, and
+// Parses the machine state in a snapshot: registers, RAM, ports, and what SRC has selected. A snapshot contains the answers to `state`, and
 // to `ram B` for each bank B.
 
 import { readRam } from "../bench/answers.js";

@@ -22,17 +22,17 @@ function romLevels(chip, machineState, { roms }) {
   const port = machineState.romPort(chip);
   const rom = roms.find((romChip) => Number(romChip.chip) === chip);
   if (!port || !rom) return 0;
-  const inputs = indices(4).reduce((sum, line) => sum + (rom.port[3 - line] === "i" ? 2 ** line : 0), 0);
-  return (parseInt(port.out, 16) & ~inputs) | (parseInt(port.in, 16) & inputs);
+  const inputMask = indices(4).reduce((sum, line) => sum + (rom.port[3 - line] === "i" ? 2 ** line : 0), 0);
+  return (parseInt(port.out, 16) & ~inputMask) | (parseInt(port.in, 16) & inputMask);
 }
 
 /**
- * Returns the value of an index register, or of a place without a number in its name; undefined for any other place.
+ * Returns the value of an index register, or of a place whose name has no number; undefined for any other place.
  * @param {string} place
  * @param {MachineState} machineState
  * @returns {string | undefined}
  */
-function registerValue(place, machineState) {
+function valueOfSimplePlace(place, machineState) {
   const { registers, parts, ports } = machineState;
   const registerMatch = /^r(\d+)$/.exec(place);
   if (registerMatch) return machineState.register(Number(registerMatch[1]));
@@ -58,8 +58,8 @@ function registerValue(place, machineState) {
  * @param {Board} board
  */
 export function readPlaceValue(place, machineState, board) {
-  const registerText = registerValue(place, machineState);
-  if (registerText !== undefined) return registerText;
+  const simpleValue = valueOfSimplePlace(place, machineState);
+  if (simpleValue !== undefined) return simpleValue;
   const [word, ...numberWords] = place.split(".");
   const numbers = numberWords.map(parseNumber);
   const romMatch = /^rom(\d+)$/.exec(word);

@@ -9,14 +9,12 @@ import * as say from "../../words/debug.js";
 /**
  * @typedef {import("../bench/answers.js").Board} Board
  * @typedef {import("./common_mistakes.js").Kind} Kind
- * @typedef {{ kind: Kind, message: string }} SelectionMistake a mistake: its kind, and a message
+ * @typedef {{ kind: Kind, message: string }} SelectionMistake a mistake: its kind and its message
  */
 
-/**
- * The mnemonics of the instructions that write to a RAM bank, by opcode. Also the opcodes of the instructions that read from a RAM bank.
- */
-const RAM_WRITES = new Map([[0xE0, "WRM"], [0xE1, "WMP"], [0xE4, "WR0"], [0xE5, "WR1"], [0xE6, "WR2"], [0xE7, "WR3"]]);
-const RAM_READS = new Set([0xE8, 0xE9, 0xEB, 0xEC, 0xED, 0xEE, 0xEF]);
+/** The instructions that write to a RAM bank (mnemonics, by opcode) and those that read from a RAM bank (opcodes). */
+const RAM_WRITE_MNEMONICS = new Map([[0xE0, "WRM"], [0xE1, "WMP"], [0xE4, "WR0"], [0xE5, "WR1"], [0xE6, "WR2"], [0xE7, "WR3"]]);
+const RAM_READ_CODES = new Set([0xE8, 0xE9, 0xEB, 0xEC, 0xED, 0xEE, 0xEF]);
 
 /**
  * Returns whether an instruction is SRC.
@@ -27,7 +25,7 @@ function isSrc(code) {
 }
 
 /**
- * Returns whether an instruction is SRC, or uses the selection by SRC.
+ * Returns whether an instruction is SRC, or uses the chip that SRC has selected.
  * @param {number} code
  */
 export function usesSelection(code) {
@@ -38,7 +36,7 @@ export function usesSelection(code) {
 export class SrcSelection {
   /** @param {Board} board */
   constructor(board) {
-    /** @type {Map<number, string>} the port masks of the ROMs, by chip number */
+    /** @type {Map<number, string>} the directions of the port lines of the ROMs, such as `iioo`, by chip number */
     this.portMasks = new Map(board.roms.map(({ chip, port }) => [Number(chip), port]));
     /** @type {Map<number, number>} the number of chips, by bank */
     this.chipCounts = new Map(board.banks.map(({ bank, chips }) => [Number(bank), Number(chips)]));
@@ -74,7 +72,7 @@ export class SrcSelection {
       this.latchedBytes.set(parseNumber(bank), parseInt(srcByte, 16));
       this.srcAddress = address;
       this.instructionKinds.clear();
-    } else if (RAM_WRITES.has(code) || RAM_READS.has(code)) this.instructionKinds.add("RAM");
+    } else if (RAM_WRITE_MNEMONICS.has(code) || RAM_READ_CODES.has(code)) this.instructionKinds.add("RAM");
     else if (code === WRR || code === RDR) {
       this.instructionKinds.add(code === WRR ? "WRR" : "RDR");
       this.lastChips.set(address, parseInt(srcByte[0], 16));
@@ -90,7 +88,7 @@ export class SrcSelection {
    */
   findMistake(code, address, [srcByte, bank]) {
     if (code === WRR || code === RDR) return this.findPortMistake(code === WRR ? "WRR" : "RDR", address, parseInt(srcByte[0], 16));
-    const name = RAM_WRITES.get(code);
+    const name = RAM_WRITE_MNEMONICS.get(code);
     return name ? this.findRamMistake(name, parseNumber(bank)) : null;
   }
 
@@ -115,7 +113,7 @@ export class SrcSelection {
     return { kind: "source", message: say.srcWasForMessage(message, otherKind) };
   }
 
-  /** A part of a message that names the address of the last SRC; "" before the first SRC. */
+  /** The suffix of a message, with the address of the last SRC; "" before the first SRC. */
   get lastSrcText() {
     return this.srcAddress < 0 ? "" : say.lastSrcSuffix(hex(this.srcAddress, 3));
   }

@@ -58,7 +58,7 @@ export async function planTypedLines(engine, file, stopFinder, lines, shouldCont
       const { id, reason, change } = events;
       if (events.cycles >= 0) [servedLines, plan.cutLine] = [`run ${events.cycles}\n`, input.line.trim()];
       if (events.cycles >= 0) Object.assign(plan, { id, reason, change });
-      stopFinder.count(events);
+      stopFinder.countEvents(events);
       plan.runs.push({ events, cyclesBefore: doneCycles });
       const run = readRun(engine.serve(copy, servedLines, copy).answers[0]);
       doneCycles += run ? run.cycles : 0;

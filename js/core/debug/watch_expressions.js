@@ -38,7 +38,7 @@ const MAX_DECIMAL_ONLY_VALUE = 9;
  * @param {(machineState: MachineState) => string} readValue returns the value in a machine state, "" if the board lacks the place
  * @returns {ValueReader}
  */
-function editableReader(place, readValue) {
+function editablePlaceReader(place, readValue) {
   return (machineState) => {
     const text = readValue(machineState);
     return text === "" ? [say.BOARD_LACKS_IT] : [{ place, name: place, value: text }];
@@ -49,7 +49,7 @@ function editableReader(place, readValue) {
  * @type {Record<string, (machineState: MachineState) => string>} functions that return the accumulator, the carry or the selected bank, by
  *   place name
  */
-const REGISTERS = {
+const REGISTER_READERS = {
   acc: ({ registers }) => registers.accumulator, cy: ({ registers }) => registers.carry, dcl: ({ registers }) => registers.bank,
 };
 
@@ -59,9 +59,9 @@ const REGISTERS = {
  * @returns {ValueReader | null}
  */
 function registerReader(place) {
-  if (Object.prototype.hasOwnProperty.call(REGISTERS, place)) return editableReader(place, REGISTERS[place]);
+  if (Object.prototype.hasOwnProperty.call(REGISTER_READERS, place)) return editablePlaceReader(place, REGISTER_READERS[place]);
   const registerMatch = /^r(\d+)$/.exec(place);
-  if (registerMatch) return editableReader(place, (machineState) => machineState.register(Number(registerMatch[1])));
+  if (registerMatch) return editablePlaceReader(place, (machineState) => machineState.register(Number(registerMatch[1])));
   const pairMatch = /^p(\d)$/.exec(place);
   if (!pairMatch) return null;
   const halves = [0, 1].map((half) => 2 * Number(pairMatch[1]) + half);
@@ -76,8 +76,8 @@ function registerReader(place) {
 function memoryReader(place) {
   const [kind, ...numberTexts] = place.split(".");
   const [bank, byteOrRegister, statusNumber] = numberTexts.map(Number);
-  if (kind === "ram") return editableReader(place, (machineState) => machineState.character(bank, byteOrRegister));
-  return kind === "st" ? editableReader(place, (machineState) => machineState.status(bank, byteOrRegister, statusNumber)) : null;
+  if (kind === "ram") return editablePlaceReader(place, (machineState) => machineState.character(bank, byteOrRegister));
+  return kind === "st" ? editablePlaceReader(place, (machineState) => machineState.status(bank, byteOrRegister, statusNumber)) : null;
 }
 
 /**
@@ -106,7 +106,7 @@ function portReader(place) {
  * @param {import("../conditions/places.js").Place} place
  * @returns {ValueReader}
  */
-function placeReader(place) {
+function readOnlyPlaceReader(place) {
   return (machineState, { board }) => {
     const probes = place.probesOn(board);
     return [probes.length === 0 ? say.BOARD_LACKS_IT : place.textOf(probes.map((probe) => readPlaceValue(probe, machineState, board)))];
@@ -179,7 +179,7 @@ export function parseWatch(text, names = null) {
   if (error) return { watch: null, error };
   const placeName = place ? place.name : "";
   const readPieces = registerReader(placeName) || portReader(placeName) || memoryReader(placeName)
-    || (place ? placeReader(place) : expressionReader(expression));
+    || (place ? readOnlyPlaceReader(place) : expressionReader(expression));
   const character = /^(ram|st)\./.test(placeName) ? placeName : "";
   const watchText = name ? `${name} = ${expression}` : expression;
   return { watch: { name: name || expression, text: watchText, place: character, expression, readPieces }, error: "" };

@@ -1,7 +1,7 @@
 // Describes the current value of a word in the source. The word is a register, a register pair, an instruction that uses a RAM character, a
 // number or a label. A description is a list of pieces: strings, and values that the user can edit.
 //
-//     joinPieces(valuesAt("        SRC P2", 13, machineState, names))     "P2 = 60: R4 6, R5 0; selects ROM 6; bank 0, chip 1, .."
+//     joinPieces(valuePieces("        SRC P2", 13, machineState, names))     "P2 = 60: R4 6, R5 0; selects ROM 6; bank 0, chip 1, .."
 
 import { hex, parseNumber } from "../bench/numbers.js";
 import { NUMBER, PAIR, REGISTER, splitStatement, wordAt } from "../text/assembly.js";
@@ -45,7 +45,7 @@ export function joinPieces(pieces) {
  * @param {MachineState} machineState
  * @returns {EditableValue}
  */
-function registerValue(number, machineState) {
+function editableRegister(number, machineState) {
   return { place: `r${number}`, name: `R${number}`, value: machineState.register(number) };
 }
 
@@ -56,7 +56,7 @@ function registerValue(number, machineState) {
  * @param {MachineState} machineState
  * @returns {EditableValue}
  */
-function accumulatorOrCarryValue(place, name, { registers }) {
+function editableAccumulatorOrCarry(place, name, { registers }) {
   return { place, name, value: place === "acc" ? registers.accumulator : registers.carry };
 }
 
@@ -82,10 +82,10 @@ function characterPieces(bank, byte, machineState) {
  */
 function selectionPieces(byte, machineState) {
   const chip = byte >> 4;
-  const rom = machineState.romPort(chip) ? [say.romChip(chip)] : [];
+  const roms = machineState.romPort(chip) ? [say.romChip(chip)] : [];
   const hasRam = machineState.latchedSrcByte() !== undefined;
-  if (!hasRam) return rom.length > 0 ? rom : [say.NOTHING_THERE];
-  return [...rom.map((description) => `${description}; `), ...characterPieces(machineState.bank, byte, machineState)];
+  if (!hasRam) return roms.length > 0 ? roms : [say.NOTHING_THERE];
+  return [...roms.map((description) => `${description}; `), ...characterPieces(machineState.bank, byte, machineState)];
 }
 
 /**
@@ -98,23 +98,23 @@ function selectionPieces(byte, machineState) {
  */
 function registerPieces(word, { head }, machineState) {
   const number = Number(word.slice(1));
-  if (!PAIR.test(word)) return [`R${number} = `, registerValue(number, machineState)];
+  if (!PAIR.test(word)) return [`R${number} = `, editableRegister(number, machineState)];
   const byte = machineState.pair(number);
   /** @type {Piece[]} */
-  const pieces = [`P${number} = ${byte}: R${2 * number} `, registerValue(2 * number, machineState), `, R${2 * number + 1} `,
-    registerValue(2 * number + 1, machineState)];
+  const pieces = [`P${number} = ${byte}: R${2 * number} `, editableRegister(2 * number, machineState), `, R${2 * number + 1} `,
+    editableRegister(2 * number + 1, machineState)];
   if (!head || head.text.toUpperCase() !== "SRC") return pieces;
   return [...pieces, say.SELECTS, ...selectionPieces(parseInt(byte, 16), machineState)];
 }
 
 /**
- * Describes the port or character that an instruction accesses, as selected by SRC. Returns no pieces for an instruction that accesses
- * neither.
+ * Describes the port or character that SRC has selected for an instruction. Returns no pieces if the instruction accesses no port and no
+ * character.
  * @param {string} name the upper-case mnemonic
  * @param {MachineState} machineState
  * @returns {Piece[]}
  */
-function selectedPieces(name, machineState) {
+function accessedPieces(name, machineState) {
   const { bank } = machineState;
   if (name === "WRR" || name === "RDR") {
     const chip = machineState.romSrcByte >> 4;
@@ -129,12 +129,12 @@ function selectedPieces(name, machineState) {
     const output = machineState.ramPort(bank, byte >> 6);
     return [say.portOfRam(bank, byte >> 6, output)];
   }
-  const status = STATUS_INSTRUCTION.exec(name);
-  if (!status) return [];
-  const description = say.statusAt(bank, byte >> 6, byte >> 4 & 3, status[1]);
-  const value = machineState.status(bank, byte >> 4, Number(status[1]));
+  const statusMatch = STATUS_INSTRUCTION.exec(name);
+  if (!statusMatch) return [];
+  const description = say.statusAt(bank, byte >> 6, byte >> 4 & 3, statusMatch[1]);
+  const value = machineState.status(bank, byte >> 4, Number(statusMatch[1]));
   if (value === "") return [say.boardLacks(description)];
-  return [`${description} = `, { place: `st.${bank}.${byte >> 4}.${status[1]}`, name: description, value }];
+  return [`${description} = `, { place: `st.${bank}.${byte >> 4}.${statusMatch[1]}`, name: description, value }];
 }
 
 /**
@@ -148,11 +148,11 @@ function selectedPieces(name, machineState) {
 function instructionPieces(name, description, parts, machineState) {
   const [operand] = parts.operands;
   if (name === "SRC" && operand && PAIR.test(operand.text)) return registerPieces(operand.text, parts, machineState);
-  const pieces = selectedPieces(name, machineState);
+  const pieces = accessedPieces(name, machineState);
   if (!ACCUMULATOR_WORD.test(description)) return pieces;
   /** @type {Piece[]} */
   const accumulatorPieces = [
-    "acc ", accumulatorOrCarryValue("acc", "acc", machineState), ", cy ", accumulatorOrCarryValue("cy", "cy", machineState)];
+    "acc ", editableAccumulatorOrCarry("acc", "acc", machineState), ", cy ", editableAccumulatorOrCarry("cy", "cy", machineState)];
   return pieces.length > 0 ? [...pieces, "; ", ...accumulatorPieces] : accumulatorPieces;
 }
 
@@ -180,7 +180,7 @@ function numberPieces(numberText, value, { head }, machineState) {
  * @param {WordLookup} lookup
  * @returns {Piece[]}
  */
-export function valuesAt(text, index, machineState, { nameOf, describeInstruction }) {
+export function valuePieces(text, index, machineState, { nameOf, describeInstruction }) {
   const word = wordAt(text, index);
   const parts = splitStatement(text);
   if (!word || word.from >= parts.comment) return [];

@@ -2,7 +2,7 @@
 // text, the bench checks the resulting text. The drawing shows the board that the bench reports.
 
 import { readBoard, parseRefusal } from "../bench/answers.js";
-import { boardLines } from "../bench/board_form.js";
+import { signalLines } from "../bench/board_form.js";
 import { formatQuantity } from "../bench/numbers.js";
 import { Face } from "../board/face.js";
 import { sentText } from "../text/sendable_text.js";
@@ -155,8 +155,8 @@ export class Drawing {
     if (kind === "buzzer") return Boolean(board.buzzer);
     if (kind === "rom") return board.roms.some(({ chip }) => String(chip) === number);
     if (kind === "chain") return Number(number) < board.chains.length;
-    if (kind === "ram") return boardLines(board).some((line) => line.name.startsWith(`ram${number}.`));
-    return inputLines(board).has(name) || boardLines(board).some((line) => line.name === name);
+    if (kind === "ram") return signalLines(board).some((line) => line.name.startsWith(`ram${number}.`));
+    return inputLines(board).has(name) || signalLines(board).some((line) => line.name === name);
   }
 
   /** The pins at which the unfinished wire can end; none if there is no unfinished wire. */

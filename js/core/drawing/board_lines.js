@@ -2,7 +2,7 @@
 // connections are allowed; a unit test compares this module with the bench for each pair of a line and an input. Only the front panel
 // defines a buzzer. Like a lamp, a buzzer is connected to one signal line.
 
-import { BITS_PER_CHIP, boardLines } from "../bench/board_form.js";
+import { BITS_PER_CHIP, signalLines } from "../bench/board_form.js";
 import { indices } from "../bench/numbers.js";
 import { findBuzzer } from "../board/face_board.js";
 import * as say from "../../words/drawing.js";
@@ -103,7 +103,7 @@ export function canConnect({ chains, matrix }, { name, kind, isInput }, target) 
  * @returns {Target[]}
  */
 export function possibleTargets(board, name) {
-  const line = boardLines(board).find((boardLine) => boardLine.name === name);
+  const line = signalLines(board).find((boardLine) => boardLine.name === name);
   if (!line) return [];
   const targets = [...inputLines(board)].filter(([target, currentLine]) => currentLine !== name && canConnect(board, line, target));
   return targets.map(([target]) => target);
@@ -115,7 +115,7 @@ export function possibleTargets(board, name) {
  * @param {Target} target
  */
 export function possibleSources(board, target) {
-  return boardLines(board).filter((line) => canConnect(board, line, target)).map(({ name }) => name);
+  return signalLines(board).filter((line) => canConnect(board, line, target)).map(({ name }) => name);
 }
 
 /**
@@ -124,5 +124,5 @@ export function possibleSources(board, target) {
  */
 export function freeLines(board) {
   const usedLines = new Set(inputLines(board).values());
-  return boardLines(board).filter(({ name }) => !usedLines.has(name));
+  return signalLines(board).filter(({ name }) => !usedLines.has(name));
 }

@@ -1,7 +1,7 @@
 // Translates an action in the board drawing into edits of the board text. If the action is impossible, returns a message instead. Only the
 // bench decides whether the resulting text is valid.
 
-import { boardLines } from "../bench/board_form.js";
+import { signalLines } from "../bench/board_form.js";
 import { formatQuantity } from "../bench/numbers.js";
 import { Face } from "../board/face.js";
 import { BUZZER, parseChainBit, canConnect, targetName, splitTarget, inputLines } from "./board_lines.js";
@@ -91,7 +91,7 @@ function addTestPinPart(editedBoard, kind) {
  */
 function connectLine(editedBoard, name, target) {
   const { board, draft } = editedBoard;
-  const line = boardLines(board).find((boardLine) => boardLine.name === name);
+  const line = signalLines(board).find((boardLine) => boardLine.name === name);
   if (!line || !inputLines(board).has(target)) throw new ImpossibleAction(say.boardHasNoMessage(line ? target : name));
   if (!canConnect(board, line, target)) throw new ImpossibleAction(wireErrorMessage(line, target));
   const [kind, number] = splitTarget(target);

@@ -1,6 +1,6 @@
 // Finds the lines of a board text that define each part of the board drawing.
 
-import { partLines } from "../bench/part_lines.js";
+import { partLineRanges } from "../bench/part_lines.js";
 import { Face } from "../board/face.js";
 
 /**
@@ -9,7 +9,7 @@ import { Face } from "../board/face.js";
  * @param {string} text
  */
 export function drawnPartLines(text) {
-  const lines = partLines(text);
+  const lines = partLineRanges(text);
   const { test, buzzer } = new Face(text);
   if (test) lines.set("test", { from: test.line, to: test.line });
   if (buzzer) lines.set("buzzer", { from: buzzer.line, to: buzzer.line });

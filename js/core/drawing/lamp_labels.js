@@ -1,7 +1,7 @@
 // Creates the labels of lamps in the board drawing. The label of a lamp is its name. For an unnamed lamp of a display, the label is its
 // digit and its segment.
 
-import { isMultiplexed, lampNames, groupLamps } from "../board/face_board.js";
+import { isMultiplexed, lampNames, lampsOfGroup } from "../board/face_board.js";
 import { indices } from "../bench/numbers.js";
 import * as say from "../../words/drawing.js";
 
@@ -22,7 +22,7 @@ export function lampLabels(face, count) {
   for (const group of face.groups) {
     if (group.kind !== "display") continue;
     const groupLabels = displayLabels(group);
-    groupLamps(group).forEach((lamp, index) => {
+    lampsOfGroup(group).forEach((lamp, index) => {
       if (lamp < count) labels[lamp] = labels[lamp] || groupLabels[index];
     });
   }
@@ -30,7 +30,7 @@ export function lampLabels(face, count) {
 }
 
 /**
- * Returns the labels of the lamps in a display, in the order of `groupLamps`.
+ * Returns the labels of the lamps in a display, in the order of `lampsOfGroup`.
  * @param {import("../board/face.js").Group} group
  */
 function displayLabels(group) {

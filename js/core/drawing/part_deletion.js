@@ -3,7 +3,7 @@
 
 import { formatQuantity } from "../bench/numbers.js";
 import { Face } from "../board/face.js";
-import { isMultiplexed, groupLamps } from "../board/face_board.js";
+import { isMultiplexed, lampsOfGroup } from "../board/face_board.js";
 import { removeColumns, removeRows, renamePorts, renumberLamps, setLineText } from "./face_edits.js";
 import { BUZZER, splitTarget } from "./board_lines.js";
 import { displayedPartName, setRows } from "./part_addition.js";
@@ -43,7 +43,7 @@ function isLineDeleted({ roms, rams, chains }, line) {
  * @param {number} lamp
  */
 export function lampsInSameGroup(face, lamp) {
-  const groupWithLamp = face.groups.map(groupLamps).find((lamps) => lamps.includes(lamp));
+  const groupWithLamp = face.groups.map(lampsOfGroup).find((lamps) => lamps.includes(lamp));
   return groupWithLamp || [lamp];
 }
 
@@ -76,7 +76,7 @@ function addDependents(board, face, deletedParts) {
   board.lamps.forEach((line, lamp) => isLineDeleted(deletedParts, line) && deletedParts.lamps.add(lamp));
   // If one lamp of a group is deleted, all lamps of the group are deleted. The loop also visits the lamps that it adds to the set.
   for (const deletedLamp of deletedParts.lamps) {
-    const groups = face.groups.map(groupLamps).filter((lamps) => lamps.includes(deletedLamp));
+    const groups = face.groups.map(lampsOfGroup).filter((lamps) => lamps.includes(deletedLamp));
     for (const lamp of groups.flat()) if (lamp < board.lamps.length) deletedParts.lamps.add(lamp);
   }
 }

@@ -3,7 +3,7 @@
 
 import { indices } from "../bench/numbers.js";
 import { COLOURS } from "../board/face_words.js";
-import { VALUE_RANGES, boardLines } from "../bench/board_form.js";
+import { VALUE_RANGES, signalLines } from "../bench/board_form.js";
 import { displayAt, lampsInSameGroup } from "./part_deletion.js";
 import { BUZZER, targetName, possibleSources, splitTarget, inputLines } from "./board_lines.js";
 import * as say from "../../words/drawing.js";
@@ -201,7 +201,7 @@ function ramForm(face, part) {
  * @returns {SelectionForm}
  */
 function lineForm(board, name) {
-  const line = boardLines(board).find((boardLine) => boardLine.name === name);
+  const line = signalLines(board).find((boardLine) => boardLine.name === name);
   const rom = line && line.kind === "rom" ? board.roms.find(({ chip }) => name.startsWith(`rom${chip}.`)) : null;
   const isInput = line !== undefined && line.isInput;
   /** @type {Button[]} */

@@ -196,7 +196,7 @@ export function createChangeFinder(engine, file, name) {
  * @param {ShouldContinue} shouldContinue
  * @returns {Promise<BackSearchResult>}
  */
-export async function findBackTarget(engine, { timeline, file }, goal, shouldContinue) {
+export async function findPastGoal(engine, { timeline, file }, goal, shouldContinue) {
   if (goal.kind === "change") {
     const finder = createChangeFinder(engine, file, goal.place);
     if (!finder) return createSearchResult({ reason: "lacks", place: goal.place });

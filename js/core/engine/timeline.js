@@ -5,7 +5,7 @@
 // after a reload.
 
 import { CancelledError } from "../bench/bench_errors.js";
-import { stripSeq } from "../bench/state_line.js";
+import { withoutCommandCount } from "../bench/state_line.js";
 import { CycleCount } from "./accepted_commands.js";
 
 /**
@@ -276,7 +276,7 @@ export class Timeline {
   }
 
   /** Joins the last two moves back into one move, which `goForward` undoes as a whole. */
-  joinMovesBack() {
+  joinBackwardMoves() {
     if (this.future.length > 1) this.future.pop();
   }
 
@@ -316,7 +316,7 @@ function addUp(numbers) {
  * @param {Uint8Array} file
  */
 function queryState(engine, file) {
-  return stripSeq(engine.ask(file, "state\n").answers[0]);
+  return withoutCommandCount(engine.ask(file, "state\n").answers[0]);
 }
 
 /**

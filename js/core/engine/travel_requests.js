@@ -1,7 +1,7 @@
 // Requests that run the session to a goal, move the session back or forward in time, or search its past.
 
 import { readBoard } from "../bench/answers.js";
-import { nearDistance } from "../debug/debugger.js";
+import { maxNearDistance } from "../debug/debugger.js";
 import { measureHeat } from "./heat_map.js";
 
 /**
@@ -34,7 +34,7 @@ export class TravelRequests {
    * @param {number} [maxCycles]
    * @returns {Promise<GoalReply>}
    */
-  async runToGoal(goal, maxCycles = nearDistance(goal)) {
+  async runToGoal(goal, maxCycles = maxNearDistance(goal)) {
     const shouldContinue = (/** @type {number} */ done) => this.bench.shouldContinue(done, maxCycles);
     const { searchResult, result, tally } = await this.bench.debugger.runToGoal(goal, maxCycles, shouldContinue);
     if (!result) return { ...this.bench.replyWithoutServing(), searchResult, tally };

@@ -4,7 +4,7 @@
 import { CycleCount, findAcceptedCommands } from "./accepted_commands.js";
 import { linesWithQueries, splitAnswers } from "./forecast_queries.js";
 import { plannedCycles, truncateLines } from "../debug/goal_search.js";
-import { isStop, readBoard, readItems, readRun, parseRefusal } from "../bench/answers.js";
+import { isRefusalOrStop, readBoard, readItems, readRun, parseRefusal } from "../bench/answers.js";
 import { CancelledError } from "../bench/bench_errors.js";
 import { findInputEnd, joinLines, matchAnswers, readInputs } from "../bench/inputs.js";
 import { KeyQueue } from "./key_queue.js";
@@ -152,11 +152,11 @@ export class WorkerSession {
     const runEntries = servedLines.map(({ line, change }, index) => (
       { line, answer: answers[index], runs: change ? 0 : 1, cycles: cyclesOf(index) }));
     const lastAnswer = answers[answers.length - 1] || "";
-    if (isStop(lastAnswer)) this.timeline.recordStop();
+    if (isRefusalOrStop(lastAnswer)) this.timeline.recordStop();
     return {
       runEntries,
       cycles: runs.reduce((sum, run) => sum + (run ? run.cycles : 0), 0),
-      end: isStop(lastAnswer) ? lastAnswer : "",
+      end: isRefusalOrStop(lastAnswer) ? lastAnswer : "",
       changesKeys: servedLines.some((servedLine) => servedLine.change !== null),
       snapshot,
       ...measurements,
@@ -216,7 +216,7 @@ export class WorkerSession {
    */
   servePlannedLines(plannedLines) {
     let result = this.tryPlannedLines(plannedLines);
-    const stopIndex = result.answers.findIndex((answer, index) => index < plannedLines.length && isStop(answer));
+    const stopIndex = result.answers.findIndex((answer, index) => index < plannedLines.length && isRefusalOrStop(answer));
     let servedLines = plannedLines;
     if (stopIndex >= 0 && stopIndex < plannedLines.length - 1) {
       servedLines = plannedLines.slice(0, stopIndex + 1);
@@ -397,7 +397,8 @@ class LinesReport {
     this.status = status;
     this.hasChangedRom = this.hasChangedRom || inputs.some((input) => ROM_COMMANDS[input.kind]);
     // If the bench rejects a board text, the board does not change.
-    this.hasChangedBoard = this.hasChangedBoard || inputs.some((input, index) => input.kind === "wire" && !answerLists[index].some(isStop));
+    const hasWired = inputs.some((input, index) => input.kind === "wire" && !answerLists[index].some(isRefusalOrStop));
+    this.hasChangedBoard = this.hasChangedBoard || hasWired;
     const from = Math.max(0, inputs.length - MAX_ENTRIES);
     const entries = inputs.slice(from).map(({ line, text }, index) => (
       { line, textLines: text.length, answers: answerLists[from + index] }));

@@ -55,7 +55,7 @@ export function createSubject(engine, boardText, programText, linesBefore = 0) {
   const source = new SourceMap(map, programText);
   const codes = romCodes(engine, file);
   const instructions = [];
-  for (let line = 1; line <= source.count; line++) {
+  for (let line = 1; line <= source.lineCount; line++) {
     const address = source.addressOf(line);
     if (address === undefined || !source.beginsInstruction(address)) continue;
     instructions.push({ line: line + linesBefore, address, isBranch: isBranch(codes[address]) });

@@ -88,7 +88,7 @@ export function readInstructions(manual) {
  * @param {ManualSection[]} manual
  * @returns {Map<number, string>}
  */
-export function readConditions(manual) {
+export function readJcnConditions(manual) {
   const rows = sectionRows(manual, say.CONDITIONS_OF_JCN);
   return new Map(rows.flatMap(([low, ifLow, high, ifHigh]) => [[Number(low), cellText(ifLow)], [Number(high), cellText(ifHigh)]]));
 }
@@ -109,7 +109,7 @@ export function readLineForms(manual) {
  * @param {{ form: string, effect: string }[]} lines
  * @param {string} typedText
  */
-export function matchLines(lines, typedText) {
+export function findMatchingLines(lines, typedText) {
   const word = typedText.trimStart().split(/\s/)[0];
   if (word === "") return [];
   const isWordComplete = /\s/.test(typedText.trimStart());

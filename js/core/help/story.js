@@ -1,7 +1,7 @@
 // Parses the story of an example: guided text in steps, with links that run actions on the page. The first line is `# TITLE`. Each step
 // starts with `## TITLE`. Blank lines separate paragraphs. `[WORDS](ACTION)` is a link. The actions are:
 //
-//     run, stop, back, forward                runs the machine; pauses it; goes back to the previous stop; undoes the last move back
+//     run, stop, back, forward                runs the machine; pauses it; goes back to the previous stop; undoes the last `back`
 //     go to LABEL, run to LABEL               shows a line of the program; runs the machine to a line
 //     back to NAME                            goes back to the moment before the last change of, for example, r11, ram.0.0x12 or rom0.2
 //     press KEY, release KEY                  presses a key (which stays down while the machine is paused); releases a key
@@ -19,8 +19,8 @@
  */
 
 /** The views that the action `show` accepts: texts in the order of their tabs, and panels. */
-export const TEXTS = ["program", "board", "tests", "properties", "wiring", "waves"];
-export const PANELS = ["front", "processor", "listing", "memory", "ports"];
+export const STORY_TEXTS = ["program", "board", "tests", "properties", "wiring", "waves"];
+export const STORY_PANELS = ["front", "processor", "listing", "memory", "ports"];
 
 /** Matches the text of an action. Captures the name of an action without an argument, or the name and the argument. */
 const ACTION_PATTERN = /^(?:(run|stop|back|forward)|(go to|run to|back to|press|release|show) ([^ ]+))$/;
@@ -36,7 +36,7 @@ function parseAction(words) {
   const match = ACTION_PATTERN.exec(words);
   if (!match) return null;
   const [, simpleName, name, argument = ""] = match;
-  if (name === "show" && !TEXTS.includes(argument) && !PANELS.includes(argument)) return null;
+  if (name === "show" && !STORY_TEXTS.includes(argument) && !STORY_PANELS.includes(argument)) return null;
   return { name: /** @type {ActionName} */ (simpleName || name), argument };
 }
 

@@ -1,6 +1,6 @@
 // Runs the actions of the links in a story, the guided text of an example. Each action calls a function of the page.
 
-import { TEXTS } from "./story.js";
+import { STORY_TEXTS } from "./story.js";
 import * as say from "../../words/help.js";
 
 /**
@@ -21,7 +21,7 @@ import * as say from "../../words/help.js";
  * @property {(goal: Goal) => Promise<void>} runToGoal Runs the machine to a goal. Resolves when a near goal is reached. If the goal is far
  *   away, resolves when the machine has started.
  * @property {(goal: BackGoal) => Promise<void>} goBack Goes back in time to a goal. Resolves when the session is at the goal.
- * @property {() => Promise<void>} goForward Undoes the last move back: returns to the moment from which that move started.
+ * @property {() => Promise<void>} goForward Undoes the last backward move: returns to the moment from which that move started.
  * @property {(address: number) => void} goTo Shows an address in the source and in the listing.
  * @property {() => boolean} isRunning Returns whether the machine runs; while it runs, key changes are queued.
  * @property {(key: BoardKey) => boolean} isDown Returns whether a key will be down after all queued changes.
@@ -44,7 +44,7 @@ async function callWithAddress(label, callbacks, callback) {
 }
 
 /**
- * Calls a function with the key that has a legend. Returns an error message, or "" if there is none.
+ * Calls a function with the key whose text is `legend`. Returns an error message, or "" if there is none.
  * @param {string} legend
  * @param {ActionCallbacks} callbacks
  * @param {(key: BoardKey) => unknown} callback
@@ -71,11 +71,12 @@ const ACTIONS = {
   press: async (argument, callbacks) => callWithKey(argument, callbacks, (key) => (
     (callbacks.isRunning() || !callbacks.isDown(key)) && callbacks.press(key))),
   release: async (argument, callbacks) => callWithKey(argument, callbacks, (key) => callbacks.isDown(key) && callbacks.press(key)),
-  show: (argument, callbacks) => perform(() => (TEXTS.includes(argument) ? callbacks.showText(argument) : callbacks.showPanel(argument))),
+  show: (argument, callbacks) => perform(() => (
+    STORY_TEXTS.includes(argument) ? callbacks.showText(argument) : callbacks.showPanel(argument))),
 };
 
 /**
- * Calls the function for an action whose argument needs no check. Always resolves to "", which means that there is no error.
+ * Calls the function of an action that cannot fail. Always resolves to "", which means that there is no error.
  * @param {() => unknown} callback
  */
 async function perform(callback) {

@@ -92,8 +92,8 @@ export class RecentHeat {
 }
 
 /**
- * Adds newer changes to a map of changes by nibble.
- * @param {Map<string, HeatCell & { changeCycle: number }>} changes
+ * Adds newer changes to the changes of each nibble.
+ * @param {Map<string, HeatCell & { changeCycle: number }>} changes the changes, by place of the nibble
  * @param {(HeatCell & { changeCycle: number })[]} newChanges
  */
 function addChanges(changes, newChanges) {
@@ -123,7 +123,7 @@ function describeLastChange(cell, map) {
  * Returns a number of times as text, such as `once`.
  * @param {number} count
  */
-function formatTimes(count) {
+function formatOccurrences(count) {
   return count === 1 ? say.ONCE : say.manyTimes(count.toLocaleString("en"));
 }
 
@@ -133,7 +133,7 @@ function formatTimes(count) {
  * @param {SourceMap | null} map
  */
 export function describeChanges(cell, map) {
-  return `${formatTimes(cell.count)}${cell.count === 1 ? "" : say.LAST_CHANGE} ${describeLastChange(cell, map)}`;
+  return `${formatOccurrences(cell.count)}${cell.count === 1 ? "" : say.LAST_CHANGE} ${describeLastChange(cell, map)}`;
 }
 
 /**
@@ -143,7 +143,7 @@ export function describeChanges(cell, map) {
  * @param {SourceMap | null} map
  */
 export function describeChangesWhileRunning(cell, map) {
-  return say.changesSeenRunning(formatTimes(cell.count), describeCause(cell, map));
+  return say.changesSeenRunning(formatOccurrences(cell.count), describeCause(cell, map));
 }
 
 /**
@@ -156,7 +156,8 @@ export function describeHeatStatus({ chipCount }, countsAllCycles) {
 }
 
 /**
- * Returns the summary of a heat map: the period, the number of changed nibbles, and the nibbles that changed most often and last.
+ * Returns the summary of a heat map: the period, the number of changed nibbles, the nibble that changed most often, and the nibble that
+ * changed last.
  * @param {Heat} heat
  * @param {number} requestedCycles the length of the period for which the user asked
  * @param {(place: string) => string} nameOf returns the name of a nibble
@@ -169,6 +170,6 @@ export function describeHeat({ cycles, cells }, requestedCycles, nameOf, map) {
   const mostChanged = cells.reduce((one, other) => (other.count > one.count ? other : one));
   if (cells.length === 1) return say.oneChangeMessage(period, nameOf(mostChanged.place), describeChanges(mostChanged, map));
   const lastChanged = cells.reduce((one, other) => (other.cyclesAgo < one.cyclesAgo ? other : one));
-  const mostFrequentText = say.mostFrequentChange(nameOf(mostChanged.place), formatTimes(mostChanged.count));
+  const mostFrequentText = say.mostFrequentChange(nameOf(mostChanged.place), formatOccurrences(mostChanged.count));
   return say.manyChangesMessage(period, cells.length, mostFrequentText, nameOf(lastChanged.place), describeLastChange(lastChanged, map));
 }

@@ -30,7 +30,7 @@ const MAX_TRIES = 4;
  * @param {number} rows the number of visible lines
  */
 export function listingStarts({ from, anchor }, rows) {
-  // At the end of ROM, the last lines fill the view. Each line has one or two bytes.
+  // Near the end of ROM, the listing starts early enough to fill the view, even if each line has two bytes.
   const base = Math.min(from, ADDRESS_COUNT - 2 * rows) - BYTES_BEFORE;
   const starts = indices(MAX_TRIES).map((offset) => Math.max(0, base + offset));
   if (anchor !== null) starts.push(anchor);

@@ -36,7 +36,7 @@ function formatByteRows(address, bytes, source) {
  * @param {number} address
  * @param {SourceMap} map
  */
-function formatTextBefore(line, address, map) {
+function formatTextBeforeSource(line, address, map) {
   const code = line.replace(/;.*/, "").replace(/[ \t]/g, "");
   if (LABEL_LINE.test(code)) return hex(address, 3);
   const [, name = ""] = NAME_DEFINITION.exec(code) || [];
@@ -53,7 +53,7 @@ function formatSourceRows(text, map, bytes) {
   return text.replace(/\n$/, "").split("\n").flatMap((line, index) => {
     const source = line.replace(/\t/g, TAB);
     const address = map.addressOf(index + 1);
-    if (address === undefined) return [formatRow(formatTextBefore(line, map.addresses[index + 1], map), source)];
+    if (address === undefined) return [formatRow(formatTextBeforeSource(line, map.addresses[index + 1], map), source)];
     return formatByteRows(address, [...bytes.subarray(address, address + map.sizes[index + 1])], source);
   });
 }
@@ -76,6 +76,6 @@ export function programNames(map, onlyLabels) {
  * @param {Int16Array} bytes the bytes, by address
  */
 export function programListing(text, map, bytes) {
-  const names = programNames(map, false).map(({ name, value }) => formatRow(name, value));
-  return [...formatSourceRows(text, map, bytes), ...(names.length > 0 ? ["", ...names] : [])];
+  const nameRows = programNames(map, false).map(({ name, value }) => formatRow(name, value));
+  return [...formatSourceRows(text, map, bytes), ...(nameRows.length > 0 ? ["", ...nameRows] : [])];
 }

@@ -43,7 +43,7 @@ export function nibbleNames({ banks }, watchExpressions, map) {
     const currentNames = names.get(place) || [];
     if (!currentNames.includes(name)) names.set(place, [...currentNames, name]);
   };
-  // If a watch expression has no name, its `name` has the form `ram.0.0x12`, which is not a word.
+  // If the user gave a watch expression no name, its `name` is a place such as `ram.0.0x12`.
   for (const { name, place } of watchExpressions) if (place !== "" && /^\w+$/.test(name)) add(place, name);
   for (const { name, byte } of map ? namedSrcBytes(map) : []) {
     for (const { bank, chips } of banks) if (byte < chips * 64) add(`ram.${bank}.0x${hex(byte, 2)}`, name);

@@ -21,7 +21,7 @@ const JMS_DIGIT = "5";
  * Returns the address of the JMS before a return address.
  * @param {number} address
  */
-export function callAddress(address) {
+export function addressOfCall(address) {
   return (address - JMS_BYTES) & LAST_ADDRESS;
 }
 
@@ -32,12 +32,12 @@ export function callAddress(address) {
  * @param {SourceMap | null} map the source map of the program in ROM; null if unknown
  */
 export function findLiveReturns(addresses, bytes, map) {
-  const firstStale = addresses.findIndex((address, index) => {
-    const call = callAddress(address);
+  const firstStaleIndex = addresses.findIndex((address, index) => {
+    const call = addressOfCall(address);
     const isInProgram = map !== null && map.lineOf(call) > 0;
     return bytes[index][0] !== JMS_DIGIT || (isInProgram && !map.beginsInstruction(call));
   });
-  return addresses.map((_, index) => firstStale < 0 || index < firstStale);
+  return addresses.map((_, index) => firstStaleIndex < 0 || index < firstStaleIndex);
 }
 
 /**
@@ -46,10 +46,10 @@ export function findLiveReturns(addresses, bytes, map) {
  * @param {SourceMap | null} map
  * @returns {AddressNote}
  */
-export function describeCounter(address, map) {
+export function describeProgramCounter(address, map) {
   const line = map ? map.lineOf(address) : 0;
   if (!map || line === 0) return { isLive: true, description: "", title: "" };
-  return { isLive: true, description: joinWords([map.nameOf(address), lineReference(line)]), title: map.sourceLines[line - 1].trim() };
+  return { isLive: true, description: joinWithCommas([map.nameOf(address), lineReference(line)]), title: map.sourceLines[line - 1].trim() };
 }
 
 /**
@@ -61,15 +61,15 @@ export function describeCounter(address, map) {
  */
 export function describeReturn(address, isLive, map) {
   if (!isLive) return { isLive, description: say.STALE_RETURN, title: say.NO_CALL_WAITS };
-  const line = map ? map.lineOf(callAddress(address)) : 0;
+  const line = map ? map.lineOf(addressOfCall(address)) : 0;
   if (!map || line === 0) return { isLive, description: "", title: "" };
-  return { isLive, description: joinWords([map.nameOf(address), say.callInLine(line)]), title: map.sourceLines[line - 1].trim() };
+  return { isLive, description: joinWithCommas([map.nameOf(address), say.callInLine(line)]), title: map.sourceLines[line - 1].trim() };
 }
 
 /**
  * Joins the non-empty strings with commas.
  * @param {string[]} texts
  */
-function joinWords(texts) {
+function joinWithCommas(texts) {
   return texts.filter((word) => word !== "").join(", ");
 }

@@ -79,7 +79,7 @@ export class SourceMap {
   }
 
   /** The number of program lines. */
-  get count() {
+  get lineCount() {
     return Math.max(0, this.addresses.length - 1);
   }
 

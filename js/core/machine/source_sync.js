@@ -1,5 +1,5 @@
-// Keeps the source editor in step with the machine. If the source is the program in ROM, the editor marks the next line, and addresses have
-// names. The page compares the source with ROM again after each change of the source or of ROM.
+// Keeps the source editor in step with the machine. If the source is the program in ROM, the editor marks the line of the next instruction,
+// and the page shows the names of addresses. The page compares the source with ROM again after each change of the source or of ROM.
 
 import { hex } from "../bench/numbers.js";
 import { SourceMap } from "./source_map.js";
@@ -88,7 +88,7 @@ export class SourceSync {
     this.lastResult = result;
     const map = new SourceMap(result.map, text);
     this.mismatch = this.findMismatch(result, map);
-    this.map = this.mismatch === "" && map.count > 0 ? map : null;
+    this.map = this.mismatch === "" && map.lineCount > 0 ? map : null;
     this.editor.showAddresses(listLineAddresses(map));
     this.callbacks.onChange(this.map, this.mismatch);
   }

@@ -1,9 +1,9 @@
-// While the session is paused, provides the values of words in the source, and the changes that the last executed lines have made. Reads
-// both from the last snapshot of the session.
+// While the session is paused, reads the values of words in the source from the last snapshot of the session. Also reads the changes that
+// the last executed source lines have made.
 
 import { LineChanges } from "../debug/line_changes.js";
 import { MachineState } from "../debug/machine_state.js";
-import { valuesAt } from "../debug/word_values.js";
+import { valuePieces } from "../debug/word_values.js";
 
 /**
  * @typedef {import("../debug/word_values.js").WordLookup} WordLookup
@@ -62,7 +62,7 @@ export class SourceValues {
    */
   valueAt(text, column) {
     const { machineState } = this;
-    return machineState ? valuesAt(text, column, machineState, this.callbacks) : [];
+    return machineState ? valuePieces(text, column, machineState, this.callbacks) : [];
   }
 
   /**
@@ -74,7 +74,7 @@ export class SourceValues {
     this.isRunning = this.callbacks.isRunning();
     if (this.isRunning && wasRunning) return;
     const { machineState } = this;
-    if (machineState) this.changes.addPause(machineState, cycles, this.callbacks.map());
+    if (machineState) this.changes.recordPause(machineState, cycles, this.callbacks.map());
     this.callbacks.showLines(machineState ? this.changes.lines : new Map());
     this.callbacks.showWatched();
     this.callbacks.onChange();

@@ -2,7 +2,7 @@
 // other named lamps.
 
 import { fittingGroups, isMultiplexed, lampNames, lampsOutsideGroups } from "../board/face_board.js";
-import { lampAt, scannedLampAt } from "../board/lamp_state.js";
+import { lampReader, scannedLampReader } from "../board/lamp_state.js";
 import { indices } from "../bench/numbers.js";
 
 /**
@@ -74,7 +74,7 @@ class LampRows {
    * @param {number} width
    */
   makeNamedCell(lamp, width) {
-    return this.makeCell(lampAt(lamp), lamp, width, this.names[lamp]);
+    return this.makeCell(lampReader(lamp), lamp, width, this.names[lamp]);
   }
 
   /**
@@ -86,8 +86,8 @@ class LampRows {
     const { kind, first, rows, columns } = group;
     const width = kind === "die" ? DIE_WIDTH : columns < MIN_NARROW_COLUMNS ? 2 : 1;
     const cells = indices(rows * columns).map((index) => {
-      if (multiplexedIndex < 0) return this.makeCell(lampAt(first + index), first + index, width, "");
-      const lamp = scannedLampAt(group, multiplexedIndex, index);
+      if (multiplexedIndex < 0) return this.makeCell(lampReader(first + index), first + index, width, "");
+      const lamp = scannedLampReader(group, multiplexedIndex, index);
       return this.makeCell(lamp, lamp.column, width, "");
     });
     if (kind === "die") this.addDie(cells);

@@ -7,7 +7,7 @@
 import { readBoard, parseRefusal } from "../bench/answers.js";
 import { findLineError } from "../bench/line_forms.js";
 import { opensText, stripCarriageReturn } from "../bench/inputs.js";
-import { matchLines, readLineForms, cellText, sectionRows } from "../help/manual.js";
+import { findMatchingLines, readLineForms, cellText, sectionRows } from "../help/manual.js";
 import { findSendingErrors, sentText } from "../text/sendable_text.js";
 import { FILE_WORDS, completeLine } from "./line_completion.js";
 import { SourceCommand } from "./source_command.js";
@@ -300,7 +300,7 @@ export class SessionPrompt {
     if (word === "places") return places.join("\n");
     const promptLines = say.PROMPT_LINES.filter(([form]) => form.split(/[ ,]+/).includes(word))
       .map(([form, effect]) => `${form}: ${effect}`);
-    const lines = matchLines(readLineForms(manual), `${word} `).map(({ form, effect }) => `${form}: ${effect}`);
+    const lines = findMatchingLines(readLineForms(manual), `${word} `).map(({ form, effect }) => `${form}: ${effect}`);
     return [...lines, ...(word === "poke" ? places : []), ...promptLines].join("\n");
   }
 

@@ -2,7 +2,7 @@
 
 import { ANSWER_FORMATS } from "../bench/answer_table.js";
 import { readBoard, readItems } from "../bench/answers.js";
-import { POKE_NAMES, TRACE_NAMES } from "../bench/line_forms.js";
+import { POKE_PLACE_NAMES, TRACE_PLACE_NAMES } from "../bench/line_forms.js";
 import { indices } from "../bench/numbers.js";
 
 /**
@@ -48,8 +48,8 @@ const completeKeys = async (argumentIndex, ask) => {
  */
 const ARGUMENT_COMPLETIONS = {
   help: proposeFirstArgument([...ANSWER_FORMATS.keys(), ...PROMPT_WORDS, ...HELP_WORDS]),
-  poke: proposeFirstArgument(POKE_NAMES),
-  trace: async (argumentIndex) => (argumentIndex > 0 ? TRACE_NAMES : []),
+  poke: proposeFirstArgument(POKE_PLACE_NAMES),
+  trace: async (argumentIndex) => (argumentIndex > 0 ? TRACE_PLACE_NAMES : []),
   test: proposeFirstArgument(["0", "1"]),
   press: completeKeys,
   release: completeKeys,

@@ -27,7 +27,7 @@ export async function stepBackBy(session, count, shouldContinue) {
   for (let done = 1; done < count && await shouldContinue(0); done++) {
     const nextResult = await session.goBack(goal, shouldContinue);
     if (!nextResult.isDone) return { ...result, message: say.fewerStepsBackMessage(session.counterText, cycles, done, count) };
-    session.joinMovesBack();
+    session.joinBackwardMoves();
     result = nextResult;
     cycles += nextResult.cycles;
   }
@@ -56,7 +56,7 @@ export async function stepBackOver(session, shouldContinue) {
     result = await session.goBack({ kind: "change", place: "ret" }, shouldContinue);
     const message = say.backInSubroutine(session.counterText);
     if (!result.isDone) return { ...result, message, isDone: true };
-    session.joinMovesBack();
+    session.joinBackwardMoves();
     const code = readNextOpcode(session);
     depth += Number(isReturn(code)) - Number(isCall(code));
   }

@@ -1,7 +1,7 @@
 // Handlers for an editor's requests about a program. They use the same modules as the page's editor.
 
 import { hex } from "../bench/numbers.js";
-import { readConditions, readInstructions } from "../help/manual.js";
+import { readJcnConditions, readInstructions } from "../help/manual.js";
 import { SourceMap } from "../machine/source_map.js";
 import { TextErrorFinder } from "../text/text_error_finder.js";
 import { DIRECTIVES, findDefinedNames, splitStatement, tokenizeLine, wordAt } from "../text/assembly.js";
@@ -65,7 +65,7 @@ export class ProgramLanguage {
     this.foldPatterns = FOLD_PATTERNS.program;
     this.bench = bench;
     this.instructions = readInstructions(manual);
-    this.conditions = readConditions(manual);
+    this.conditions = readJcnConditions(manual);
     this.refusalMessage = refusalMessage;
     this.findBoardText = findBoardText;
     this.pause = pause;

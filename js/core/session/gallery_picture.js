@@ -1,9 +1,9 @@
 // Draws the picture of an example for the gallery: the front panel that the board text describes. The program does not run for the picture.
 // Therefore the picture shows the first drawn lamp of each colour as on, and sample digits on a display.
 
-import { partLines } from "../bench/part_lines.js";
+import { partLineRanges } from "../bench/part_lines.js";
 import { Face } from "../board/face.js";
-import { groupEnd, isMultiplexed, groupLamps } from "../board/face_board.js";
+import { endOfGroup, isMultiplexed, lampsOfGroup } from "../board/face_board.js";
 import { indices } from "../bench/numbers.js";
 
 /**
@@ -27,7 +27,7 @@ class Drawing {
   /** @param {string} text the board text */
   constructor(text) {
     this.face = new Face(text);
-    this.parts = partLines(text);
+    this.parts = partLineRanges(text);
     /** @type {Shape[]} */
     this.shapes = [];
     /** The y position at which the next shape is drawn. */
@@ -60,8 +60,8 @@ class Drawing {
 
   /** Draws the displays and lamp groups whose lamps all exist on the board. */
   drawGroups() {
-    for (const group of this.face.groups.filter((candidate) => groupEnd(candidate) <= this.lampCount)) {
-      for (const lamp of groupLamps(group)) this.drawnLamps.add(lamp);
+    for (const group of this.face.groups.filter((candidate) => endOfGroup(candidate) <= this.lampCount)) {
+      for (const lamp of lampsOfGroup(group)) this.drawnLamps.add(lamp);
       if (group.kind === "display") this.drawDisplay(group);
       else if (group.kind === "die") {
         this.drawGrid(indices(7).map((index) => ({ lamp: group.first + index, column: PIPS[index][0], row: PIPS[index][1] })));

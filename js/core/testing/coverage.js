@@ -34,7 +34,7 @@ import * as say from "../../words/testing.js";
 function listCoveredLines({ codes, startCounts, jumpCounts }, map) {
   /** @type {LineCoverage[]} */
   const lines = [];
-  for (let line = 1; line <= map.count; line++) {
+  for (let line = 1; line <= map.lineCount; line++) {
     const address = map.addressOf(line);
     if (address === undefined || !(map.beginsInstruction(address) || startCounts[address] > 0)) continue;
     const isJump = map.sizes[line] === 2 && isBranch(codes[address]);

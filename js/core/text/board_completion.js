@@ -1,6 +1,6 @@
 // Completes words in a board text: table headers, complete tables from templates, keys, and values such as the names of signal lines.
 
-import { MAX_PARTS, boardLines } from "../bench/board_form.js";
+import { MAX_PARTS, signalLines } from "../bench/board_form.js";
 import { indices } from "../bench/numbers.js";
 import { collectParts, readBoardText } from "./board_reader.js";
 import { filterCompletions, toCompletions } from "./completion.js";
@@ -41,7 +41,7 @@ class BoardParts {
     this.unusedRoms = indices(MAX_PARTS.rom).filter((number) => !roms.some(({ chip }) => chip === number));
     this.unusedBanks = indices(MAX_PARTS.ram).filter((number) => !banks.some(({ bank }) => bank === number));
     this.chains = indices(chains.length);
-    const lines = boardLines({ roms, banks, chains });
+    const lines = signalLines({ roms, banks, chains });
     this.inputs = lines.filter(({ isInput }) => isInput);
     this.bits = lines.filter(({ kind }) => kind === "bit");
     this.outputs = lines.filter(({ kind, isInput }) => kind !== "bit" && !isInput);

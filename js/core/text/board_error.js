@@ -1,7 +1,7 @@
 // Describes the error that the bench reports for a board text. The bench names a table and a key. This module finds the position of the
 // table and the key with the parser of board texts. The valid values of each key come from the manual.
 
-import { PART_KEYS, LINE_NAMES, MAX_PARTS, MAX_COLUMNS, BITS_PER_CHIP, VALUE_RANGES, boardLines } from "../bench/board_form.js";
+import { PART_KEYS, SIGNAL_LINE_NAMES, MAX_PARTS, MAX_COLUMNS, BITS_PER_CHIP, VALUE_RANGES, signalLines } from "../bench/board_form.js";
 import { findSimilarWords, formatSuggestion } from "./similar_words.js";
 import { collectParts, readBoardText } from "./board_reader.js";
 import { createErrorAt } from "./sendable_text.js";
@@ -51,7 +51,7 @@ class BoardErrorText {
     this.tables = tables;
     this.messageFor = messageFor;
     this.parts = collectParts(text.entries);
-    this.lines = new Map(boardLines(this.parts).map((line) => [line.name, line]));
+    this.lines = new Map(signalLines(this.parts).map((line) => [line.name, line]));
   }
 
   /** All tables of the same kind as the table with the error, such as all `[[rom]]` tables. */
@@ -111,7 +111,7 @@ class BoardErrorText {
     if (name !== "columns" || !Array.isArray(value.inner)) return value;
     return value.inner.find(({ inner }) => {
       const line = this.lines.get(String(inner));
-      if (number === BAD_VALUE) return !LINE_NAMES.has(String(inner));
+      if (number === BAD_VALUE) return !SIGNAL_LINE_NAMES.has(String(inner));
       return number === MISSING_LINE ? !line : number === WRONG_DIRECTION && line && !line.isInput;
     }) || value;
   }

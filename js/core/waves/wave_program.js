@@ -26,5 +26,5 @@ export function createRecordedProgram(map, text) {
  */
 export function createProgramFromCheck({ map, refusal, difference }, text) {
   const source = new SourceMap(map, text);
-  return refusal || difference || source.count === 0 ? null : createRecordedProgram(source, text);
+  return refusal || difference || source.lineCount === 0 ? null : createRecordedProgram(source, text);
 }

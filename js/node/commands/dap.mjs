@@ -16,7 +16,7 @@ async function serve() {
   const adapter = new DebugAdapter(connection, await Engine.load(readPageModule()), readPageData(), { ...host, end });
   // The client has ended without a disconnect request, or has sent unreadable data. Save the work so far.
   listenToInput(connection, (reason) => {
-    connection.queueEnd.then(() => adapter.leave()).then((message) => end(1, reason || message));
+    connection.queueDone.then(() => adapter.leave()).then((message) => end(1, reason || message));
   });
   process.stdout.on("error", () => adapter.leave().then(() => process.exit(1)));
   for (const signal of ["SIGTERM", "SIGINT", "SIGHUP"]) process.on(signal, () => adapter.leave().then(() => process.exit(1)));

@@ -1,5 +1,5 @@
 // `mcs4 keys`: prints session lines that press keys by name, or presses the keys in a session until a run stops.
-import { isStop, parseRefusal } from "../../core/bench/answers.js";
+import { isRefusalOrStop, parseRefusal } from "../../core/bench/answers.js";
 import { joinLines } from "../../core/bench/inputs.js";
 import { DEFAULT_PACE } from "../../core/testing/press_lines.js";
 import { benchRejected } from "../../words/commands.js";
@@ -26,7 +26,7 @@ async function pressInSession(session, lines) {
     for (const line of lines) {
       [answer] = await program.ask(`${line}\n`, 1);
       print(`${answer}\n`);
-      if (isStop(answer)) break;
+      if (isRefusalOrStop(answer)) break;
     }
   } finally {
     await program.end();

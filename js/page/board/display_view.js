@@ -3,7 +3,7 @@
 import { Announcer } from "../../core/board/announcer.js";
 import { Cell, Switch, block, element } from "../ui/dom.js";
 import { perceivedBrightness } from "../../core/board/brightness.js";
-import { MINUS_PATTERN, UNLIT_PATTERN, POINT_BIT, hasPoints, isLit, digitPatterns } from "../../core/board/digit_patterns.js";
+import { MINUS_PATTERN, UNLIT_PATTERN, POINT_BIT, hasDecimalPoint, isLit, digitPatterns } from "../../core/board/digit_patterns.js";
 import { DisplayText } from "../../core/board/display_text.js";
 import { fittingGroups, isMultiplexed, minusLamp } from "../../core/board/face_board.js";
 import { indices } from "../../core/bench/numbers.js";
@@ -96,7 +96,7 @@ class Display {
   /** @param {Group} group */
   constructor(group) {
     this.group = group;
-    this.digits = indices(group.rows).map(() => new Digit(false, hasPoints(group.columns)));
+    this.digits = indices(group.rows).map(() => new Digit(false, hasDecimalPoint(group.columns)));
   }
 
   /** @param {string} marks one character per lamp: `*` if the lamp is on at this instant */

@@ -4,7 +4,7 @@
 import { block, element } from "../ui/dom.js";
 import { perceivedBrightness } from "../../core/board/brightness.js";
 import { fittingGroups, isMultiplexed, lampsOutsideGroups } from "../../core/board/face_board.js";
-import { lampAt, scannedLampAt } from "../../core/board/lamp_state.js";
+import { lampReader, scannedLampReader } from "../../core/board/lamp_state.js";
 import { indices } from "../../core/bench/numbers.js";
 import * as say from "../../words/board.js";
 
@@ -117,7 +117,7 @@ export class LampsView {
    * @param {string} name the lamp's default name
    */
   makeLamp(index, name) {
-    return this.addLamp(index, lampAt(index), this.lampName(index) || name, this.lines[index]);
+    return this.addLamp(index, lampReader(index), this.lampName(index) || name, this.lines[index]);
   }
 
   /**
@@ -148,7 +148,7 @@ export class LampsView {
    */
   drawScannedGroup(group, scannedIndex) {
     return makeLampList(group, (index, defaultName) => {
-      const reader = scannedLampAt(group, scannedIndex, index);
+      const reader = scannedLampReader(group, scannedIndex, index);
       return this.addLamp(reader.column, reader, defaultName, say.columnAndRow(this.lines[reader.column], this.lines[reader.row]));
     });
   }

@@ -1,7 +1,7 @@
 // The console input. Enter sends lines, the arrow keys recall earlier lines, and a hint below shows how a line can continue.
 
 import { Cell, block, button, byId, onClick } from "../ui/dom.js";
-import { matchLines } from "../../core/help/manual.js";
+import { findMatchingLines } from "../../core/help/manual.js";
 import * as say from "../../words/page.js";
 
 /**
@@ -98,14 +98,14 @@ export class LinesView {
 
   /** Completes the typed word if it begins exactly one command. */
   complete() {
-    const words = new Set(matchLines(this.commandForms, this.lastLine).map(({ form }) => form.split(" ")[0]));
+    const words = new Set(findMatchingLines(this.commandForms, this.lastLine).map(({ form }) => form.split(" ")[0]));
     const [word] = words;
     if (words.size !== 1 || this.lastLine.includes(" ")) return;
     this.text = `${this.text.slice(0, this.text.lastIndexOf("\n") + 1)}${word} `;
   }
 
   showHint() {
-    const matches = matchLines(this.commandForms, this.lastLine);
+    const matches = findMatchingLines(this.commandForms, this.lastLine);
     const shownForms = matches.slice(0, MAX_EXPLAINED_COMMANDS).map(({ form, effect }) => `${form}: ${effect}`);
     if (matches.length > MAX_EXPLAINED_COMMANDS) shownForms.push(matches.slice(MAX_EXPLAINED_COMMANDS).map(({ form }) => form).join(", "));
     this.hint.set(shownForms.length > 0 ? shownForms.join("\n") : say.LINES_HINT);

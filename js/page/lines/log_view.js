@@ -2,7 +2,7 @@
 
 import { parseRefusal } from "../../core/bench/answers.js";
 import { block, element } from "../ui/dom.js";
-import { RunLog, formatRuns } from "../../core/bench/run_log.js";
+import { RunLog, formatLogEntry } from "../../core/bench/run_log.js";
 import * as say from "../../words/page.js";
 
 /**
@@ -56,7 +56,7 @@ export class LogView {
     }
     runLog.add(entries);
     const runEntries = runLog.take();
-    this.add(runEntries.map((entry) => this.makeEntry(formatRuns(entry), [entry.answer], saveError)));
+    this.add(runEntries.map((entry) => this.makeEntry(formatLogEntry(entry), [entry.answer], saveError)));
     const lastEntry = runEntries[runEntries.length - 1];
     const node = this.block.lastElementChild;
     this.lastRuns = lastEntry.runs > 0 && saveError === "" && node instanceof HTMLElement ? { entry: lastEntry, node } : null;

@@ -98,7 +98,7 @@ export class BreakpointsController {
     return new BreakpointForm({
       change: (id, changes) => this.manager.change(id, changes),
       showTypedTexts: (id, changes) => this.manager.saveTypedEdit(id, changes),
-      waitForChanges: () => this.manager.sendingEnd,
+      waitForChanges: () => this.manager.requestsDone,
       placeForm: ({ id, line }, node) => {
         calls.showBelow(line, line > 0 ? node : null);
         const root = this.view.rowElement(id);
@@ -186,7 +186,7 @@ export class BreakpointsController {
     this.form.close();
     this.view.clearLog();
     this.manager.watchTexts = record.watched || [];
-    this.manager.open(record.id, record.breakpoints);
+    this.manager.switchToSession(record.id, record.breakpoints);
   }
 
   /** @param {number} line */
@@ -213,7 +213,7 @@ export class BreakpointsController {
   async handleAssembly(wasReset) {
     if (wasReset) this.manager.resetHits();
     await this.calls.checkSource();
-    await this.manager.sendingEnd;
+    await this.manager.requestsDone;
   }
 
   /**
@@ -221,7 +221,7 @@ export class BreakpointsController {
    * @param {Tally} tally the new hit counts and log messages
    */
   countHits(tally) {
-    this.manager.count(tally);
+    this.manager.countHits(tally);
     this.view.log(tally, this.manager);
   }
 }

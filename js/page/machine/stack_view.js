@@ -3,7 +3,7 @@
 import { Cell, Switch, block, element, makeFirstTabStop, makeOneTabStop, onClick } from "../ui/dom.js";
 import { joinLines, matchAnswers, readInputs } from "../../core/bench/inputs.js";
 import { hex } from "../../core/bench/numbers.js";
-import { findLiveReturns, callAddress, describeCounter, describeReturn } from "../../core/machine/return_addresses.js";
+import { findLiveReturns, addressOfCall, describeProgramCounter, describeReturn } from "../../core/machine/return_addresses.js";
 import * as say from "../../words/machine.js";
 
 /**
@@ -68,7 +68,7 @@ export class StackView {
    */
   rowAddress(index) {
     const address = this.addresses[index] || 0;
-    return index > 0 && this.rows[index].liveSwitch.isOn ? callAddress(address) : address;
+    return index > 0 && this.rows[index].liveSwitch.isOn ? addressOfCall(address) : address;
   }
 
   /** @param {Registers} registers */
@@ -100,10 +100,11 @@ export class StackView {
     this.requestCount += 1;
     const { requestCount } = this;
     const [counter, ...returns] = this.addresses;
-    const bytes = await this.readBytes(returns.map(callAddress));
+    const bytes = await this.readBytes(returns.map(addressOfCall));
     if (requestCount !== this.requestCount) return;
     const liveFlags = findLiveReturns(returns, bytes, map);
-    this.showNotes([describeCounter(counter, map), ...returns.map((address, index) => describeReturn(address, liveFlags[index], map))]);
+    const returnNotes = returns.map((address, index) => describeReturn(address, liveFlags[index], map));
+    this.showNotes([describeProgramCounter(counter, map), ...returnNotes]);
   }
 
   clear() {

@@ -1,6 +1,6 @@
 // Runs and pauses time, with the clock or at full speed. Handles the frames that the worker reports.
 
-import { isStop, readRun, parseRefusal } from "../../core/bench/answers.js";
+import { isRefusalOrStop, readRun, parseRefusal } from "../../core/bench/answers.js";
 import { describeUserPause, runningToGoal, pauseMessage } from "../../words/stops.js";
 import { Cell, block } from "../ui/dom.js";
 import { formatDuration } from "../../core/bench/error_messages.js";
@@ -171,7 +171,7 @@ export class RunController {
    * @param {Key | null} key the key to press before the cycles, or null to press no key
    */
   async advance(cycles, key) {
-    const removePending = key ? this.pendingKeys.send({ word: "press", key }) : () => {};
+    const removePending = key ? this.pendingKeys.addInTransit({ word: "press", key }) : () => {};
     const frame = await this.bench.call("advance", [cycles, key]).finally(removePending);
     this.handleFrame(frame);
   }
@@ -297,7 +297,7 @@ export class RunController {
     if (answer === null) return;
     const run = readRun(answer);
     const cycles = run ? run.cycles : 0;
-    if (isStop(answer)) this.showMessage(this.describeStop({ reason: run ? run.end : answer, cycles, endsAtReturn: false }));
+    if (isRefusalOrStop(answer)) this.showMessage(this.describeStop({ reason: run ? run.end : answer, cycles, endsAtReturn: false }));
     else this.showMessage(pauseMessage({ kind: "over" }, { reason: "goal", cycles, endsAtReturn: false }, this.counterText));
   }
 
@@ -310,7 +310,7 @@ export class RunController {
     const { bench, currentSession, calls } = this;
     currentSession.markChanged();
     if (word === "press" && this.clock.simulateKeyPress(key)) return;
-    const removePending = this.pendingKeys.send({ word, key });
+    const removePending = this.pendingKeys.addInTransit({ word, key });
     bench.call(word, [key]).finally(removePending).then((waitingChanges) => {
       this.pendingKeys.waitingChanges = waitingChanges;
     }, calls.reportFailure);
