@@ -186,7 +186,7 @@ export class Drawing {
 
   /**
    * Handles a click, tap or Enter on a part or pin. If an unfinished wire can end at the pin, connects the wire. Otherwise, selects the
-   * part or pin and, if a wire can start there, begins a wire. A second click on the start pin removes the unfinished wire.
+   * part or pin. If a wire can start there, begins a wire. A second click on the start pin removes the unfinished wire.
    * @param {string} name
    */
   handleClick(name) {

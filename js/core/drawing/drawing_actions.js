@@ -273,7 +273,7 @@ function perform(editedBoard, action) {
 }
 
 /**
- * Returns the message for an error that an action has caused in the front panel; "" if the action has caused none.
+ * Returns the message for a front-panel error that an action has caused; "" if the action has caused none.
  * @param {string} textBefore the text before the action
  * @param {string} textAfter the text after the action
  */
@@ -318,7 +318,7 @@ export function reasonNotToAdd(text, part) {
 }
 
 /**
- * Returns whether the page and the bench read the same board from a board text. If not, the board editor cannot edit the text.
+ * Returns whether the page reads the same board from a board text as the bench does. If not, the board editor cannot edit the text.
  * @param {string} text
  * @param {string[]} answers the bench's answer to `board` after `wire` with the text
  */

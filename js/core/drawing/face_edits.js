@@ -166,11 +166,12 @@ export function renumberLamps(draft, deletedLamps) {
 }
 
 /**
- * Returns the edits that renumber the lamps in the line of a list (names or colours) or of a group, or remove the line if no lamps remain.
+ * Returns the edits that renumber the lamps in a line with a list of names, a list of colours or a group. The edits remove the line if no
+ * lamps remain.
  * @param {BoardDraft} draft
  * @param {FaceLine} line
  * @param {Set<number>} deletedLamps
- * @param {(lamp: number) => number} newNumber returns the new number of a lamp
+ * @param {(lamp: number) => number} toNewNumber returns the new number of a lamp
  * @returns {TextEdit[]}
  */
 function renumberList(draft, line, deletedLamps, newNumber) {
@@ -188,11 +189,11 @@ function renumberList(draft, line, deletedLamps, newNumber) {
 }
 
 /**
- * Returns the edits that renumber the lamps in the line of a colour range, or remove the line if no lamps remain.
+ * Returns the edits that renumber the lamps in a line with a colour range. The edits remove the line if no lamps remain.
  * @param {BoardDraft} draft
  * @param {FaceLine} line
  * @param {Set<number>} deletedLamps
- * @param {(lamp: number) => number} newNumber returns the new number of a lamp
+ * @param {(lamp: number) => number} toNewNumber returns the new number of a lamp
  * @returns {TextEdit[]}
  */
 function renumberRange(draft, line, deletedLamps, newNumber) {
@@ -206,11 +207,11 @@ function renumberRange(draft, line, deletedLamps, newNumber) {
 }
 
 /**
- * Returns the edits that renumber the lamps in a grid row, or remove the row if no lamps remain.
+ * Returns the edits that renumber the lamps in a grid row. The edits remove the row if no lamps remain.
  * @param {BoardDraft} draft
  * @param {FaceLine} line
  * @param {Set<number>} deletedLamps
- * @param {(lamp: number) => number} newNumber returns the new number of a lamp
+ * @param {(lamp: number) => number} toNewNumber returns the new number of a lamp
  * @returns {TextEdit[]}
  */
 function renumberGrid(draft, line, deletedLamps, newNumber) {
@@ -229,7 +230,7 @@ function renumberGrid(draft, line, deletedLamps, newNumber) {
 /**
  * Returns the edits that rename ports and chains in the front panel after a deletion, and remove the lines of deleted ports and chains.
  * @param {BoardDraft} draft
- * @param {(port: string) => string} newPortName returns the new name of a port or chain, "" if it was deleted
+ * @param {(port: string) => string} toNewPortName returns the new name of a port or chain, "" if it was deleted
  * @returns {TextEdit[]}
  */
 export function renamePorts(draft, newPortName) {
@@ -247,7 +248,7 @@ export function renamePorts(draft, newPortName) {
  * Returns the new name of a port or port line; "" if the port was deleted.
  * @param {string} text the old name
  * @param {boolean} isLine true for a port line
- * @param {(port: string) => string} newPortName returns the new name of a port or chain, "" if it was deleted
+ * @param {(port: string) => string} toNewPortName returns the new name of a port or chain, "" if it was deleted
  */
 function renamePort(text, isLine, newPortName) {
   const end = isLine ? text.lastIndexOf(".") : text.length;

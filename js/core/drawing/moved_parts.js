@@ -1,5 +1,5 @@
-// The positions of parts that the user dragged in the board drawing. When a chain is deleted, later chains get new numbers, and their
-// positions are stored under the new numbers. Undo restores the positions together with the text.
+// The positions of parts that the user dragged in the board drawing. When a chain is deleted, the later chains get new numbers. Their
+// positions are then stored under the new numbers. Undo restores the positions together with the text.
 
 /**
  * @typedef {import("../board/wiring.js").Positions} Positions

@@ -106,7 +106,7 @@ function ensureLines(editedBoard, count, findLines, addLines) {
 }
 
 /**
- * Returns the names of the free output lines of ports.
+ * Returns the names of the port lines that are outputs and free.
  * @param {Board} board
  */
 function freeOutputs(board) {
@@ -183,8 +183,8 @@ export function addKeys(editedBoard) {
 }
 
 /**
- * Sets the number of key rows; returns the name of the part. Throws `ImpossibleAction` if there is no key matrix, if the number is out of
- * range, or if the chain has too few bits.
+ * Sets the number of key rows; returns `keys`, the part that changed. Throws `ImpossibleAction` if there is no key matrix, if the number is
+ * out of range, or if the chain has too few bits.
  * @param {EditedBoard} editedBoard
  * @param {number} rows
  */
@@ -202,8 +202,8 @@ export function setRows(editedBoard, rows) {
 }
 
 /**
- * Adds a key column; returns the name of the part. Throws `ImpossibleAction` if there is no key matrix, or if it has the maximum number of
- * columns.
+ * Adds a key column; returns `keys`, the part that changed. Throws `ImpossibleAction` if there is no key matrix, or if it has the maximum
+ * number of columns.
  * @param {EditedBoard} editedBoard
  */
 export function addColumn(editedBoard) {
@@ -279,7 +279,7 @@ export function addDisplay(editedBoard, kind, digits) {
   const firstLamp = editedBoard.board.lamps.length;
   if (kind === "digit") for (let digit = 0; digit < digits; digit++) addLamps(editedBoard, ensureDigitPort(editedBoard));
   else addLamps(editedBoard, ensureSegmentBits(editedBoard, digits * LINES_PER_DIGIT.segments));
-  // (The next literal is a comment in the board text, in the syntax of `tools/lib/face.txt`.)
+  // This literal is not a message but a comment in the board text, in the syntax of `tools/lib/face.txt`.
   // eslint-disable-next-line no-restricted-syntax
   const display = `${formatQuantity(digits, "digit")}${kind === "segments" ? " of 7 segments" : ""}`;
   editedBoard.edit(addGroup(editedBoard.draft, "display", firstLamp, display));

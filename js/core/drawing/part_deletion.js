@@ -59,7 +59,7 @@ export function displayAt(face, lamp) {
 }
 
 /**
- * Adds the parts that depend on the parts to delete.
+ * Adds to `deletedParts` the parts that depend on parts in it.
  * @param {Board} board
  * @param {Face} face
  * @param {DeletedParts} deletedParts
@@ -74,7 +74,7 @@ function addDependents(board, face, deletedParts) {
     deletedParts.keys = deletedParts.keys || deletedParts.chains.has(matrix.chain) || deletedParts.columns.size === matrix.columns.length;
   }
   board.lamps.forEach((line, lamp) => isLineDeleted(deletedParts, line) && deletedParts.lamps.add(lamp));
-  // If one lamp of a group is deleted, all lamps of the group are deleted. The loop also visits the lamps that it adds to the set.
+  // If one lamp of a group is deleted, all lamps of the group are deleted. This loop also visits the lamps that its body adds to the set.
   for (const deletedLamp of deletedParts.lamps) {
     const groups = face.groups.map(groupLamps).filter((lamps) => lamps.includes(deletedLamp));
     for (const lamp of groups.flat()) if (lamp < board.lamps.length) deletedParts.lamps.add(lamp);
@@ -139,7 +139,7 @@ function removeKeyColumns(editedBoard, columns) {
 }
 
 /**
- * Removes a chain, and renumbers the later chains wherever the text names them or their bits.
+ * Removes a chain, and renumbers the later chains wherever their names or the names of their bits occur in the text.
  * @param {EditedBoard} editedBoard
  * @param {number} chain
  */

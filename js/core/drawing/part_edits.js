@@ -125,7 +125,7 @@ export function appendElement(draft, array, element) {
   const { next } = tokensAround(draft, elementEnd, elementEnd);
   const hasComma = next !== null && next.text === ",";
   const indent = lastElement.line > array.line ? (/^[ \t]*/.exec(line) || [""])[0] : INDENT;
-  // The new line goes before the closing bracket if the bracket is on the line of the last element; otherwise after that line.
+  // The new element goes before the closing bracket if the bracket is on the line of the last element; otherwise after that line.
   const isBeforeBracket = next && next.text === "]" && array.end.line === lastElement.end.line;
   const end = isBeforeBracket ? elementEnd : draft.offsetAt(lastElement.end.line, line.length);
   const comma = { from: elementEnd, to: elementEnd, insert: "," };

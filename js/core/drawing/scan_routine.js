@@ -95,7 +95,7 @@ function firstRowLines(first, labels) {
 }
 
 /**
- * Returns the source lines that read the columns. At the first column that is 1, they jump to the label of the column.
+ * Returns the source lines that read the columns. If a column is 1, the program jumps to the label of the first such column.
  * @param {string[]} columns the signal lines of the columns
  * @param {Labels} labels
  * @returns {Line[]}

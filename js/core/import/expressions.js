@@ -8,7 +8,8 @@ import * as say from "../../words/import.js";
  * The value of an expression. `isKnown` is false if a name in the expression has no value yet. `error` is the message, "" if there is none.
  * @typedef {{ value: number, isKnown: boolean, error: string }} EvaluationResult
  *
- * The names in a program. `isDefined` returns whether a line defines a name. `valueOf` returns its value, undefined if it is not known yet.
+ * The names in a program. `isDefined` returns whether a line defines a name. `valueOf` returns the value of a name, undefined if the value
+ * is not known yet.
  * @typedef {{ isDefined: (name: string) => boolean, valueOf: (name: string) => number | undefined }} NameValues
  */
 

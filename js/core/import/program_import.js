@@ -33,7 +33,7 @@ const COLUMNS = { statement: 8, comment: 24 };
 /** Matches names that are reserved words in the bench's syntax. */
 const RESERVED_WORD = /^(ORG|DB|WPM|R[0-9]|R1[0-5]|P[0-7])$/;
 const NAME = /^[A-Za-z_.?@][A-Za-z0-9_.?@$]*$/;
-/** Matches numbers whose original spelling is not repeated in a comment in the output. */
+/** Matches numbers whose original spelling needs no comment in the output. */
 const PLAIN_NUMBER = /^([0-9]+|[0-9][0-9A-Fa-f]*[hH]|(0[xX]|[$%])[0-9A-Fa-f]+)$/;
 /** @type {Map<string, number>} the JCN condition numbers, by condition name */
 const CONDITIONS = new Map(Object.entries({ TZ: 1, T0: 1, TN: 9, T1: 9, CN: 2, C1: 2, CZ: 10, C0: 10, AZ: 4, AN: 12 }));
@@ -244,7 +244,7 @@ class ProgramImport {
   }
 
   /**
-   * Converts a directive that reserves bytes or aligns the address into an ORG statement.
+   * Returns the ORG statement that replaces a directive that reserves bytes or aligns the address.
    * @param {string} word
    * @param {string} operand
    */

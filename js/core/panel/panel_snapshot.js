@@ -46,7 +46,7 @@ export class PanelSnapshot {
     this.keysDown = new PressedKeys();
     /** One character for each lamp: `*` if the lamp is on at the time of the snapshot, otherwise `.`. */
     this.marks = "";
-    /** @type {Brightness | null} the perceived brightness of the lamps; null while time is paused, if the board has no lamps, and if the
+    /** @type {Brightness | null} the perceived brightness of the lamps; null while time is paused, if the board has no lamps, or if the
      *   last query asked only for the state */
     this.brightness = null;
     /** @type {string[]} the breakpoint addresses as three hexadecimal digits */
@@ -81,7 +81,7 @@ export class PanelSnapshot {
   }
 
   /**
-   * Returns the RAM chips that fit into a number of screen rows, starting at the chip to which the user has scrolled.
+   * Returns the RAM chips that fit into a number of screen rows. The first of them is the chip to which the user has scrolled.
    * @param {number} rows
    */
   listVisibleChips(rows) {
@@ -131,8 +131,8 @@ export class PanelSnapshot {
   }
 
   /**
-   * Reads a new listing near the program counter. Keeps the current listing if it contains the program counter, and at least LINES_LEFT
-   * lines after it.
+   * Reads a new listing near the program counter. Keeps the current listing if it contains the program counter and at least MIN_LINES_LEFT
+   * lines after that address.
    * @param {number} rows the number of listing lines
    */
   async refreshListing(rows) {

@@ -26,7 +26,7 @@ import * as say from "../../words/panel.js";
 export const MIN_SIZE = { rows: 24, columns: 80 };
 /** The number of rows above RAM, the front panel and the listing. */
 const TOP_ROWS = 10;
-/** The number of rows above and below the middle part (RAM, front panel and listing). */
+/** The number of rows above the middle part (RAM, front panel and listing) and below it. */
 const FIXED_ROWS = TOP_ROWS + 2;
 /** The widths of RAM and of the front panel, in characters. */
 const RAM_WIDTH = 28;
