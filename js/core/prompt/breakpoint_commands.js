@@ -112,7 +112,7 @@ export class BreakpointCommands {
     await machine.saveAndReport();
   }
 
-  /** Sends the list to the bench, and saves the session. */
+  /** Sends the list of breakpoints to the bench, and saves the session. */
   async applyBreakpoints() {
     await this.prompt.session.applyBreakpoints();
     await this.prompt.machine.saveAndReport();

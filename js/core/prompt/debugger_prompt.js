@@ -52,7 +52,7 @@ import { stoppedAt } from "../../words/stops.js";
  * The maximum length of a move in a script, in cycles: 18 minutes on a real board. A move runs the machine or goes back in time.
  */
 const MAX_CYCLES = 100000000;
-/** The maximum number of stops at which breakpoint commands run after one line of a script. */
+/** The maximum number of stops whose breakpoint commands run after a single line of a script. */
 const MAX_STOPS = 100000;
 /** Matches a command word and the text after it. */
 const COMMAND = /^([a-zA-Z-]+|\S)(.*)$/;
@@ -153,7 +153,7 @@ export class Prompt {
    */
   output(text, category) {
     if (category === "stderr") this.sourceCommand.printError(text.trimEnd());
-    // This method ignores the message about a move that did nothing, because `makeMove` reports the same message.
+    // Does not print the message about a move that did nothing, because `makeMove` reports this message.
     else if (!text.startsWith(say.NOTHING_DONE)) this.callbacks.print(text.trimEnd());
   }
 
@@ -212,8 +212,8 @@ export class Prompt {
   }
 
   /**
-   * Runs the commands of the breakpoint at which the last line stopped. When a command runs the machine, skips the commands after it, and
-   * runs the commands of the next breakpoint. Resolves to false if a command is rejected.
+   * Runs the commands of the breakpoint at which the machine stopped. When a command runs the machine again, skips the remaining commands,
+   * and runs those of the breakpoint at the new stop. Resolves to false if a command is rejected.
    */
   async runCommands() {
     let stops = 0;
@@ -301,7 +301,7 @@ export class Prompt {
   // --- completion ---
 
   /**
-   * Resolves to the completions of a line: the candidate words, and the last part of the line, which the chosen word replaces.
+   * Resolves to the completions of a line: the candidate words, and the part at the end of the line that the chosen word replaces.
    * @param {string} line the line up to the cursor
    * @returns {Promise<[string[], string]>}
    */

@@ -206,7 +206,7 @@ export class InspectCommands {
 
   /**
    * Returns the text of an `info` command; fails if the word is unknown or not unique.
-   * @param {string} argumentText a word of INFO_WORDS, a unique prefix or a name that gdb accepts; `line` and `symbol` take an argument
+   * @param {string} argumentText a word of INFO_WORDS, a unique prefix of one, or its name in gdb; `line` and `symbol` take an argument
    */
   formatInfo(argumentText) {
     const [, word = "", argument = ""] = /^(\S*)\s*(.*)$/.exec(argumentText) || [];

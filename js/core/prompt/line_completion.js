@@ -6,7 +6,7 @@ import { POKE_NAMES, TRACE_NAMES } from "../bench/line_forms.js";
 import { indices } from "../bench/numbers.js";
 
 /**
- * The candidate words, and the last part of the line, which the chosen word replaces.
+ * The candidate words, and the part at the end of the line that the chosen word replaces.
  * @typedef {[string[], string]} Completion
  */
 

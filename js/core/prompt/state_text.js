@@ -44,10 +44,10 @@ export function countSourceLines({ program }) {
 }
 
 /**
- * Returns the text of a range of source lines; fails if the first line is after the end of the source.
+ * Returns the text of a range of source lines; fails if the range starts after the end of the source.
  * @param {DebugSession} session
- * @param {number} firstLine the first line
- * @param {number} lastLine the last line, inclusive
+ * @param {number} firstLine
+ * @param {number} lastLine the last line of the range
  */
 export function formatSourceLines(session, firstLine, lastLine) {
   const last = Math.min(lastLine, countSourceLines(session));

@@ -2,7 +2,8 @@
 // the lamps, and the expressions of `display`. js/node/terminal_view.mjs writes the lines to the terminal.
 //
 //     const view = new View(prompt);
-//     view.lines(viewSize(24, 80), { head, nextInstruction, changedValue });      viewSize returns null if the terminal is too small
+//     const size = chooseViewSize(24, 80);                       null if the terminal is too small
+//     view.buildLines(size, { head, nextInstruction, changedValue });
 
 import { indices } from "../bench/numbers.js";
 import { MachineState } from "../debug/machine_state.js";

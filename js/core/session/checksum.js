@@ -11,7 +11,7 @@ const REMAINDERS = Uint32Array.from({ length: 256 }, (_, value) => {
 
 /**
  * Returns the CRC remainder after one more byte.
- * @param {number} sum the CRC remainder before the byte
+ * @param {number} remainder the CRC remainder before the byte
  * @param {number} byte
  */
 function addByte(sum, byte) {

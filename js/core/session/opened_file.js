@@ -76,8 +76,8 @@ function readTextsInLines(script) {
 }
 
 /**
- * Determines the kind of a text from the file name, or else from the text itself. Returns the text under this kind. For bench lines,
- * returns the texts in them.
+ * Determines the kind of a text from the file name, or else from the text itself. Returns the text in the property for this kind. If the
+ * text consists of bench lines, returns the board and the program that they contain.
  * @param {string} name
  * @param {string} text
  * @returns {FileTexts}

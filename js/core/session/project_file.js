@@ -1,5 +1,5 @@
-// Reads and writes project files. A project file is a text file that contains the name of a project, the texts in the editors, and a
-// session file. The manual ("A project file") describes its lines. project_parts.js writes the same contents as files in a folder.
+// Reads and writes project files (`.mcsp`). A project file is a text file that contains the name of a project, the texts in the editors,
+// and a session file. The manual ("A project file") describes its lines. project_parts.js writes the same contents as files in a folder.
 
 import { checksum } from "./checksum.js";
 import { shortenName } from "./names.js";
@@ -226,7 +226,7 @@ function readHead(lines) {
 }
 
 /**
- * Reads the next text of a project, and returns it. Throws InvalidProject if the next line is not `word`.
+ * Reads the text that starts at the next line, and returns it. Throws InvalidProject if this line is not `word`.
  * @param {ProjectLineReader} lines
  * @param {Word} word
  * @param {Set<string>} unendedWords the words of the texts that do not end with a line feed

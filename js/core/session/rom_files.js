@@ -12,7 +12,7 @@ import * as say from "../../words/session.js";
  * @typedef {object} RomCallbacks
  * @property {(lines: string) => Promise<string[]>} ask Resolves to the bench's answers to queries.
  * @property {(lines: string) => Promise<string | null>} execute Executes bench lines that change the session. Resolves to the first answer.
- *   If this fails, reports the error and resolves to null.
+ *   If a line fails, reports the error and resolves to null.
  * @property {() => Promise<void>} stop Pauses the machine. Resolves when the machine is paused.
  */
 

@@ -44,7 +44,7 @@ function listCoveredLines({ codes, startCounts, jumpCounts }, map) {
 }
 
 /**
- * Returns the subroutines that the JMS instructions in `lines` call, in ascending address order. Omits subroutines without a label.
+ * Returns the labelled subroutines that the JMS instructions in `lines` call, in ascending address order.
  * @param {ExecutionRecorder} recorder
  * @param {SourceMap} map
  * @param {LineCoverage[]} lines

@@ -17,7 +17,7 @@ const COUNT_WIDTH = 10;
 const DIRECTIONS_WIDTH = 13;
 
 /**
- * Replaces each tab of a line with blanks up to the next tab stop.
+ * Returns a line with blanks instead of tabs. The blanks reach up to the next tab stop.
  * @param {string} text
  */
 function expandTabs(text) {

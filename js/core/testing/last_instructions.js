@@ -18,8 +18,8 @@ import * as say from "../../words/testing.js";
 const MAX_INSTRUCTIONS = 12;
 
 /**
- * Returns where the list starts: the index of the first listed action (`firstAction`), and the number of its first
- * cycles to skip (`skippedCycles`).
+ * Returns where the list starts: the index of the first listed action (`firstAction`), and the number of cycles at the start of this action
+ * that the list omits (`skippedCycles`).
  * @param {TestAction[]} actions
  */
 function findListedPart(actions) {
@@ -34,8 +34,8 @@ function findListedPart(actions) {
 }
 
 /**
- * Returns trace lines for the last instructions and commands of a test, followed by a line for the next instruction; an empty list if the
- * test has done nothing.
+ * Returns trace lines for the last instructions and commands of a test, followed by a line for the next instruction. Returns an empty list
+ * if the test has executed nothing.
  * @param {TestSession} session
  * @param {{ board: Board, map: SourceMap }} names
  * @returns {string[]}

@@ -1,5 +1,5 @@
-// Finds the last label that a test reached, and when. Repeats the whole test in pieces, and counts how often each instruction ran in each
-// piece.
+// Finds the last label that a test reached, and when the test reached it. To do so, repeats the whole test in pieces, and counts how often
+// each instruction ran in each piece.
 
 import { MAX_RUN_CYCLES } from "../engine/key_queue.js";
 import { ForecastAnswers, parseTraceLine } from "../engine/forecast_answers.js";
@@ -30,7 +30,7 @@ function* splitRuns(actions) {
 }
 
 /**
- * Returns the last instruction that the test executed at one of `addresses`; null if it executed no such instruction.
+ * Returns the last executed instruction of the test at any of `addresses`; null if the test executed no such instruction.
  * @param {TestSession} session
  * @param {Set<number>} addresses
  * @returns {PassedInstruction | null}
@@ -59,8 +59,8 @@ export function findLastPassed({ engine, initialFile, actions }, addresses) {
 }
 
 /**
- * Describes the last label that the session reached, for the message about a condition that did not become true in time. If the condition
- * is an address, the text also says when the session last reached this address.
+ * Describes the last label that the session reached, for the error message if a condition did not become true in time. For a condition
+ * that is an address, the text also says when the session last reached this address.
  * @param {TestSession} session
  * @param {SourceMap} map
  * @param {Condition} condition

@@ -70,7 +70,7 @@ export class TestRun {
     this.keyUpCycles = TOOL_KEY_UP_CYCLES;
     /** True if a test can change ROM. A test that starts at a saved state then reads the bytes in ROM again. */
     this.changesRom = true;
-    /** @type {(session: TestSession) => void} called with the session of each test at its end */
+    /** @type {(session: TestSession) => void} called at the end of each test, with its session */
     this.onEnd = () => {};
   }
 
@@ -93,7 +93,7 @@ export class TestRun {
     this.recorder.codes = this.prepared.codes;
     const printout = this.printer && new Printout(this.printer, startState.codes);
     const session = new TestSession(this.engine, startState.file, this.recorder, this.yieldToMessages, printout);
-    // The test that saved the state may have changed ROM.
+    // The test that saved the state can have changed ROM.
     if (from !== "" && this.changesRom) session.readCodes();
     this.keyDownCycles = TOOL_KEY_DOWN_CYCLES;
     this.keyUpCycles = TOOL_KEY_UP_CYCLES;
@@ -203,7 +203,7 @@ export class TestRun {
   }
 
   /**
-   * Describes where a session stopped because the next byte is not an instruction.
+   * Describes a stop before a byte that is not an instruction.
    * @param {TestSession} session
    */
   describeStop({ counter }) {
@@ -308,7 +308,7 @@ export class TestRun {
     const { needs } = condition;
     if (needs.includes("lampForecast") || needs.includes("printed")) return this.runWithPeriodicChecks(session, condition, end);
     let stop = "end";
-    // A trace reports neither TEST nor `owed`. TEST does not change during a run, and the first cycle ends a pending instruction, so a
+    // A trace reports neither TEST nor `owed`. TEST does not change during a run, and `owed` is 0 after the first cycle. Therefore, a
     // condition without traced places is checked after one cycle.
     let pieceCycles = condition.places.length > 0 ? 1000 : 1;
     const extraValues = { ...session.readCondition(condition).extraValues, owed: "0" };

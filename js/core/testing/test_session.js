@@ -22,7 +22,7 @@ import { ForecastAnswers, parseTraceLine, rowValues } from "../engine/forecast_a
  * @typedef {{ file: Uint8Array, elapsed: number, laterActions: TestAction[] }} StoredState
  */
 
-/** The number of cycles, at the end of a test, whose instructions can be listed. */
+/** The number of cycles at the end of a test for which a failure can list the instructions. */
 export const LISTABLE_CYCLES = 26;
 
 export class TestSession {
@@ -74,7 +74,7 @@ export class TestSession {
   }
 
   /**
-   * Stores the program counter, and whether an instruction still has a pending second cycle.
+   * Stores the program counter, and whether a second cycle is pending, from an answer of the bench.
    * @param {string} regs the answer to `regs`
    */
   readRegistersFrom(regs) {
@@ -158,7 +158,7 @@ export class TestSession {
     else if (cycles > 0) this.actions.push({ line: "run", cycles });
   }
 
-  /** Subtracts the second cycle of the last instruction from the recorded cycles, because this cycle will not run. */
+  /** Subtracts one cycle from the recorded cycles of the last instruction, because its second cycle will not run. */
   subtractLastCycle() {
     if (this.lastRunCycles === 0 || !this.recorder.recordsTimes) return;
     const runLine = this.lastRunCycles > 1 ? `run ${this.lastRunCycles - 1}\n` : "";
@@ -168,7 +168,7 @@ export class TestSession {
   }
 
   /**
-   * Returns the values of the places that a condition reads (`values`), and the other values that it needs (`extraValues`).
+   * Returns the values of the places that a condition reads (`values`), and the other values that the condition needs (`extraValues`).
    * @param {Condition} condition
    * @returns {{ values: string[], extraValues: ExtraValues }}
    */
@@ -194,8 +194,8 @@ export class TestSession {
   }
 
   /**
-   * Checks, like `check`, a condition that must also be true at the end of the instruction, when `owed` is 0. All other effects of an
-   * instruction happen in its first cycle.
+   * Checks a condition like `check`, but the condition must also be true at the end of the instruction, when `owed` is 0. All other effects
+   * of an instruction happen in its first cycle.
    * @param {Condition} condition
    */
   checkAtInstructionEnd(condition) {

@@ -27,7 +27,7 @@ import { readSources } from "./test_text.js";
  * The options of a test run:
  * - `RecorderClass`: the class of the recorder. A subclass of ExecutionRecorder records less, so the profile or the coverage can be empty;
  * - `handleOutcome`: called with each outcome when its test ends;
- * - `handleTestEnd`: called with the session of each test at its end;
+ * - `handleTestEnd`: called at the end of each test, with its session;
  * - `selectedTest`: the test to run, after the tests that save its start state. Without this option, all tests run.
  * @typedef {{ RecorderClass?: typeof ExecutionRecorder, handleOutcome?: (outcome: Outcome, number: number, total: number) => void,
  *   handleTestEnd?: (session: import("./test_session.js").TestSession) => void,
@@ -76,7 +76,7 @@ function findSavingTest(tests, { textNumber, from }) {
 }
 
 /**
- * Returns the wanted test, preceded by the tests that must run first to save its start state.
+ * Returns the wanted tests, each preceded by the tests that must run first to save its start state.
  * @param {Test[]} tests
  * @param {(test: Test) => boolean} isWanted
  */

@@ -270,7 +270,8 @@ class TestReader {
   }
 
   /**
-   * Adds lines to the number of executed lines, multiplied by the counts of the open repetitions. Fails if the number becomes too large.
+   * Adds lines to the number of executed lines. Counts each line as often as the open repetitions repeat it. Fails if the number becomes
+   * too large.
    * @param {number} addedCount the number of lines in the text
    */
   addLines(addedCount) {
@@ -347,7 +348,8 @@ class TestReader {
   }
 
   /**
-   * Parses `from` or `save`. Fails if the line is not allowed here, or if the state does not exist or exists already.
+   * Parses `from` or `save`. Fails if the line is not allowed here, if the state of `from` does not exist, or if that of `save` already
+   * exists.
    * @param {"from" | "save"} kind
    * @param {string[]} words
    * @returns {Action}
