@@ -101,8 +101,8 @@ class ProverQueries {
 }
 
 /**
- * Parses the texts. Returns the object that decides the properties one after the other; null if a text has an error, in which case the
- * errors are in `errors`.
+ * Parses the texts. Returns the object that decides the properties one after the other. If a text has an error, returns null instead, with
+ * the errors in `errors`.
  * @param {Engine} engine
  * @param {ExploredTexts} texts
  * @param {number} maxStates the maximum number of states per question
@@ -124,7 +124,7 @@ export function beginProving(engine, texts, maxStates, calls) {
 }
 
 /**
- * Returns a property and its verdict in the form in which they are sent to the page.
+ * Returns a property and its verdict as they are sent to the page.
  * @param {JudgedProperty} judged
  * @returns {PropertyVerdict}
  */

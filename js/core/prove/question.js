@@ -57,9 +57,9 @@ import * as say from "../../words/prove.js";
  * The limits of a question:
  * - `maxStates`: the maximum number of states; `memory`: the maximum memory for them in MB (0 to use all memory);
  * - `sets`: the maximum number of sets of states; with 0, the prover searches single states;
- * - `pause`: a number of cycles; the prover counts another state when the program has read no input for this long.
+ * - `pause`: a number of cycles; the prover counts an additional state whenever the program has read no input for this long.
  *
- * A search runs at most `maxStates` times `pause` cycles. A proof by sets of states is not a search: the prover computes for each address
+ * A search simulates at most `maxStates` * `pause` cycles. A proof by sets of states is not a search: the prover computes for each address
  * the values that each register can have.
  * @typedef {{ maxStates: number, memory?: number, sets?: number, pause?: number }} QuestionLimits
  */
@@ -80,10 +80,10 @@ const POWER_ON_ADDRESS = 0;
 const EMPTY_QUESTION = { forbidden: [], mistakes: [], stopwatch: null, presses: null, inputLimits: null };
 
 /**
- * Returns increasing limits on the number of states, for repeated tries of a question. Each limit is twice the previous one, except the
- * last limit, which is `maxBound`.
+ * Returns increasing limits on the number of states, for repeated attempts to answer a question. Each limit is twice the previous one,
+ * except the last limit, which is `maxBound`.
  * @param {number} maxBound
- * @param {number} [firstBound]
+ * @param {number} [initialBound]
  */
 export function listBounds(maxBound, firstBound = FIRST_BOUND) {
   const bounds = [];
@@ -92,14 +92,14 @@ export function listBounds(maxBound, firstBound = FIRST_BOUND) {
 }
 
 /**
- * Creates the question whether a condition can ever become true.
+ * Creates the question that asks whether a condition can ever become true.
  * @param {Comparisons[]} forbidden the condition
  * @returns {Question}
  */
 export const neverQuestion = (forbidden) => ({ ...EMPTY_QUESTION, forbidden });
 
 /**
- * Creates the question whether the program can make certain common mistakes.
+ * Creates the question that asks whether the program can make certain common mistakes.
  * @param {string[]} mistakes the words for the mistakes
  * @returns {Question}
  */
@@ -138,7 +138,7 @@ export function combineQuestions(questions) {
 const orImpossibleCondition = (lists) => (lists.length > 0 ? lists : [IMPOSSIBLE_COMPARISONS]);
 
 /**
- * Creates the question whether a stopwatch can exceed its limit. Throws UnsupportedQuestion if the limit is too high.
+ * Creates the question that asks whether a stopwatch can exceed its limit. Throws UnsupportedQuestion if the limit is too high.
  * @param {Comparisons[]} startCondition
  * @param {Comparisons[]} endCondition
  * @param {number} limit
@@ -164,8 +164,8 @@ function findMatrixKey(face, name) {
 }
 
 /**
- * Creates the question whether a condition becomes true only after certain presses. Throws UnsupportedQuestion if the prover cannot count
- * these presses. The condition is evaluated as if no second cycle were pending.
+ * Creates the question that asks whether a condition becomes true only after certain presses. Throws UnsupportedQuestion if the prover
+ * cannot count these presses. The condition is evaluated as if no second cycle were pending.
  * @param {Property} property
  * @param {Subject} subject
  * @returns {Question}
@@ -180,7 +180,7 @@ function createPressQuestion({ condition, address, keys }, { names: { board, fac
 }
 
 /**
- * Creates the question whether the condition of a property can become true, or whether the program can reach its label.
+ * Creates the question that asks whether the condition of a property can become true, or whether the program can reach its label.
  * @param {Property} property
  * @param {Board} board
  */

@@ -10,9 +10,9 @@ import * as say from "../../words/prove.js";
  * @typedef {import("./counterexample.js").Counterexample} Counterexample
  *
  * The verdict on a property:
- * - `proved`: `states` is the number of states in the proof, or of sets of states if `bySets` is true. `limits` are the lines of the text
- *   with the limits on the inputs that the proof needs, or [] if the proof is for all inputs. `leftOut` names the guards that the proof
- *   omits.
+ * - `proved`: `states` is the number of states in the proof, or of sets of states if `bySets` is true. `limits` are the lines of the
+ *   properties text that set the limits on the inputs that the proof needs, or [] if the proof is for all inputs. `leftOut` names the
+ *   guards that the proof omits.
  * - `found`: the prover found a counterexample or, for a goal, a sequence of steps that reaches the goal.
  * - `open`: the property is not decided; `reason` says why.
  * @typedef {{ kind: "proved", states: number, bySets: boolean, limits: string[], leftOut: string }} ProvedVerdict
