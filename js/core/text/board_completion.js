@@ -94,7 +94,7 @@ class BoardParts {
  * Returns the completions of a value.
  * @param {string} text the line that contains the caret
  * @param {number} column
- * @param {RegExpExecArray} value the match of VALUE
+ * @param {RegExpExecArray} valueMatch the match of UNFINISHED_VALUE
  * @param {{ list: CompletionItem[], isQuoted: boolean }} values
  * @returns {Completion}
  */
@@ -122,7 +122,7 @@ export function completeBoard(lines, line, column, tables) {
   if (/^\s*\[+\w*$/.test(textBefore)) return filterCompletions(text, column, toCompletions([...tables.keys()]));
   const table = tableAt(lines, line);
   const parts = new BoardParts(lines.map((lineText, number) => (number === line ? "" : lineText)).join("\n"));
-  // The array that contains the caret can start up to nine lines above.
+  // Finds an array around the caret only if the array starts at most nine lines above.
   const linesBefore = lines.slice(Math.max(0, line - 9), line).map((lineText) => lineText.slice(0, findCommentStart(lineText, "#")));
   const value = VALUE.exec([...linesBefore, textBefore].join("\n").slice(-MAX_CHARACTERS_BEFORE_CARET));
   const isInValue = value && (textBefore.includes(value[1]) || value[0].includes("["));

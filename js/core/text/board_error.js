@@ -1,5 +1,5 @@
-// Describes the error that the bench reports for a board text. The bench names a table and a key. This module finds the position of the
-// table and the key with the parser of board texts. The valid values of each key come from the manual.
+// Describes the error that the bench reports for a board text. The bench names a table and a key. To find their positions, this module uses
+// the parser of board texts. The valid values of each key come from the manual.
 
 import { PART_KEYS, LINE_NAMES, MAX_PARTS, MAX_COLUMNS, BITS_PER_CHIP, VALUE_RANGES, boardLines } from "../bench/board_form.js";
 import { findSimilarWords, formatSuggestion } from "./similar_words.js";

@@ -34,8 +34,8 @@ function isComment(text, { mark }) {
 }
 
 /**
- * Returns whether the head in a line starts an outer range. A head does so after a blank line or a comment. In a text without nested
- * ranges, each head starts an outer range.
+ * Returns whether the head in a line starts an outer range: a range that is not nested in another one. A head after a blank line or a
+ * comment starts an outer range. In a text without nested ranges, each head does.
  * @param {LineAt} lineAt
  * @param {number} line
  * @param {FoldPatterns} patterns
@@ -46,11 +46,11 @@ function isOuter(lineAt, line, patterns) {
 }
 
 /**
- * Returns whether the current range ends before a line.
+ * Returns whether the current foldable range ends before a line.
  * @param {LineAt} lineAt
  * @param {number} line
  * @param {FoldPatterns} patterns
- * @param {boolean} isOuterPart true if the current range is an outer range
+ * @param {boolean} isOuterRange true if the current range is an outer range
  */
 function endsBefore(lineAt, line, patterns, isOuterPart) {
   const text = lineAt(line) || "";

@@ -101,7 +101,7 @@ export function findMissingRoms(lines, map, roms) {
 
 /**
  * Returns whether a text is probably not a program: it has lines with code, and each of these lines has an error. If the list of errors is
- * incomplete, only the lines up to the last error count.
+ * incomplete, ignores the lines after the last error.
  * @param {string} program
  * @param {TextErrors} textErrors the errors in the text
  */

@@ -66,7 +66,7 @@ function findCondition(words) {
 }
 
 /**
- * Returns the possible next words in a line that starts with a label.
+ * Returns the words that can come next in a line that starts with a label.
  * @param {string[]} words the words of the line so far
  */
 function listWordsAfterLabel([, secondWord, ...laterWords]) {
@@ -75,8 +75,8 @@ function listWordsAfterLabel([, secondWord, ...laterWords]) {
 }
 
 /**
- * Returns the possible next words in a line that starts with `no`.
- * @param {string[]} words the words of the line after `no`, so far
+ * Returns the words that can come next in a line that starts with `no`.
+ * @param {string[]} words the words after `no` so far
  * @param {CompletionItem[]} labels
  */
 function listWordsAfterNo(words, labels) {
@@ -87,9 +87,9 @@ function listWordsAfterNo(words, labels) {
 }
 
 /**
- * Returns the possible next words in a line.
+ * Returns the words with which the user can complete the last word of a line.
  * @param {string[]} previousWords the words before the unfinished word
- * @param {string} unfinishedWord the unfinished word
+ * @param {string} unfinishedWord
  * @param {TestNames} names
  * @param {PropertyForms} forms
  * @returns {CompletionItem[]}

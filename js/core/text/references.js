@@ -1,4 +1,4 @@
-// Finds the references to a name in a program: its definition and its uses. Also checks whether a name can be changed to a new one.
+// Finds the references to a name in a program: its definition and its uses. Also checks whether a definition can get a new name.
 
 import { DIRECTIVES, MAX_NAME_LENGTH, NAME, PAIR, REGISTER, findDefinedNames, splitStatement, wordAt } from "./assembly.js";
 import * as say from "../../words/text.js";
@@ -55,7 +55,7 @@ export function findDefinition(lines, name) {
 }
 
 /**
- * Returns the reason why a name cannot be changed to a new one; "" if it can.
+ * Returns the reason why a definition cannot get a new name; "" if it can.
  * @param {string[]} lines
  * @param {string} name the current name
  * @param {string} newName

@@ -29,7 +29,7 @@ import { toAsciiComments, findSendingErrors, sentText } from "./sendable_text.js
 const LAST_TEXT_REFUSAL = 42;
 
 /**
- * Returns a refusal if its cause is an error in a board or program text; otherwise null.
+ * Returns the refusal if its cause is an error in a board or program text; otherwise null.
  * @param {Refusal | null} refusal
  */
 export function textRefusalOrNull(refusal) {

@@ -92,8 +92,8 @@ export function boardTables(manual) {
 }
 
 /**
- * Returns the name of the table that contains a line of a board text; "" before the first table. An open bracket after `columns =` does not
- * start a table.
+ * Returns the name of the table that contains a line of a board text; "" before the first table. The opening bracket after `columns =`
+ * starts an array and not a table.
  * @param {string[]} lines
  * @param {number} line the line number from 0
  */

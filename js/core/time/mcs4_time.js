@@ -21,7 +21,7 @@ export const EYE_CYCLES = 2778;
 export const KEY_DOWN_CYCLES = 4000;
 export const KEY_UP_CYCLES = 2000;
 /**
- * The time for which a key in tests and tools is down (43 ms), and then up (173 ms). These times are long enough for a program that polls
+ * The times for which tests and tools hold a key down (43 ms), and then leave it up (173 ms). They are long enough for a program that polls
  * its keys.
  */
 export const TOOL_KEY_DOWN_CYCLES = 4000;

@@ -48,8 +48,8 @@ export function canFollowLine({ slowdown, isByInstruction }) {
 }
 
 /**
- * Returns whether a click on a key toggles the key, as it does while the session is paused. This is necessary at a speed at which the
- * program could not detect a short press.
+ * Returns whether a click on a key toggles the key, as it does while the session is paused. At such a low speed, a click would otherwise be
+ * too short for the program to detect.
  * @param {Speed} speed
  */
 export function togglesKeys({ slowdown, isByInstruction }) {

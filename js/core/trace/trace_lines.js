@@ -43,7 +43,7 @@ function formatRegisterChanges(row, previousRow) {
 }
 
 /**
- * Stores the values of a row in a group. Returns the changes as text.
+ * Stores the values of a row as the current values of a group. Returns the changes as text.
  * @param {Group} group
  * @param {string | undefined} row the row; undefined if no value changes
  */
@@ -73,8 +73,8 @@ export class TraceLines {
   }
 
   /**
-   * Returns a list with the line for the second cycle of an instruction that started before the trace; an empty list if no second cycle is
-   * pending.
+   * Returns a list with the line for a pending second cycle, whose instruction started before the trace; an empty list if no second cycle
+   * is pending.
    * @param {State} state
    * @param {number} elapsed the number of cycles before the line
    */

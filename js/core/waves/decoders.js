@@ -15,8 +15,8 @@ import * as say from "../../words/waves.js";
 export const REST_CYCLES = 16;
 
 /**
- * The values in the track of a shift register. A value is AT_REST, or the bit that was shifted in plus BIT or OTHER_BIT. BIT and OTHER_BIT
- * alternate, so that two equal bits in a row still count as two changes.
+ * The values in the track of a shift register. A value is AT_REST, or the bit that was shifted in plus EVEN_SHIFT or ODD_SHIFT, which
+ * alternate. Two equal bits in a row therefore still count as two changes.
  */
 const AT_REST = 0;
 const BIT = 2;
@@ -82,7 +82,7 @@ function formatBits(bits, base) {
 }
 
 /**
- * Returns the text for a value in the track of a shift register: the bit that was shifted in; at rest, all bits of the register.
+ * Returns the text for a value in the track of a shift register: the bit that was shifted in; for AT_REST, all bits of the register.
  * @param {number} value
  * @param {number[]} bits
  * @param {NumberBase} base

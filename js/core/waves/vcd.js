@@ -60,8 +60,8 @@ export class VcdText {
   }
 
   /**
-   * Returns the text for the value of a line.
-   * @param {number} index an index into the chosen lines
+   * Returns the VCD text for a new value of a line.
+   * @param {number} index the index of the line in the list of chosen lines
    * @param {number} value
    * @param {number} moment
    */

@@ -2,7 +2,7 @@
 
 import { CYCLES_PER_SECOND } from "../time/mcs4_time.js";
 
-/** Sizes in bytes: of a sample, of the file header, and of the format data in the header. */
+/** The sizes in bytes of a sample, of the file header, and of the format data in the header. */
 const SAMPLE_BYTES = 2;
 const HEAD_BYTES = 44;
 const FORMAT_BYTES = 16;

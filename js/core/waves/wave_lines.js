@@ -43,7 +43,7 @@ function createLine(name, group, kind, details = {}) {
 }
 
 /**
- * Returns the name and title of a lamp or key. A name in the board text that is invalid in a VCD file becomes only the title.
+ * Returns the name and title of a lamp or key. A name in the board text that is invalid in a VCD file is used only as the title.
  * @param {string} group
  * @param {string} ending the number of the lamp or key, for a line without a valid name
  * @param {FaceText | undefined} faceText

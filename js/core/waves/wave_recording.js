@@ -81,8 +81,8 @@ export class Waves {
     this.cycles = cycles;
     this.isStuck = isStuck;
     for (const [line, track] of this.derivedTracks) {
-      // The first moment of the new part is the last moment of the previous part. The new part can contain a change at this moment, so it
-      // is computed again.
+      // The first moment of the new part is the last moment of the previous part. The new part can contain a change at this moment, so the
+      // track is computed again from there.
       track.endAt(previousEnd - 1);
       this.extendTrack(line, track, previousEnd - 1);
     }
@@ -154,7 +154,7 @@ export class Waves {
 
   /**
    * Computes the value of a derived line. The value of a port or key scan comes from its member lines; the program counter and the label
-   * come from the instructions. A shift register counts as being at rest.
+   * come from the instructions. The value of a shift register is 0, which means at rest.
    * @param {number} line
    * @param {number} moment
    */

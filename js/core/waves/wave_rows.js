@@ -66,7 +66,7 @@ export class WaveRows {
     names.forEach((name, index) => {
       if (!placedNames.has(name)) sortedNames.splice(index === 0 ? 0 : sortedNames.indexOf(names[index - 1]) + 1, 0, name);
     });
-    // The rows of a group follow its first row.
+    // All rows of a group directly follow its first row.
     const groups = [...new Set(sortedNames.map((name) => this.groupOf(name) || ` ${name}`))];
     const members = new Map(groups.map((group) => [group, /** @type {string[]} */ ([])]));
     for (const name of sortedNames) (members.get(this.groupOf(name) || ` ${name}`) || []).push(name);
@@ -95,7 +95,8 @@ export class WaveRows {
   }
 
   /**
-   * Moves a row (or a whole group, by its heading) to the position of another row. A row that moves into a group joins the group.
+   * Moves a row to the position of another row. If the row is the heading of a group, moves the group. A row that moves into a group joins
+   * it.
    * @param {WaveRow[]} rows
    * @param {string[]} names the names of all visible lines, in row order
    * @param {number} fromIndex

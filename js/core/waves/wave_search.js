@@ -67,8 +67,8 @@ export function readSearch(text, waves, markedLine) {
 }
 
 /**
- * Returns the index of the line with a name, or of the marked line if the name is "". If there is no such line, `error` is the error
- * message.
+ * Returns the index of the line that a search reads: the line with a name, or the marked line if the name is "". If there is no such line,
+ * `error` is the error message.
  * @param {string} name
  * @param {Waves} waves
  * @param {number} markedLine
@@ -147,6 +147,6 @@ export function findMatch(waves, { line, matches, findsEachMatch }, moment, isFo
   for (let index = first; index >= 0 && index < changes.length; index += direction) {
     if (matches(track.valueAfter(index + 1)) && (findsEachMatch || !matches(track.valueAfter(index)))) return changes[index];
   }
-  // The first value of the recording can also match.
+  // A backward search can also find the initial value, at the start of the recording.
   return !isForward && !findsEachMatch && moment > waves.from && matches(track.first) ? waves.from : -1;
 }

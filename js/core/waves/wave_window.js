@@ -166,7 +166,7 @@ export class WaveWindow {
 }
 
 /**
- * Returns the moments of the time scale's ticks. The ticks are far enough apart for their labels.
+ * Returns the moments of the ticks on the time scale. The ticks are far enough apart for their labels.
  * @param {WaveWindow} view
  * @param {number} labelWidth the required width per label in pixels
  */
