@@ -81,8 +81,8 @@ export class MovedParts {
    */
   restoreChains({ chains, points }) {
     for (const [currentNumber, point] of this.takeChains()) {
-      const number = chains.reduce((sum, deletedNumber) => (deletedNumber <= sum ? sum + 1 : sum), currentNumber);
-      this.positions.set(`chain ${number}`, point);
+      const oldNumber = chains.reduce((number, deletedNumber) => (deletedNumber <= number ? number + 1 : number), currentNumber);
+      this.positions.set(`chain ${oldNumber}`, point);
     }
     for (const [part, point] of points) this.positions.set(part, point);
   }

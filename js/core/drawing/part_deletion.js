@@ -6,7 +6,7 @@ import { Face } from "../board/face.js";
 import { isMultiplexed, groupLamps } from "../board/face_board.js";
 import { removeColumns, removeRows, renamePorts, renumberLamps, setLineText } from "./face_edits.js";
 import { BUZZER, splitTarget } from "./board_lines.js";
-import { displayedPartName, setRows } from "./part_addition.js";
+import { formatPartName, setRows } from "./part_addition.js";
 import { removeElement, removePart, replaceValue, setValue } from "./part_edits.js";
 import { ImpossibleAction } from "./edited_board.js";
 import * as say from "../../words/drawing.js";
@@ -53,7 +53,7 @@ export function lampsInSameGroup(face, lamp) {
  * @param {Face} face
  * @param {number} lamp
  */
-export function displayAt(face, lamp) {
+export function findDisplayAt(face, lamp) {
   return face.groups.find((group) => group.kind === "display" && group.first === lamp && (group.columns === 4 || group.columns === 7)
     && !isMultiplexed(group));
 }
@@ -148,11 +148,11 @@ function removeChain(editedBoard, chain) {
   const renumberChain = (line) => line.replace(/^chain(\d+)/, (_, number) => `chain${Number(number) - (Number(number) > chain ? 1 : 0)}`);
   const { draft } = editedBoard;
   const lineValues = draft.partsOfKind("lamp").map((entry) => draft.requireKey(entry, "line").value);
-  const renamedValues = lineValues.filter(({ inner }) => renumberChain(String(inner)) !== inner);
+  const valuesToRename = lineValues.filter(({ inner }) => renumberChain(String(inner)) !== inner);
   const chainNumbers = draft.partsOfKind("keys").map((entry) => draft.requireKey(entry, "chain").value)
     .filter(({ inner }) => Number(inner) > chain);
   editedBoard.edit([
-    ...renamedValues.map((value) => replaceValue(draft, value, renumberChain(String(value.inner)))),
+    ...valuesToRename.map((value) => replaceValue(draft, value, renumberChain(String(value.inner)))),
     ...chainNumbers.map((value) => replaceValue(draft, value, Number(value.inner) - 1)),
   ]);
   editedBoard.edit(renamePorts(editedBoard.draft, (port) => (port === `chain${chain}` ? "" : renumberChain(port))));
@@ -275,7 +275,7 @@ function describeDependents({ buzzer }, deletedParts, part) {
   const { chains, keys, columns, lamps } = deletedParts;
   const dependents = [...chains].map((chain) => `chain ${chain}`).filter((name) => name !== part);
   const otherLampCount = part === "lamps" || (part.startsWith("lamp ") && lamps.size === 1) ? 0 : lamps.size;
-  if (keys && part !== "keys") dependents.push(displayedPartName("keys"));
+  if (keys && part !== "keys") dependents.push(formatPartName("keys"));
   else if (!keys && columns.size > 0 && !part.startsWith("column")) dependents.push(say.ofKeys(formatQuantity(columns.size, "column")));
   if (otherLampCount > 0) {
     dependents.push(part.startsWith("lamp ") ? say.allLampsOf(otherLampCount) : formatQuantity(otherLampCount, "lamp"));

@@ -16,7 +16,7 @@ import * as say from "../../words/import.js";
 /** The maximum nesting depth of an expression. */
 const MAX_DEPTH = 50;
 /** The number of possible values of a byte. */
-const BYTE_VALUES = 256;
+const BYTE_VALUE_COUNT = 256;
 /** The value of the highest bit that the operator & evaluates. */
 const HIGHEST_BIT = 4096;
 const NAME = /[A-Za-z_.?@][A-Za-z0-9_.?@$]*/y;
@@ -149,7 +149,7 @@ class Evaluation {
     if (byteFunction) {
       this.index += byteFunction[0].length - 1;
       const value = this.parseBracketed();
-      return /^l/i.test(byteFunction[0]) ? value % BYTE_VALUES : Math.trunc(value / BYTE_VALUES);
+      return /^l/i.test(byteFunction[0]) ? value % BYTE_VALUE_COUNT : Math.trunc(value / BYTE_VALUE_COUNT);
     }
     const character = this.match(CHARACTER);
     if (character) return this.parseCharacter(character[0]);
@@ -177,7 +177,7 @@ class Evaluation {
     if (sign === "-") return -this.parseFactor();
     if (sign === "+") return this.parseFactor();
     const value = this.parseSum();
-    return sign === "<" ? ((value % BYTE_VALUES) + BYTE_VALUES) % BYTE_VALUES : Math.trunc(value / BYTE_VALUES);
+    return sign === "<" ? ((value % BYTE_VALUE_COUNT) + BYTE_VALUE_COUNT) % BYTE_VALUE_COUNT : Math.trunc(value / BYTE_VALUE_COUNT);
   }
 
   /** Parses an expression in parentheses, and returns its value. */

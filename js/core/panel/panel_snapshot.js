@@ -25,8 +25,8 @@ import { visibleLines } from "../machine/listing_range.js";
 export const CHIP_ROWS = 5;
 /** The number of bytes in a new listing before the program counter. */
 const BYTES_BEFORE = 6;
-/** If the program counter is in the last LINES_LEFT lines of the listing, or not in the listing, the panel reads a new listing. */
-const LINES_LEFT = 2;
+/** If the program counter is in the last MIN_LINES_LEFT lines of the listing, or not in the listing, the panel reads a new listing. */
+const MIN_LINES_LEFT = 2;
 
 /** The state of the session that the panel shows. */
 export class PanelSnapshot {
@@ -137,7 +137,7 @@ export class PanelSnapshot {
    */
   async refreshListing(rows) {
     const { counter } = this;
-    if (this.listing.slice(0, -LINES_LEFT).some(({ address }) => address === counter)) return;
+    if (this.listing.slice(0, -MIN_LINES_LEFT).some(({ address }) => address === counter)) return;
     const from = Math.max(0, counter - BYTES_BEFORE);
     this.listing = visibleLines(await this.reader.read({ from, anchor: counter }, rows), from, rows);
   }

@@ -65,9 +65,9 @@ export function findLatestMoments(changes, inputs, minWait, maxPressTime) {
 export function createSteps(changes, moments) {
   let time = 0;
   return changes.flatMap(({ released, pressed }, at) => {
-    const moves = [...released.map((input) => ({ kind: /** @type {const} */ ("up"), input })),
+    const inputChanges = [...released.map((input) => ({ kind: /** @type {const} */ ("up"), input })),
       ...pressed.map((input) => ({ kind: /** @type {const} */ ("down"), input }))];
-    return moves.map((move) => {
+    return inputChanges.map((move) => {
       const wait = moments[at] - time;
       time = moments[at];
       return { wait, ...move };

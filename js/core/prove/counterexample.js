@@ -26,7 +26,7 @@ import { listInputs, replayReads } from "./input_replay.js";
  */
 
 /** The maximum number of cycles that the bench may run to minimise a counterexample. */
-const MINIMISING_CYCLES = 10e6;
+const MAX_CYCLES_TO_MINIMISE = 10e6;
 /**
  * A counterexample to a property with labels is minimised only if its length is at most this number of cycles, because minimising a longer
  * one would take too long.
@@ -225,12 +225,12 @@ class Replay {
     const allowedSteps = separateChanges(violation.steps, minWait);
     if (allowedSteps && this.isAllowed({ ...violation, steps: allowedSteps })) {
       const campaign = { ...freeCampaign, maxKeysDown, maxHoldTime, minReleaseTime, minWait };
-      const minimised = await this.minimiseIn(campaign, { ...violation, steps: allowedSteps }, yieldToMessages);
+      const minimised = await this.minimiseWithin(campaign, { ...violation, steps: allowedSteps }, yieldToMessages);
       if (minimised && this.isAllowed(minimised)) return minimised;
     }
     if (this.isAllowed(violation)) return violation;
     const steps = separateChanges(violation.steps, freeCampaign.minWait);
-    return steps && await this.minimiseIn(freeCampaign, { ...violation, steps }, yieldToMessages) || violation;
+    return steps && await this.minimiseWithin(freeCampaign, { ...violation, steps }, yieldToMessages) || violation;
   }
 
   /**
@@ -240,10 +240,10 @@ class Replay {
    * @param {Violation} violation
    * @param {() => Promise<void>} yieldToMessages
    */
-  minimiseIn(campaign, violation, yieldToMessages) {
+  minimiseWithin(campaign, violation, yieldToMessages) {
     const { subject } = this;
     const start = this.createStart(subject.file);
-    return new Minimiser(subject, campaign, start, violation, MINIMISING_CYCLES, yieldToMessages).minimise();
+    return new Minimiser(subject, campaign, start, violation, MAX_CYCLES_TO_MINIMISE, yieldToMessages).minimise();
   }
 
   /**
@@ -252,9 +252,9 @@ class Replay {
    */
   isAllowed({ steps, time }) {
     const { allowedCampaign, freeCampaign, shortestAllowedWait } = this;
-    const inputIndexes = freeCampaign.inputs.map(({ downLine }) => (
+    const inputIndices = freeCampaign.inputs.map(({ downLine }) => (
       allowedCampaign.inputs.findIndex((input) => input.downLine === downLine)));
-    const allowedSteps = steps.map((step) => ({ ...step, input: step.kind === "none" ? -1 : inputIndexes[step.input] }));
+    const allowedSteps = steps.map((step) => ({ ...step, input: step.kind === "none" ? -1 : inputIndices[step.input] }));
     const remainingCycles = allowedSteps.reduce((remaining, { wait }) => remaining - wait, time);
     const isChecked = time > allowedCampaign.checkStart || allowedCampaign.checkStart === 0;
     return isChecked && allowedSteps.every(({ kind, input }) => kind === "none" || input >= 0)

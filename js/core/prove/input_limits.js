@@ -51,7 +51,7 @@ function listPressableKeys({ inputs }, { rows, columns }) {
  * @param {MatrixKey[]} keys
  * @param {Board} board
  */
-function countLinesAtOnePort(keys, { matrix }) {
+function findMaxLinesAtOnePort(keys, { matrix }) {
   const lines = new Set(keys.map(({ column }) => (matrix ? matrix.columns[column] : "")));
   const ports = [...lines].map((line) => line.split(".")[0]);
   return Math.max(0, ...ports.map((port) => ports.filter((other) => other === port).length));
@@ -114,7 +114,7 @@ export function listInputLimits(campaign, board) {
   if (from) return [];
   const proofKeys = listProofKeys(campaign, board);
   const limitsKeys = proofKeys.length < listMatrixKeys(board).length;
-  const limitsCount = maxKeysDown < countLinesAtOnePort(proofKeys, board);
+  const limitsKeyCount = maxKeysDown < findMaxLinesAtOnePort(proofKeys, board);
   const limitsWait = explainMissingWait(campaign, board) === "";
   const createLimits = (/** @type {boolean} */ usesCount, /** @type {boolean} */ usesWait, /** @type {boolean} */ usesHeld) => ({
     keys: limitsKeys ? proofKeys : null,
@@ -124,11 +124,11 @@ export function listInputLimits(campaign, board) {
     words: [...(limitsKeys ? inputWords : []), ...(usesCount ? [say.togetherLine(maxKeysDown)] : []), ...(usesWait ? [say.WAIT_WORD] : []),
       ...(usesHeld ? [say.HELD_WORD] : [])],
   });
-  const countsWithWait = maxKeysDown < proofKeys.length;
+  const limitsKeyCountWithWait = maxKeysDown < proofKeys.length;
   return [
-    ...(limitsKeys || limitsCount ? [createLimits(limitsCount, false, false)] : []),
-    ...(limitsWait ? [createLimits(countsWithWait, true, false)] : []),
-    ...(limitsWait && proofKeys.length > 0 && maxHoldTime <= MAX_PRESS_TIME ? [createLimits(countsWithWait, true, true)] : []),
+    ...(limitsKeys || limitsKeyCount ? [createLimits(limitsKeyCount, false, false)] : []),
+    ...(limitsWait ? [createLimits(limitsKeyCountWithWait, true, false)] : []),
+    ...(limitsWait && proofKeys.length > 0 && maxHoldTime <= MAX_PRESS_TIME ? [createLimits(limitsKeyCountWithWait, true, true)] : []),
   ];
 }
 
@@ -158,9 +158,9 @@ export function listPropertyLimits(property, campaign, inputLimits, board) {
   if (property.form !== "no press" || campaign.from || explainMissingPressLimit(property, campaign, board) !== "") return inputLimits;
   const lastLimits = inputLimits[inputLimits.length - 1];
   const maxPressTime = findMaxPressTime(property, campaign);
-  const isLimitedBetter = lastLimits.maxPressTime !== null && lastLimits.maxPressTime <= maxPressTime;
+  const hasStricterLimit = lastLimits.maxPressTime !== null && lastLimits.maxPressTime <= maxPressTime;
   const words = lastLimits.words.filter((word) => word !== say.HELD_WORD);
-  return isLimitedBetter ? inputLimits : [...inputLimits, { ...lastLimits, maxPressTime, words }];
+  return hasStricterLimit ? inputLimits : [...inputLimits, { ...lastLimits, maxPressTime, words }];
 }
 
 /**
@@ -184,9 +184,9 @@ export function explainMissingPressLimit(property, campaign, board) {
 export function formatInputLimits(limits) {
   if (!limits) return [];
   const { keys, maxKeysDown, minWait, maxPressTime } = limits;
-  const countLines = maxKeysDown === null ? [] : [["together", maxKeysDown].join(" ")];
+  const togetherLines = maxKeysDown === null ? [] : [["together", maxKeysDown].join(" ")];
   const waitLines = minWait > 1 ? [["wait", minWait].join(" ")] : [];
   const heldLines = maxPressTime === null ? [] : [["held", maxPressTime].join(" ")];
   const keyLines = keys ? ["only", ...keys.map((key) => keyLine("press", key)), "test"] : [];
-  return [...countLines, ...waitLines, ...heldLines, ...keyLines];
+  return [...togetherLines, ...waitLines, ...heldLines, ...keyLines];
 }

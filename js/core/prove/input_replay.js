@@ -118,8 +118,8 @@ class InputReplay {
    * @param {number} level
    */
   setTest(level) {
-    const pin = this.inputs.length - 1;
-    this.moveInput(pin, isSameKey(this.inputs[pin].key, pinKey(level)));
+    const pinIndex = this.inputs.length - 1;
+    this.moveInput(pinIndex, isSameKey(this.inputs[pinIndex].key, pinKey(level)));
   }
 
   /**
@@ -246,8 +246,8 @@ class LevelReplay extends InputReplay {
   setInputs(levels) {
     const step = { time: this.time, code: this.findNextReadCode(), levels };
     this.levelSteps.push(step);
-    const readInputs = indices(this.inputs.length).filter((index) => isRead(step, index === this.inputs.length - 1));
-    for (const index of readInputs) this.moveInput(index, isDownAt(step, this.inputs, index));
+    const inputsToSet = indices(this.inputs.length).filter((index) => isRead(step, index === this.inputs.length - 1));
+    for (const index of inputsToSet) this.moveInput(index, isDownAt(step, this.inputs, index));
   }
 }
 
@@ -291,11 +291,11 @@ function listChanges(levelSteps, inputs, isDemanded) {
   const firstMoments = inputs.map(() => 1);
   const changes = levelSteps.flatMap((step) => {
     const { time } = step;
-    const demanded = indices(inputs.length).filter((index) => isDemanded(step, index === inputs.length - 1));
-    const pressed = demanded.filter((index) => isDownAt(step, inputs, index) && !downInputs.includes(index));
-    const released = demanded.filter((index) => !isDownAt(step, inputs, index) && downInputs.includes(index));
+    const demandedInputs = indices(inputs.length).filter((index) => isDemanded(step, index === inputs.length - 1));
+    const pressed = demandedInputs.filter((index) => isDownAt(step, inputs, index) && !downInputs.includes(index));
+    const released = demandedInputs.filter((index) => !isDownAt(step, inputs, index) && downInputs.includes(index));
     const first = Math.min(time, Math.max(...[...pressed, ...released].map((index) => firstMoments[index])));
-    for (const index of demanded) firstMoments[index] = time + 1;
+    for (const index of demandedInputs) firstMoments[index] = time + 1;
     downInputs = [...downInputs.filter((index) => !released.includes(index)), ...pressed];
     return pressed.length + released.length === 0 ? [] : [{ released, pressed, first, last: time }];
   });
@@ -314,9 +314,9 @@ function listChanges(levelSteps, inputs, isDemanded) {
  * @returns {{ steps: WalkStep[], releaseSteps: WalkStep[] }}
  */
 function scheduleChanges(levelSteps, inputs, { minWait, maxPressTime }) {
-  // The levels at power-on are no change, so they matter only if the first cycle reads them.
-  const demandingSteps = levelSteps.filter(({ time, code }) => time > 0 || code >= 0);
-  const changeLists = LEVEL_DEMANDS.map((isDemanded) => listChanges(demandingSteps, inputs, isDemanded));
+  // Levels at power-on do not count as changes. They need not be set unless the first cycle reads them.
+  const requiredSteps = levelSteps.filter(({ time, code }) => time > 0 || code >= 0);
+  const changeLists = LEVEL_DEMANDS.map((isDemanded) => listChanges(requiredSteps, inputs, isDemanded));
   for (const { changes, releases } of changeLists) {
     for (const allChanges of maxPressTime === Infinity ? [changes] : [[...changes, ...releases], changes]) {
       const moments = findLatestMoments(allChanges, inputs, minWait, maxPressTime);

@@ -28,7 +28,7 @@ export class JointQuestion {
    * Returns whether the answer to the combined question also applies to each single question.
    * @param {InputLimits | null} inputLimits
    */
-  isFinal(inputLimits) {
+  hasFinalAnswer(inputLimits) {
     const answer = this.answers.get(inputLimits);
     return answer !== undefined && (this.isSingle || this.finalKinds.has(answer.kind));
   }
@@ -41,9 +41,9 @@ export class JointQuestion {
    */
   async askAbout(question) {
     const { inputLimits } = question;
-    if (inputLimits && !this.isFinal(null)) return this.ask(question);
+    if (inputLimits && !this.hasFinalAnswer(null)) return this.ask(question);
     const answer = this.answers.get(inputLimits) || await this.ask({ ...this.question, inputLimits });
     this.answers.set(inputLimits, answer);
-    return this.isFinal(inputLimits) ? answer : this.ask(question);
+    return this.hasFinalAnswer(inputLimits) ? answer : this.ask(question);
   }
 }

@@ -8,7 +8,7 @@ import { replayCounterexample } from "./counterexample.js";
 import { explainMissingPressLimit, listInputLimits, listPropertyLimits } from "./input_limits.js";
 import { JointQuestion } from "./joint_question.js";
 import { listMistakes } from "./mistakes.js";
-import { createQuestion, nameOmittedGuards, mistakeQuestion, needsCounting, needsSeparateQuestion } from "./question.js";
+import { createQuestion, describeOmittedGuards, createMistakeQuestion, needsCounting, needsSeparateQuestion } from "./question.js";
 import * as say from "../../words/prove.js";
 
 /**
@@ -54,7 +54,7 @@ const FINAL_MISTAKE_ANSWERS = new Set(["holds", "more", "full", "lost"]);
  * @returns {Verdict}
  */
 const createProvedVerdict = (property, states, bySets, limits) => (
-  { kind: "proved", states, bySets, limits, leftOut: nameOmittedGuards(property) });
+  { kind: "proved", states, bySets, limits, leftOut: describeOmittedGuards(property) });
 
 /**
  * Returns the reason why a property stays undecided if the bench does not confirm the prover's counterexample.
@@ -63,9 +63,9 @@ const createProvedVerdict = (property, states, bySets, limits) => (
  * @param {Campaign} campaign
  * @param {Subject} subject
  */
-function explainUnconfirmed(property, { inputLimits }, campaign, { names: { board } }) {
+function explainUnconfirmedCounterexample(property, { inputLimits }, campaign, { names: { board } }) {
   const { form, guards, isGoal, limit } = property;
-  if (guards.length > 0) return say.failsWithoutGuards(nameOmittedGuards(property), isGoal);
+  if (guards.length > 0) return say.failsWithoutGuards(describeOmittedGuards(property), isGoal);
   if (form === "only after") return say.TRUE_BEFORE_KEYS_ARE_READ;
   if (form !== "no press") return say.NOT_CONFIRMED;
   const maxPressTime = inputLimits && inputLimits.maxPressTime;
@@ -103,7 +103,8 @@ export class PropertyJudge {
     /** @type {Verdict | null} the verdict if a proof by sets of states shows that the program makes no common mistake; otherwise null */
     this.noMistakeVerdict = null;
     /** The question about all common mistakes. */
-    this.anyMistakeQuestion = new JointQuestion(this.mistakes.map(({ word }) => mistakeQuestion([word])), FINAL_MISTAKE_ANSWERS, calls.ask);
+    this.anyMistakeQuestion = new JointQuestion(
+      this.mistakes.map(({ word }) => createMistakeQuestion([word])), FINAL_MISTAKE_ANSWERS, calls.ask);
   }
 
   /** The number of properties and common mistakes. */
@@ -158,7 +159,7 @@ export class PropertyJudge {
     }
     if (this.noMistakeVerdict) return { property, verdict: this.noMistakeVerdict };
     const campaign = { ...this.campaign, properties: [property] };
-    const verdict = await this.judge(property, mistakeQuestion([word]), async (question) => (
+    const verdict = await this.judge(property, createMistakeQuestion([word]), async (question) => (
       this.createVerdict(property, question, await anyMistakeQuestion.askAbout(question), campaign, word)));
     return { property, verdict };
   }
@@ -228,7 +229,7 @@ export class PropertyJudge {
     const { subject, calls } = this;
     const index = campaign.properties.indexOf(property);
     const counterexample = await replayCounterexample(subject, campaign, index, answer.reads, calls.yieldToMessages, mistake);
-    if (!counterexample) return { kind: "open", reason: explainUnconfirmed(property, question, campaign, subject) };
+    if (!counterexample) return { kind: "open", reason: explainUnconfirmedCounterexample(property, question, campaign, subject) };
     if (!await calls.confirm(counterexample, property.isGoal)) return { kind: "open", reason: say.NOT_CONFIRMED };
     if (counterexample.isAllowed || property.isGoal) return { kind: "found", counterexample };
     return { kind: "open", reason: say.onlyExcludedInputs(formatSteps(counterexample.steps)) };

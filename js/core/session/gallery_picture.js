@@ -133,7 +133,7 @@ class Drawing {
  * @param {string} boardText
  * @returns {GalleryPicture}
  */
-export function galleryPicture(boardText) {
+export function drawGalleryPicture(boardText) {
   const drawing = new Drawing(boardText);
   drawing.drawGroups();
   drawing.drawGrid(drawing.face.grid.filter(({ lamp }) => lamp < drawing.lampCount));

@@ -27,7 +27,7 @@ function expandTabs(text) {
 }
 
 /** @type {(jump: LineCoverage) => boolean} returns whether a conditional jump ran and always took the same direction */
-const isOneDirection = ({ isJump, count, jumpCount }) => isJump && count > 0 && (jumpCount === 0 || jumpCount === count);
+const isOneDirectionJump = ({ isJump, count, jumpCount }) => isJump && count > 0 && (jumpCount === 0 || jumpCount === count);
 
 /**
  * Returns the report row for a source line.
@@ -50,7 +50,7 @@ export function coverageText(coverage, { text, linesBefore }) {
   const rows = text.replace(/\n$/, "").split("\n").map((source, index) => formatRow(source, lineCoverage.get(index + 1)));
   const rangeTexts = coverage.unexecutedRanges.map(({ from, to }) => (
     from === to ? `${from + linesBefore}` : say.formatRange(from + linesBefore, to + linesBefore)));
-  const oneDirectionTexts = coverage.lines.filter(isOneDirection).map(({ line, jumpCount }) => (
+  const oneDirectionTexts = coverage.lines.filter(isOneDirectionJump).map(({ line, jumpCount }) => (
     say.describeDirection(line + linesBefore, jumpCount > 0)));
   const summaryLines = [
     "", formatCoverageSummary(coverage),

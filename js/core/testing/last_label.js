@@ -35,7 +35,7 @@ function* splitRuns(actions) {
  * @param {Set<number>} addresses
  * @returns {PassedInstruction | null}
  */
-export function findLastPassed({ engine, initialFile, actions }, addresses) {
+export function findLastPassedInstruction({ engine, initialFile, actions }, addresses) {
   const file = initialFile.slice();
   const stateBefore = initialFile.slice();
   let [runCycles, elapsed, elapsedBefore] = [0, 0, 0];
@@ -67,12 +67,12 @@ export function findLastPassed({ engine, initialFile, actions }, addresses) {
  */
 export function describeLastLabel(session, map, { address, text }) {
   const labels = [...map.names.values()].filter(({ isLabel }) => isLabel);
-  const passedLabel = findLastPassed(session, new Set(labels.map(({ value }) => value)));
+  const passedLabel = findLastPassedInstruction(session, new Set(labels.map(({ value }) => value)));
   const formatAge = (/** @type {PassedInstruction} */ { cycles }) => say.cyclesAgo(session.elapsed - cycles);
   const namedLabel = passedLabel && labels.find(({ value }) => value === passedLabel.address);
   const labelText = passedLabel && namedLabel ? say.lastLabel(namedLabel.name, formatAge(passedLabel)) : "";
   if (address < 0) return labelText;
-  const passedAddress = findLastPassed(session, new Set([address]));
-  const passText = passedAddress ? say.lastPassedAgo(formatAge(passedAddress)) : say.NOT_PASSED;
-  return say.lastLabelAndCondition(labelText, text.startsWith("@") ? text : `pc ${address}`, passText);
+  const passedAddress = findLastPassedInstruction(session, new Set([address]));
+  const arrivalText = passedAddress ? say.lastPassedAgo(formatAge(passedAddress)) : say.NOT_PASSED;
+  return say.lastLabelAndCondition(labelText, text.startsWith("@") ? text : `pc ${address}`, arrivalText);
 }

@@ -26,7 +26,7 @@ export const DEFAULT_PACE = { down: TOOL_KEY_DOWN_CYCLES, up: TOOL_KEY_UP_CYCLES
  * @param {Pace} pace
  * @returns {PressLines}
  */
-export function pressLines(face, text, { down, up }) {
+export function createPressLines(face, text, { down, up }) {
   const keys = listNamedKeys(face);
   const names = text.split(/[ \t\n]+/).filter((word) => word !== "").flatMap((word) => (keys.has(word) ? [word] : [...word]));
   const unknownName = names.find((name) => !keys.has(name));

@@ -74,7 +74,7 @@ export class ExecutionRecorder {
    * @param {() => ForecastAnswers} askAll returns the answer with a trace of all instructions in the run
    */
   recordRun(answers, elapsed, askAll) {
-    const callAndReturnCount = this.count(answers.takeCounts());
+    const callAndReturnCount = this.addCounts(answers.takeCounts());
     const lines = answers.takeTrace().lines;
     if (this.lastPress.key !== "") this.trackLampChanges(answers.takeTrace().lines, elapsed);
     // The short trace omits a JMS or BBL that does not change the return addresses. If a line is missing, a full trace is used instead.
@@ -85,7 +85,7 @@ export class ExecutionRecorder {
    * Counts the instructions in a run. Returns the number of calls and returns (JMS and BBL) in the run.
    * @param {InstructionCount[]} counts
    */
-  count(counts) {
+  addCounts(counts) {
     let callAndReturnCount = 0;
     for (const { address, startCount, jumpCount } of counts) {
       const code = this.codes[address];
@@ -217,7 +217,7 @@ export class LineRecorder extends ExecutionRecorder {
    * @param {ForecastAnswers} answers
    */
   recordRun(answers) {
-    this.count(answers.takeCounts());
+    this.addCounts(answers.takeCounts());
   }
 }
 

@@ -42,7 +42,7 @@ async function findConditions(engine, { file, names: { face, board }, codes }, p
  * @param {Engine} engine
  * @param {Texts} texts
  */
-export async function sampleTest(engine, texts) {
+export async function createSampleTest(engine, texts) {
   const { prepared } = prepareTests(engine, texts);
   if (!prepared) return say.SAMPLE_OF_CYCLES;
   const [key = null] = listNamedKeys(prepared.names.face).values();

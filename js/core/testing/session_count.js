@@ -34,7 +34,7 @@ import { TestSession } from "./test_session.js";
  * @param {typeof ExecutionRecorder} [RecorderClass] the class of the recorder
  * @returns {Promise<SessionCountResult>}
  */
-export async function countSession(engine, state, programText, cycles, RecorderClass = ExecutionRecorder) {
+export async function measureSession(engine, state, programText, cycles, RecorderClass = ExecutionRecorder) {
   const startState = copyWithoutStops(engine, state);
   const codes = romCodes(engine, startState);
   const { errors, difference, map } = compareWithRom(engine, codes, programText);

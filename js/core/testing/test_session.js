@@ -55,7 +55,7 @@ export class TestSession {
     this.spareBuffer = new Uint8Array(file.length);
     this.counter = 0;
     this.owed = "0";
-    this.readRegistersFrom(this.ask("regs\n")[0]);
+    this.storeRegisters(this.ask("regs\n")[0]);
     recorder.begin();
     this.beginsInSecondCycle = this.owed === "1";
   }
@@ -77,7 +77,7 @@ export class TestSession {
    * Stores the program counter, and whether a second cycle is pending, from an answer of the bench.
    * @param {string} regs the answer to `regs`
    */
-  readRegistersFrom(regs) {
+  storeRegisters(regs) {
     const { counter, owed } = readCounter(regs);
     this.counter = parseInt(counter, 16);
     this.owed = owed;
@@ -91,7 +91,7 @@ export class TestSession {
     if (line === "reset" && this.owed === "1") this.subtractLastCycle();
     const [answer, regs] = this.engine.serve(this.file, `${line}\nregs\n`, this.file).answers;
     if (!answer.startsWith("ok ")) throw new Error(`the bench answered ${answer} to: ${line}`);
-    this.readRegistersFrom(regs);
+    this.storeRegisters(regs);
     this.storedState.laterActions.push({ line, cycles: 0 });
     this.actions.push({ line, cycles: 0 });
   }
@@ -135,7 +135,7 @@ export class TestSession {
       recorder.earlierInstructionCycles += 1;
     }
     [this.file, this.previousFile] = [previousFile, file];
-    this.readRegistersFrom(answers.take());
+    this.storeRegisters(answers.take());
     this.lastRunCycles = run.cycles;
     if (run.cycles >= LISTABLE_CYCLES) {
       const { file: previousBuffer } = this.storedState;
@@ -175,8 +175,8 @@ export class TestSession {
   readCondition({ places, needs }) {
     const lampForecast = needs.includes("lampForecast") ? this.ask(LAMPS_FORECAST_QUERY) : [];
     const needsKeys = needs.includes("keys");
-    const trace = places.length > 0 ? `trace 1 ${places.join(" ")}\n` : "";
-    const answers = new ForecastAnswers(this.ask(`${trace}regs\n${needsKeys ? "state\n" : ""}`));
+    const traceQuery = places.length > 0 ? `trace 1 ${places.join(" ")}\n` : "";
+    const answers = new ForecastAnswers(this.ask(`${traceQuery}regs\n${needsKeys ? "state\n" : ""}`));
     const values = places.length > 0 ? rowValues(answers.takeTrace().row) : [];
     const { owed, test } = readRegisters(answers.take());
     const keys = needsKeys ? stateValue(answers.take(), "keys") : "";

@@ -38,7 +38,7 @@ import { readSources } from "./test_text.js";
  */
 
 /** The minimum time between two calls of `shouldContinue`, in milliseconds. */
-const YIELD_INTERVAL = 40;
+const YIELD_INTERVAL_MS = 40;
 
 /**
  * Parses the texts of a board, a program and its tests. Returns the prepared session and the tests, or the errors.
@@ -80,7 +80,7 @@ function findSavingTest(tests, { textNumber, from }) {
  * @param {Test[]} tests
  * @param {(test: Test) => boolean} isWanted
  */
-function addPrerequisites(tests, isWanted) {
+function selectWithPrerequisites(tests, isWanted) {
   /** @type {Set<Test>} */
   const selectedTests = new Set();
   for (let test = tests.find(isWanted); test && !selectedTests.has(test); test = findSavingTest(tests, test)) selectedTests.add(test);
@@ -108,14 +108,14 @@ export async function runTests(engine, texts, shouldContinue, options = {}) {
   const { sources = [] } = texts;
   const isSelected = selectedTest
     && ((/** @type {Test} */ { name, textNumber }) => name === selectedTest.name && sources[textNumber - 1].name === selectedTest.source);
-  const tests = isSelected ? addPrerequisites(allTests, isSelected) : allTests;
+  const tests = isSelected ? selectWithPrerequisites(allTests, isSelected) : allTests;
   if (!prepared) return { errors, outcomes: [], coverage: null, profile: null };
   const recorder = new RecorderClass(prepared.codes);
   /** @type {Outcome[]} */
   const outcomes = [];
   let lastYield = performance.now();
   const yieldToMessages = async () => {
-    if (performance.now() - lastYield < YIELD_INTERVAL) return;
+    if (performance.now() - lastYield < YIELD_INTERVAL_MS) return;
     if (!(await shouldContinue(outcomes.length, tests.length))) throw new CancelledError();
     lastYield = performance.now();
   };

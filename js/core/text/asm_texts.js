@@ -125,7 +125,7 @@ export function createProgramTexts(program, addresses) {
  * @param {Leftovers} leftovers
  * @param {string} counter the program counter, as text
  */
-export function describeAssembled({ size, remainingAddresses: remaining }, counter) {
+export function describeAssembledProgram({ size, remainingAddresses: remaining }, counter) {
   const first = remaining.length > 0 ? `0x${hex(remaining[0], 3)}` : "";
   const remainingNote = say.bytesRemainingMessage(formatQuantity(remaining.length, "byte"), remaining.length === 1, first);
   return say.bytesAssembledMessage(formatQuantity(size, "byte"), remaining.length > 0 ? ` ${remainingNote}` : "", counter);

@@ -40,7 +40,7 @@ function isComment(text, { mark }) {
  * @param {number} line
  * @param {FoldPatterns} patterns
  */
-function isOuter(lineAt, line, patterns) {
+function startsOuterRange(lineAt, line, patterns) {
   const previousLine = line === 0 ? undefined : lineAt(line - 1);
   return !patterns.isNested || isBlank(previousLine) || isComment(previousLine, patterns);
 }
@@ -52,9 +52,9 @@ function isOuter(lineAt, line, patterns) {
  * @param {FoldPatterns} patterns
  * @param {boolean} isOuterRange true if the current range is an outer range
  */
-function endsBefore(lineAt, line, patterns, isOuterPart) {
+function isRangeEnd(lineAt, line, patterns, isOuterRange) {
   const text = lineAt(line) || "";
-  if (patterns.head.test(text)) return !isOuterPart || isOuter(lineAt, line, patterns);
+  if (patterns.head.test(text)) return !isOuterRange || startsOuterRange(lineAt, line, patterns);
   // An unindented comment after a blank line belongs to the next range, so the current range ends here.
   return text.startsWith(patterns.mark) && isBlank(lineAt(line - 1));
 }
@@ -74,8 +74,8 @@ export function findFoldEnd(lineAt, line, patterns) {
     return end;
   }
   if (!patterns.head.test(text)) return line;
-  const isOuterPart = isOuter(lineAt, line, patterns);
-  while (lineAt(end + 1) !== undefined && !endsBefore(lineAt, end + 1, patterns, isOuterPart)) end += 1;
+  const isOuterRange = startsOuterRange(lineAt, line, patterns);
+  while (lineAt(end + 1) !== undefined && !isRangeEnd(lineAt, end + 1, patterns, isOuterRange)) end += 1;
   while (isBlank(lineAt(end))) end -= 1;
   return end;
 }

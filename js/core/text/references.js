@@ -41,8 +41,8 @@ export function findReferences(lines, name) {
 export function nameAt(lines, line, column) {
   const text = lines[line] || "";
   const word = wordAt(text, column);
-  const isName = word !== null && findReferencesInLine(text, line + 1, word.text).some(({ from }) => from === word.from);
-  return isName && findDefinedNames(lines).has(word.text) ? word.text : "";
+  const isProgramName = word !== null && findReferencesInLine(text, line + 1, word.text).some(({ from }) => from === word.from);
+  return isProgramName && findDefinedNames(lines).has(word.text) ? word.text : "";
 }
 
 /**
@@ -62,10 +62,11 @@ export function findDefinition(lines, name) {
  * @param {(word: string) => boolean} isInstruction returns whether an upper-case word is an instruction
  */
 export function findRenamingError(lines, name, newName, isInstruction) {
-  const upper = newName.toUpperCase();
+  const upperCaseName = newName.toUpperCase();
   if (!NAME.test(newName)) return say.NAME_RULE;
   if (newName.length > MAX_NAME_LENGTH) return say.newNameTooLongMessage(MAX_NAME_LENGTH, newName.length);
-  if (isInstruction(upper) || upper === "WPM" || DIRECTIVES.includes(upper)) return say.nameIsInstructionMessage(newName);
+  const isReserved = isInstruction(upperCaseName) || upperCaseName === "WPM" || DIRECTIVES.includes(upperCaseName);
+  if (isReserved) return say.nameIsInstructionMessage(newName);
   if (REGISTER.test(newName) || PAIR.test(newName)) return say.nameIsRegisterMessage(newName);
   const line = findDefinedNames(lines).get(newName);
   return newName !== name && line ? say.alreadyDefinedMessage(newName, line) : "";

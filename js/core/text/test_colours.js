@@ -77,7 +77,7 @@ function colourLine(line, language) {
 }
 
 /** The functions that return the styled ranges of a line, by kind of text. */
-export const COLOURS = {
+export const LINE_COLOURERS = {
   tests: (/** @type {string} */ line) => colourLine(line, TEST_LANGUAGE),
   properties: (/** @type {string} */ line) => colourLine(line, PROPERTY_LANGUAGE),
 };

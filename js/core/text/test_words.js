@@ -53,7 +53,7 @@ export function readConditionForms(manual) {
  * @param {ManualSection[]} manual
  * @returns {TestForms}
  */
-export function testForms(manual) {
+export function readTestForms(manual) {
   const [steps] = formsByTable(manual, say.LINES_OF_TEST);
   return { steps: steps || [], conditions: readConditionForms(manual) };
 }

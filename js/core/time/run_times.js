@@ -15,7 +15,7 @@ import * as say from "../../words/time.js";
 
 const REFUSAL = /^no \d/;
 /** Matches an answer to `regs` or `state`, and captures the program counter. */
-const COUNTER = /^(?:acc|state seq) .*?\bpc ([0-9A-F]+)/;
+const COUNTER_ANSWER = /^(?:acc|state seq) .*?\bpc ([0-9A-F]+)/;
 
 /**
  * Returns a number of cycles with its time in microseconds.
@@ -35,7 +35,7 @@ function formatRunTime(cycles) {
  * @param {PlaceDescriber | null} describePlace describes where a run stopped; null to report why it stopped instead
  * @returns {RunTimes}
  */
-export function runTimes(answers, firstAnswer, lastAnswer, describePlace) {
+export function listRunTimes(answers, firstAnswer, lastAnswer, describePlace) {
   const createErrorResult = (/** @type {string} */ message) => ({ runs: [], sum: "", message });
   let cycles = 0;
   /** @type {{ time: string, stop: string, place: string }[]} */
@@ -53,7 +53,7 @@ export function runTimes(answers, firstAnswer, lastAnswer, describePlace) {
         lacksPlace = true;
       }
     }
-    const [, counter = ""] = (lacksPlace && describePlace && COUNTER.exec(answer)) || [];
+    const [, counter = ""] = (lacksPlace && describePlace && COUNTER_ANSWER.exec(answer)) || [];
     if (counter !== "" && describePlace) {
       runs[runs.length - 1].place = describePlace(counter);
       lacksPlace = false;

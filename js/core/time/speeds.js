@@ -43,7 +43,7 @@ export function findSpeed(id) {
  * Returns whether a speed is low enough for the user to follow the marker at the current source line.
  * @param {Speed} speed
  */
-export function canFollowLine({ slowdown, isByInstruction }) {
+export function canUserFollowLine({ slowdown, isByInstruction }) {
   return isByInstruction || slowdown >= 100;
 }
 

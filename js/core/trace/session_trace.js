@@ -96,10 +96,10 @@ export class SessionTrace {
     const { engine, board } = this;
     const trace = new TraceLines(engine, board, new InstructionTexts(names));
     let stop = { elapsed: from, end };
-    yield trace.listSecondCycle(state, from);
+    yield trace.traceSecondCycle(state, from);
     for (let piece = FIRST_PIECE_CYCLES; stop.elapsed < to && stop.end === end; piece = PIECE_CYCLES) {
       const count = Math.min(piece, to - stop.elapsed);
-      yield trace.runLines(state, count, stop.elapsed);
+      yield trace.traceRun(state, count, stop.elapsed);
       const run = await runState(engine, state, count, this.yieldToMessages);
       const pieceEnd = stop.elapsed + run.cycles;
       stop = { elapsed: pieceEnd, end: pieceEnd < to ? run.end : end };

@@ -6,7 +6,7 @@ import { stateValue } from "../bench/state_line.js";
 import { instructionCycles } from "../engine/rom_codes.js";
 import { ForecastAnswers, parseTraceLine, rowValues } from "../engine/forecast_answers.js";
 import { indices } from "../bench/numbers.js";
-import { tracePlaces } from "./trace_places.js";
+import { listTracePlaces } from "./trace_places.js";
 import * as say from "../../words/trace.js";
 
 /**
@@ -78,7 +78,7 @@ export class TraceLines {
    * @param {State} state
    * @param {number} elapsed the number of cycles before the line
    */
-  listSecondCycle(state, elapsed) {
+  traceSecondCycle(state, elapsed) {
     const [answer] = this.engine.ask(state, "state\n").answers;
     if (stateValue(answer, "owed") !== "1") return [];
     return [`${this.texts.formatPlainLine(elapsed, say.SECOND_CYCLE)}acc ${stateValue(answer, "acc")} cy ${stateValue(answer, "cy")}`];
@@ -91,13 +91,13 @@ export class TraceLines {
    * @param {number} cycles the length of the run in cycles, at most the maximum of the bench
    * @param {number} elapsed the number of cycles before the run
    */
-  runLines(state, cycles, elapsed) {
+  traceRun(state, cycles, elapsed) {
     const { engine, texts, board } = this;
     const countAnswers = new ForecastAnswers(engine.ask(state, `count ${cycles}\n`).answers);
     const executedAddresses = countAnswers.takeCounts().map(({ address }) => address);
     texts.readInstructions(engine, state, executedAddresses);
     const codes = new Set(executedAddresses.map((address) => texts.codes[address]));
-    const places = tracePlaces(board, MAIN_REGISTER_COUNT, (code) => codes.has(code));
+    const places = listTracePlaces(board, MAIN_REGISTER_COUNT, (code) => codes.has(code));
     const groups = indices(Math.ceil(places.length / MAX_PLACES))
       .map((group) => places.slice(group * MAX_PLACES, (group + 1) * MAX_PLACES));
     const queries = [...groups.map((group) => group.map(({ name }) => name)), MAIN_PLACES];

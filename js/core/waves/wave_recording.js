@@ -4,7 +4,7 @@
 import { ADDRESS_COUNT } from "../bench/rom_bytes.js";
 import { extendShiftTrack, findLastRise, formatScan, formatShift } from "./decoders.js";
 import { NumberQueue, countUpTo } from "./number_queue.js";
-import { Track, emptyTrack } from "./track.js";
+import { Track, createEmptyTrack } from "./track.js";
 import { valueText } from "./wave_words.js";
 
 /**
@@ -145,7 +145,7 @@ export class Waves {
     if (!DERIVED_KINDS.has(kind)) return this.tracks[line];
     let track = this.derivedTracks.get(line);
     if (!track) {
-      track = new Track({ ...emptyTrack(this.lines[line].width), first: this.computeValue(line, this.from) });
+      track = new Track({ ...createEmptyTrack(this.lines[line].width), first: this.computeValue(line, this.from) });
       this.extendTrack(line, track, this.from);
       this.derivedTracks.set(line, track);
     }
@@ -195,8 +195,8 @@ export class Waves {
    * @param {number} moment
    */
   findRiseBefore(line, moment) {
-    const rise = findLastRise(this.tracks[this.lines[line].members[0]], moment);
-    return rise < 0 ? this.earlierRises.get(line) ?? -1 : rise;
+    const lastRise = findLastRise(this.tracks[this.lines[line].members[0]], moment);
+    return lastRise < 0 ? this.earlierRises.get(line) ?? -1 : lastRise;
   }
 
   /**

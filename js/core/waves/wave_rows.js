@@ -51,7 +51,7 @@ export class WaveRows {
    * @param {string} name the name of the line
    * @param {RowAppearance} changes the changed properties
    */
-  change(name, changes) {
+  changeAppearance(name, changes) {
     this.appearances.set(name, { ...this.getAppearance(name), ...changes });
   }
 
@@ -111,7 +111,7 @@ export class WaveRows {
     const isGroupMove = targetRow.group !== "" && (movedRow.line < 0 || targetRow.line < 0);
     const neighbourNames = isGroupMove ? otherNames.filter((name) => this.groupOf(name) === targetRow.group) : [targetRow.name];
     const joinsGroup = movedRow.line >= 0 && targetRow.group !== "" && (targetRow.line >= 0 || (isDown && !targetRow.isFolded));
-    if (movedRow.line >= 0) this.change(movedRow.name, { group: joinsGroup ? targetRow.group : "" });
+    if (movedRow.line >= 0) this.changeAppearance(movedRow.name, { group: joinsGroup ? targetRow.group : "" });
     const isAfter = isDown && !(joinsGroup && targetRow.line < 0);
     const neighbour = neighbourNames[isAfter ? neighbourNames.length - 1 : 0];
     const position = neighbourNames.length === 0 ? otherNames.length : otherNames.indexOf(neighbour) + Number(isAfter);
