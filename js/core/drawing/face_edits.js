@@ -40,15 +40,15 @@ export function toWord(name) {
  * @returns {TextEdit[]}
  */
 function setListWord(draft, kind, lamp, text) {
-  const listLines = faceLines(draft).filter((line) => line.kind === kind && line.first && !line.last);
-  const containingLine = listLines.find((line) => firstNumber(line) <= lamp && lamp < firstNumber(line) + line.words.length);
+  const linesWithLists = faceLines(draft).filter((line) => line.kind === kind && line.first && !line.last);
+  const containingLine = linesWithLists.find((line) => firstNumber(line) <= lamp && lamp < firstNumber(line) + line.words.length);
   if (containingLine) {
     const otherWords = containingLine.words.filter((_, index) => firstNumber(containingLine) + index !== lamp);
     if (text === "" && otherWords.every((word) => word.text === EMPTY_ENTRY)) return [removeFaceLine(draft, containingLine)];
     return setWord(containingLine.words[lamp - firstNumber(containingLine)], text || EMPTY_ENTRY);
   }
   if (text === "") return [];
-  const precedingList = listLines.find((line) => firstNumber(line) + line.words.length === lamp);
+  const precedingList = linesWithLists.find((line) => firstNumber(line) + line.words.length === lamp);
   if (precedingList) return [{ from: precedingList.end, to: precedingList.end, insert: ` ${text}` }];
   return addFaceLine(draft, kind, `# ${kind} ${lamp}: ${text}`);
 }

@@ -77,7 +77,7 @@ function readTextsInLines(script) {
 
 /**
  * Determines the kind of a text from the file name, or else from the text itself. Returns the text in the property for this kind. If the
- * text consists of bench lines, returns the board and the program that they contain.
+ * text contains bench lines, returns the board and the program in them, and the other lines.
  * @param {string} name
  * @param {string} text
  * @returns {FileTexts}
