@@ -2,7 +2,7 @@
 import { readBoard } from "../core/bench/answers.js";
 import { Face } from "../core/board/face.js";
 import { findNameErrors, wireBoard } from "../core/testing/test_preparation.js";
-import { pressLines } from "../core/testing/press_lines.js";
+import { createPressLines } from "../core/testing/press_lines.js";
 import { keysWithoutNames, noKeyOnBoardMessage } from "../words/commands.js";
 import { createRejectedTextsError } from "./native_program.mjs";
 import { CommandError } from "./output.mjs";
@@ -32,7 +32,7 @@ export async function readBoardAndFace(engine, boardFile) {
  * @param {import("../core/testing/press_lines.js").Pace} pace
  */
 export function makeKeyLines(face, boardName, keys, pace) {
-  const { lines, unknownName: unknownKey } = pressLines(face, keys, pace);
+  const { lines, unknownName: unknownKey } = createPressLines(face, keys, pace);
   if (unknownKey === null) return lines;
   const hasNames = face.test !== null || [...face.keys.values()].some(({ text }) => text !== "");
   throw new CommandError(hasNames ? noKeyOnBoardMessage(boardName, unknownKey) : keysWithoutNames(boardName));

@@ -3,7 +3,7 @@
 import { writeFileSync } from "node:fs";
 import { join } from "node:path";
 import { PropertyJudge } from "../core/prove/property_judge.js";
-import { MAX_SETS, questionText, readAnswer } from "../core/prove/question.js";
+import { MAX_SETS, formatQuestion, readAnswer } from "../core/prove/question.js";
 import { readCampaign } from "../core/explore/campaign.js";
 import { formatNumber } from "../core/explore/report.js";
 import { createSubject } from "../core/explore/subject.js";
@@ -86,7 +86,7 @@ class ProofSession {
    */
   async ask(question, limits) {
     const { board, program } = this.texts;
-    const { stdout, stderr, signal } = await this.search(questionText({ board: board.text, program: program.text }, question, limits));
+    const { stdout, stderr, signal } = await this.search(formatQuestion({ board: board.text, program: program.text }, question, limits));
     const answer = readAnswer(stdout);
     if (!answer) throw new CommandError(say.proverEnded([stdout.trim(), stderr.trim(), signal].filter(Boolean).join("; ")));
     return answer;

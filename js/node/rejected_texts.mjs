@@ -11,7 +11,7 @@ import { findDefinedNames } from "../core/text/assembly.js";
 import { createBoardError } from "../core/text/board_error.js";
 import { MISSING_ROM, createLineError, findMissingRoms } from "../core/text/program_errors.js";
 import { toAsciiComments, sentText } from "../core/text/sendable_text.js";
-import { boardTables } from "../core/text/text_help.js";
+import { readBoardTables } from "../core/text/text_help.js";
 import { readPageData } from "./page_parts.mjs";
 
 /**
@@ -36,7 +36,7 @@ const OTHER_SYNTAX = new RegExp("[ \\t,][0-7]P([ \\t,]|$)|[0-9]<|[ \\t,][0-9][0-
 
 /** @type {ErrorMessages | null} */
 let errorMessages = null;
-/** @type {ReturnType<typeof boardTables> | null} */
+/** @type {ReturnType<typeof readBoardTables> | null} */
 let tables = null;
 /** @type {ReturnType<typeof readInstructions> | null} */
 let instructions = null;
@@ -45,7 +45,7 @@ let instructions = null;
 function readManual() {
   if (!tables || !instructions) {
     const { manual } = readPageData();
-    [tables, instructions] = [boardTables(manual), readInstructions(manual)];
+    [tables, instructions] = [readBoardTables(manual), readInstructions(manual)];
   }
   return { tables, instructions };
 }

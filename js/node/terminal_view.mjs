@@ -1,7 +1,7 @@
 // Shows the debugger's view (js/core/prompt/view.js) on a terminal. The view occupies the upper rows, and commands scroll in the rows below. On a
 // terminal that cannot move its cursor (TERM=dumb), this module prints the view after each command instead. With TERM=dumb or NO_COLOR, the
 // view has no colours.
-import { MIN_COLUMNS, MIN_ROWS, View, viewSize } from "../core/prompt/view.js";
+import { MIN_COLUMNS, MIN_ROWS, View, chooseViewSize } from "../core/prompt/view.js";
 import { isDumb, makePainter } from "./terminal.mjs";
 
 const REVERSE = 7;
@@ -31,7 +31,7 @@ export class TerminalView {
 
   get size() {
     const { rows = 0, columns = 0 } = this.output;
-    return viewSize(rows, columns);
+    return chooseViewSize(rows, columns);
   }
 
   /**
@@ -68,7 +68,7 @@ export class TerminalView {
   draw() {
     const { size, output } = this;
     if (!this.isOn || !size) return;
-    const lines = this.view.lines(size, this.highlights);
+    const lines = this.view.buildLines(size, this.highlights);
     const rowTexts = lines.map((line, index) => `\x1b[${index + 1};1H\x1b[K${line}`).join("");
     output.write(this.isDumb ? `${lines.join("\n")}\n` : `\x1b7\x1b[?7l${rowTexts}\x1b[?7h\x1b8`);
   }

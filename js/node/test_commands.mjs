@@ -1,7 +1,7 @@
 // The code that `mcs4 test`, `cover` and `profile` share. Runs tests, or the next cycles of a session, and counts the executed
 // instructions.
 import { runTests } from "../core/testing/test_suite.js";
-import { failureLine } from "../core/testing/tap.js";
+import { formatFailureLine } from "../core/testing/tap.js";
 import { excludeEachOther, otherProgramMessage, sessionStopped } from "../words/commands.js";
 import { parseCount, requireProjectFiles, checkArguments, findProject } from "./arguments.mjs";
 import { InputTexts } from "./input_texts.mjs";
@@ -56,7 +56,7 @@ export async function runTestCommand(command, folder, givenNames) {
   const sources = names.map((fileName) => texts.readSource(fileName));
   const engine = await startEngine();
   const handleOutcome = (/** @type {Outcome} */ outcome, /** @type {number} */ number, /** @type {number} */ total) => {
-    printError(failureLine(outcome));
+    printError(formatFailureLine(outcome));
     print(formatOutcome(outcome, number, total));
   };
   const suite = { boardText: board.text, programText: program.text, sources };
@@ -79,12 +79,12 @@ export async function countCycles({ name, RecorderClass, checkNames = () => {}, 
   const [word, programName] = givenNames;
   const cycles = parseCount("CYCLES", word, MAX_CYCLES);
   checkNames([session, programName]);
-  const { countSession } = await import("../core/testing/session_count.js");
+  const { measureSession } = await import("../core/testing/session_count.js");
   const texts = new InputTexts();
   const program = texts.readText(programName, "asm");
   const engine = await startEngine();
   const state = await openSession(engine, texts, session);
-  const { errors, difference, counts } = await countSession(engine, state, program.text, cycles, RecorderClass);
+  const { errors, difference, counts } = await measureSession(engine, state, program.text, cycles, RecorderClass);
   if (difference) {
     const { address, romByte, line, sourceByte } = difference;
     throw new CommandError(otherProgramMessage(programName, address, romByte, line + program.linesBefore, sourceByte));

@@ -2,7 +2,7 @@
 import { readInstructions } from "../core/help/manual.js";
 import { TextBench } from "../core/server/text_bench.js";
 import { TextErrorFinder } from "../core/text/text_error_finder.js";
-import { boardTables } from "../core/text/text_help.js";
+import { readBoardTables } from "../core/text/text_help.js";
 import { Engine } from "../core/engine/engine.js";
 import { readPageModule } from "./page_parts.mjs";
 
@@ -26,7 +26,8 @@ export async function findTextErrors(word, text, board, { manual, wordsOf }) {
   const textBench = await loadBench();
   const isBoard = word === "wire" || word === "wiring";
   if (!isBoard) textBench.setBoard(word === "asm" ? board : null);
-  const finder = new TextErrorFinder(textBench.createQueries(), { instructions: readInstructions(manual), tables: boardTables(manual) }, wordsOf);
+  const tables = readBoardTables(manual);
+  const finder = new TextErrorFinder(textBench.createQueries(), { instructions: readInstructions(manual), tables }, wordsOf);
   const result = await (isBoard ? finder.findInBoard(text, () => true) : finder.findInProgram(text, () => true));
   return result ? result.errors : [];
 }

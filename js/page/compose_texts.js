@@ -5,7 +5,7 @@ import { formatErrorCount } from "../core/bench/error_messages.js";
 import { ExploreTab } from "./explore/explore_tab.js";
 import { Explorer } from "../core/explore/explorer.js";
 import { Prover } from "../core/prove/prover.js";
-import { keyScanSource, routineInsertion } from "../core/drawing/scan_routine.js";
+import { createKeyScanSource, createRoutineInsertion } from "../core/drawing/scan_routine.js";
 import { nibbleNames } from "../core/machine/ram_names.js";
 import { SourceSync } from "../core/machine/source_sync.js";
 import { sessionTitle } from "../core/session/session_summary.js";
@@ -130,8 +130,8 @@ export function makeTextsController(page) {
  */
 export function insertKeyScan({ layout, programEditor }, board) {
   const { text, editor } = programEditor;
-  const code = keyScanSource(board, text);
-  const { edit, first, isEnd } = routineInsertion(text, editor.caretLine, code);
+  const code = createKeyScanSource(board, text);
+  const { edit, first, isEnd } = createRoutineInsertion(text, editor.caretLine, code);
   editor.edit([edit]);
   layout.showText("program");
   editor.select({ from: first, to: first + code.trimEnd().split("\n").length - 1 });

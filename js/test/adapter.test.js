@@ -3,7 +3,7 @@ import assert from "node:assert/strict";
 import { test } from "node:test";
 import { readFileSync } from "node:fs";
 import { MAX_MESSAGE_BYTES, frameMessage } from "../core/server/framing.js";
-import { EYE_CYCLES } from "../core/time/mcs4_time.js";
+import { EYE_PERSISTENCE_CYCLES } from "../core/time/mcs4_time.js";
 import { FILES, FakeFile, LOCK, SOURCE, engine, startAdapter } from "./adapter_client.js";
 
 test("responses have the order of the requests and consecutive numbers; an invalid message is reported", async () => {
@@ -272,7 +272,8 @@ test("a client that draws the board receives the board once and then its changes
   await waitFor(({ event, body }) => event === "boardShown" && body.isRunning === false && getBoardChanges().length > 4);
   assert.ok(getBoardChanges().some(({ lamps }) => lamps === "*.."));
   const litChanges = getBoardChanges().filter(({ litShares }) => litShares);
-  assert.ok(litChanges.some(({ litShares }) => litShares.cycles === EYE_CYCLES && litShares.lamps[0] === EYE_CYCLES));
+  const period = EYE_PERSISTENCE_CYCLES;
+  assert.ok(litChanges.some(({ litShares: { cycles, lamps } }) => cycles === period && lamps[0] === period));
   assert.equal(getBoardChanges().pop().litShares, undefined);
   assert.equal(getBoardChanges().filter((change) => change.board).length, 0);
   await request("restart", {});

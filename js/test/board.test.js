@@ -13,13 +13,13 @@ import { completeBoard } from "../core/text/board_completion.js";
 import { findCommentStart } from "../core/text/sendable_text.js";
 import { readProjectToml } from "../core/project/project_toml.js";
 import { openExample, pageModule } from "./page_session.js";
-import { boardTables, helpForBoard, tableAt } from "../core/text/text_help.js";
+import { readBoardTables, helpForBoard, tableAt } from "../core/text/text_help.js";
 
 // The manual's table of TOML keys, as page/build reads it.
 const manual = readFileSync(new URL("../../docs/MANUAL.md", import.meta.url), "utf8");
 const rows = manual.split("### The TOML keys")[1].split("###")[0].split("\n").filter((line) => /^\| [`|]/.test(line))
   .map((line) => line.slice(1, -1).split("|").map((cell) => cell.trim()));
-const tables = boardTables([{ title: "The TOML keys", tables: [{ caption: "", head: [], rows }] }]);
+const tables = readBoardTables([{ title: "The TOML keys", tables: [{ caption: "", head: [], rows }] }]);
 
 const bench = new TextBench(new Engine(new globalThis.WebAssembly.Module(pageModule)));
 const errorOf = (text) => {

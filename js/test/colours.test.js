@@ -4,7 +4,7 @@ import assert from "node:assert/strict";
 import { test } from "node:test";
 import { makeAssemblyColours } from "../page/text/assembly_colours.js";
 import { colourBoardLine } from "../page/text/board_colours.js";
-import { COLOURS } from "../core/text/test_colours.js";
+import { LINE_COLOURERS } from "../core/text/test_colours.js";
 
 /** Returns the coloured ranges of a line with their style classes, as a single string. */
 function describeColours(line, colours) {
@@ -26,9 +26,10 @@ test("a board's tables, keys, values and comments are distinguished", () => {
 });
 
 test("lines of tests: the first word, test names, and comments, except after keys", () => {
-  assert.equal(describeColours("test it is # 5", COLOURS.tests), "test keyword|it is # 5 string");
-  assert.equal(describeColours("  keys 5 #", COLOURS.tests), "keys keyword|5 number|# variable-2");
-  assert.equal(describeColours("  expect lamp 1 on # lit", COLOURS.tests), "expect keyword|lamp keyword|1 number|on keyword|# lit comment");
-  assert.equal(describeColours("display 5", COLOURS.tests), "display error|5 number");
-  assert.equal(describeColours("never display 1", COLOURS.properties), "never keyword|display keyword|1 number");
+  assert.equal(describeColours("test it is # 5", LINE_COLOURERS.tests), "test keyword|it is # 5 string");
+  assert.equal(describeColours("  keys 5 #", LINE_COLOURERS.tests), "keys keyword|5 number|# variable-2");
+  assert.equal(describeColours("  expect lamp 1 on # lit", LINE_COLOURERS.tests),
+    "expect keyword|lamp keyword|1 number|on keyword|# lit comment");
+  assert.equal(describeColours("display 5", LINE_COLOURERS.tests), "display error|5 number");
+  assert.equal(describeColours("never display 1", LINE_COLOURERS.properties), "never keyword|display keyword|1 number");
 });

@@ -25,7 +25,7 @@ import { ExecutionRecorder } from "../core/testing/recorders.js";
 import { TestSession } from "../core/testing/test_session.js";
 import { readTests } from "../core/testing/test_text.js";
 import { createBoardLines } from "../core/waves/wave_lines.js";
-import { readTrigger } from "../core/waves/trigger.js";
+import { parseTrigger } from "../core/waves/trigger.js";
 import { readPageData } from "../node/page_parts.mjs";
 import { pageModule } from "./page_session.js";
 
@@ -195,7 +195,7 @@ const USES = {
   console: (text) => resultOrError(async () => (
     (await new Console({ isMoving: false }, createConditionContext(), null, {}).serveLine(text)).text === "true")),
   trigger: (text) => {
-    const { trigger, error } = readTrigger(text, createBoardLines(names.board, BOARD, true, []), names);
+    const { trigger, error } = parseTrigger(text, createBoardLines(names.board, BOARD, true, []), names);
     return error || trigger.holds(readValues(trigger));
   },
   property: (text) => {

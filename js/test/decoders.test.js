@@ -3,9 +3,9 @@ import assert from "node:assert/strict";
 import { test } from "node:test";
 import { readBoard } from "../core/bench/answers.js";
 import { createBoardLines } from "../core/waves/wave_lines.js";
-import { chooseFirstLines } from "../core/waves/wave_catalog.js";
-import { findMatch, readSearch } from "../core/waves/wave_search.js";
-import { readTrigger } from "../core/waves/trigger.js";
+import { chooseInitialLines } from "../core/waves/wave_catalog.js";
+import { findMatch, parseSearch } from "../core/waves/wave_search.js";
+import { parseTrigger } from "../core/waves/trigger.js";
 import { vcdParts } from "../core/waves/vcd.js";
 import { Waves } from "../core/waves/wave_recording.js";
 import { openExample, examplesOfPage } from "./page_session.js";
@@ -105,14 +105,14 @@ test("a recording in pieces has the same rows as a whole recording", () => {
 test("a decoder can be searched for changes, and a key scan for keys; a decoder cannot be a trigger", () => {
   const waves = createRecording(SCAN, 100);
   const findMoments = (text) => {
-    const { search, error } = readSearch(text, waves, -1);
+    const { search, error } = parseSearch(text, waves, -1);
     return search ? [findMatch(waves, search, 0, true), findMatch(waves, search, 100, false)] : error;
   };
   assert.deepEqual([findMoments("key scan = CE"), findMoments("scan.keys = 1.0"), findMoments("scan.keys changes")],
     [[30, 30], [70, 70], [10, 90]]);
   assert.match(findMoments("scan.keys = 3"), /^scan\.keys is decoded/);
   assert.match(findMoments("4003 shift-in 0 rises"), /^shift\.chain0 is decoded/);
-  assert.match(readTrigger("shift.chain0 changes", LINES, /** @type {any} */ ({})).error, /^shift\.chain0 is decoded from other lines/);
+  assert.match(parseTrigger("shift.chain0 changes", LINES, /** @type {any} */ ({})).error, /^shift\.chain0 is decoded from other lines/);
 });
 
 test("a VCD file has decoders as strings without blanks, and decoders that change are shown by default", () => {
@@ -120,7 +120,7 @@ test("a VCD file has decoders as strings without blanks, and decoders that chang
   const file = [...vcdParts(waves, [lineIndexOf(waves, "scan.keys")])].join("");
   assert.match(file, /\$var string 1 A scan\.keys \$end/);
   assert.match(file, /#2160\nsrow_0:_7 A\n/);
-  const names = chooseFirstLines(waves).map((line) => waves.lines[line].name);
+  const names = chooseInitialLines(waves).map((line) => waves.lines[line].name);
   assert.deepEqual(names.slice(-2), ["scan.keys", "pc"]);
 });
 

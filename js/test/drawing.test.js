@@ -7,9 +7,9 @@ import { Face, findFaceErrors } from "../core/board/face.js";
 import { printerLines, missingPartErrors } from "../core/board/face_board.js";
 import { SHELF_PARTS, applyAction, matchesBench } from "../core/drawing/drawing_actions.js";
 import { signalLines } from "../core/bench/board_form.js";
-import { canConnect, possibleSources, possibleTargets, inputLines, boardWithBuzzer } from "../core/drawing/board_lines.js";
+import { canConnect, listPossibleSources, listPossibleTargets, mapInputsToLines, boardWithBuzzer } from "../core/drawing/board_lines.js";
 import { selectionForm } from "../core/drawing/selection_form.js";
-import { applyEdits, inverseEdits } from "../core/drawing/text_edits.js";
+import { applyEdits, invertEdits } from "../core/drawing/text_edits.js";
 import { parseFaceLine } from "../core/board/face_words.js";
 import { sentText } from "../core/text/sendable_text.js";
 import { Engine } from "../core/engine/engine.js";
@@ -93,7 +93,7 @@ function checkAction(name, text, action, expectedBoard) {
   assert.ok(matchesBench(result.text, replyAfter.board), label);
   if (expectedBoard) assert.deepEqual(readBoard(replyAfter.board), expectedBoard, label);
   assert.equal(applyEdits(text, result.edits), result.text);
-  assert.equal(applyEdits(result.text, inverseEdits(text, result.edits)), text);
+  assert.equal(applyEdits(result.text, invertEdits(text, result.edits)), text);
   assert.ok(findFaceErrors(result.text).length <= findFaceErrors(text).length, label);
   const countMissingParts = (boardText, board) => missingPartErrors(new Face(boardText), board).length;
   assert.ok(countMissingParts(result.text, readBoard(replyAfter.board)) <= countMissingParts(text, readBoard(replyBefore.board)),
@@ -152,7 +152,7 @@ testOnBench("a buzzer is added, wired, named and deleted, and is deleted with it
   assert.equal(checkAction("buzzer", nameResult.text, { kind: "delete", part: "rom 0" }).message,
     "ROM 0 was deleted, and with it the buzzer.");
   const board = { ...nameResult.board, buzzer: "rom0.2" };
-  assert.deepEqual(possibleTargets(board, "rom0.3"), ["buzzer 0"]);
+  assert.deepEqual(listPossibleTargets(board, "rom0.3"), ["buzzer 0"]);
   const { title, fields, buttons } = selectionForm(board, new Face(nameResult.text), "buzzer 0");
   assert.deepEqual([title, ...fields.map(({ value }) => value), ...buttons.map(({ label }) => label)],
     ["The buzzer", "the horn", "rom0.2", "Delete"]);
@@ -191,11 +191,11 @@ for (const { name, text } of BOARDS) {
     const lines = signalLines(board).map((line) => line.name);
     const someLines = lines.filter((_, index) => lines.length < 30 || index % 13 === 0);
     for (const line of someLines) {
-      for (const target of possibleTargets(board, line).filter((_, index) => index % 5 === 0 || board.lamps.length < 8)) {
+      for (const target of listPossibleTargets(board, line).filter((_, index) => index % 5 === 0 || board.lamps.length < 8)) {
         const result = checkAction(name, text, { kind: "wire", line, target }, addWire(board, line, target));
         assert.deepEqual(commentsOf(result.text), commentsOf(text));
-        const oldLine = inputLines(board).get(target);
-        assert.ok(possibleSources(result.board, target).includes(oldLine));
+        const oldLine = mapInputsToLines(board).get(target);
+        assert.ok(listPossibleSources(result.board, target).includes(oldLine));
         assert.deepEqual(checkAction(name, result.text, { kind: "wire", line: oldLine, target }, board).board, board);
       }
     }
@@ -228,7 +228,7 @@ for (const { name, text } of BOARDS) {
     }
     for (const { chip, port } of board.roms) {
       for (const line of [0, 1, 2, 3]) {
-        const isUsed = [...inputLines(board).values()].includes(`rom${chip}.${line}`);
+        const isUsed = [...mapInputsToLines(board).values()].includes(`rom${chip}.${line}`);
         const action = { kind: "port", line: `rom${chip}.${line}`, mode: port[3 - line] === "i" ? "1" : "i" };
         const { printer } = new Face(text);
         if (isUsed) {
@@ -328,7 +328,7 @@ testOnBench("the offered wires are exactly those that the bench accepts", () => 
   const someExamples = examples.filter((example) => ["lock", "counter", "first", "traffic light"].includes(example.name));
   for (const { name, text } of [...someExamples, OTHER_BOARDS[3]]) {
     const board = readBoard(boardAnswers([text])[0].board);
-    const pairs = signalLines(board).flatMap((line) => [...inputLines(board).keys()].map((target) => ({ line, target })));
+    const pairs = signalLines(board).flatMap((line) => [...mapInputsToLines(board).keys()].map((target) => ({ line, target })));
     const answers = boardAnswers(pairs.map(({ line, target }) => boardTextOf(addWire(board, line.name, target))));
     pairs.forEach(({ line, target }, index) => {
       assert.equal(canConnect(board, line, target), answers[index].first.startsWith("ok"),
@@ -350,14 +350,14 @@ function createPicker(seed) {
 function randomAction(pick, board, face) {
   const lines = signalLines(board).map((line) => line.name);
   const parts = ["", ...board.roms.map(({ chip }) => `rom ${chip}`), ...board.banks.map(({ bank }) => `ram ${bank}.0`),
-    ...board.chains.map((_, index) => `chain ${index}`), ...(board.matrix ? ["keys"] : []), ...inputLines(board).keys(), ...lines];
+    ...board.chains.map((_, index) => `chain ${index}`), ...(board.matrix ? ["keys"] : []), ...mapInputsToLines(board).keys(), ...lines];
   const { fields, buttons } = selectionForm(board, face, pick(parts));
   const line = pick([...lines, ""]);
   const field = pick([...fields, null]);
   const names = ["", "a", "b c", "0", "3", "x:y", "#", "_", "red", "**"];
   return pick([
     { kind: "add", part: pick(SHELF_PARTS), digits: pick([1, 2, 3]) },
-    { kind: "wire", line, target: pick([...possibleTargets(board, line), "lamp 0"]) },
+    { kind: "wire", line, target: pick([...listPossibleTargets(board, line), "lamp 0"]) },
     ...(field ? [field.createAction(field.options ? pick(field.options).value : pick(names))] : []),
     ...buttons.map(({ action }) => action).slice(0, 1 + Number(pick([0, 0, 1]))),
   ]);
@@ -377,7 +377,7 @@ testOnBench("after random actions, the bench accepts the text, comments stay, an
       else {
         const result = checkAction(`seed ${seed}`, text, action);
         assert.deepEqual(commentsOf(result.text), commentsOf(text), `seed ${seed}: ${JSON.stringify(action)}`);
-        undoEdits.unshift(...inverseEdits(text, result.edits));
+        undoEdits.unshift(...invertEdits(text, result.edits));
         ({ text } = result);
         doneCount += 1;
       }

@@ -5,13 +5,13 @@ import { test } from "node:test";
 import { readBoard } from "../core/bench/answers.js";
 import { Face } from "../core/board/face.js";
 import { applyAction } from "../core/drawing/drawing_actions.js";
-import { possibleSources } from "../core/drawing/board_lines.js";
-import { Drawing } from "../core/drawing/board_drawing.js";
+import { listPossibleSources } from "../core/drawing/board_lines.js";
+import { BoardDrawing } from "../core/drawing/board_drawing.js";
 import { sessionTitle } from "../core/session/session_summary.js";
 import { selectionForm } from "../core/drawing/selection_form.js";
-import { lampLabels } from "../core/drawing/lamp_labels.js";
+import { createLampLabels } from "../core/drawing/lamp_labels.js";
 import { MovedParts } from "../core/drawing/moved_parts.js";
-import { applyEdits, inverseEdits } from "../core/drawing/text_edits.js";
+import { applyEdits, invertEdits } from "../core/drawing/text_edits.js";
 import { Engine } from "../core/engine/engine.js";
 import { examplesOfPage, pageModule } from "./page_session.js";
 
@@ -24,7 +24,7 @@ async function createDrawnBoard(text = "") {
   const engine = await enginePromise;
   const file = engine.begin();
   const fixture = { text, undoSteps: [], view: null, queryCount: 0, onQuery: () => {} };
-  fixture.drawing = new Drawing({
+  fixture.drawing = new BoardDrawing({
     text: () => fixture.text,
     ask: async (lines) => {
       fixture.queryCount += 1;
@@ -32,7 +32,7 @@ async function createDrawnBoard(text = "") {
       return engine.ask(file, lines).answers;
     },
     edit: (edits) => {
-      fixture.undoSteps.push(inverseEdits(fixture.text, edits));
+      fixture.undoSteps.push(invertEdits(fixture.text, edits));
       fixture.text = applyEdits(fixture.text, edits);
     },
     undo: () => {
@@ -75,7 +75,7 @@ test("a wire can begin at either end; an impossible wire is not drawn, and Escap
   const fixture = await createDrawnBoard(boardOf("lock"));
   const { drawing } = fixture;
   await drawing.handleClick("column 1");
-  assert.deepEqual([...fixture.view.ends], possibleSources(fixture.view.board, "column 1").filter((line) => line !== "rom1.1"));
+  assert.deepEqual([...fixture.view.ends], listPossibleSources(fixture.view.board, "column 1").filter((line) => line !== "rom1.1"));
   await drawing.handleClick("rom0.3");
   assert.deepEqual([fixture.view.wireStart, fixture.view.selected, fixture.text], ["rom0.3", "rom0.3", boardOf("lock")]);
   drawing.cancelWire();
@@ -149,7 +149,7 @@ test("simultaneous actions are performed one after the other", async () => {
 });
 
 test("lamps of a display are labelled by their digit and bit or segment", () => {
-  const labelsOf = (text, count) => lampLabels(new Face(text), count);
+  const labelsOf = (text, count) => createLampLabels(new Face(text), count);
   assert.deepEqual(labelsOf("# lamp 0: minus\n# display 1: 2 digits with points\n", 9), ["minus", "digit 0: 8", "digit 0: 4", "digit 0: 2",
     "digit 0: 1", "digit 0: point", "digit 1: 8", "digit 1: 4", "digit 1: 2"]);
   assert.deepEqual(labelsOf("# display 0: 2 digits scanned by 4\n", 6), [..."8421"].map((lamp) => `all digits: ${lamp}`)

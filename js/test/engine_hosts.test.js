@@ -17,7 +17,7 @@ import { linesWithMembers, recordPieces } from "../core/engine/wave_stream.js";
 import { runTests } from "../core/testing/test_suite.js";
 import { coverageText, lcovText } from "../core/testing/coverage_text.js";
 import { profileText } from "../core/testing/profile_text.js";
-import { testsTap } from "../core/testing/tap.js";
+import { formatTestsTap } from "../core/testing/tap.js";
 import { SessionTrace } from "../core/trace/session_trace.js";
 import { chooseLines } from "../core/waves/line_choice.js";
 import { VcdText } from "../core/waves/vcd.js";
@@ -111,7 +111,7 @@ testOnBothHosts("a VCD file is written piece by piece", async (engine) => {
   let file = "";
   for await (const waves of recordPieces(engine, state, { lines, program: null, cycles: 45000 }, async () => {})) {
     if (!vcdText) vcdText = new VcdText(waves, chosenIndices);
-    file += (file === "" ? vcdText.formatHead() : "") + [...vcdText.formatChanges()].join("");
+    file += (file === "" ? vcdText.formatHeader() : "") + [...vcdText.formatChanges()].join("");
   }
   file += vcdText.formatEnd();
   assert.match(file, /\$var wire 4 H ram0\.0\[3:0\] \$end\n[^]*\n#4860000\n/);
@@ -198,7 +198,7 @@ testOnBothHosts("tests, coverage and profile of examples", async (engine) => {
     const sources = [{ name: `${name}.test`, text: readExample(`${name}/${name}.test`).replace("cycles 538", "cycles 540") }];
     const { outcomes, coverage, profile } = await runTests(engine, { ...readTexts(name), sources }, async () => true);
     const source = { name, text: readTexts(name).programText, linesBefore: 0 };
-    reports.push(testsTap(outcomes), coverageText(coverage, source), lcovText(coverage, source), profileText(profile));
+    reports.push(formatTestsTap(outcomes), coverageText(coverage, source), lcovText(coverage, source), profileText(profile));
   }
   assert.ok(reports[0].includes("not ok 2"));
   return reports;

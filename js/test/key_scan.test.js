@@ -2,7 +2,7 @@
 import assert from "node:assert/strict";
 import { test } from "node:test";
 import { readBoard } from "../core/bench/answers.js";
-import { keyScanSource, routineInsertion } from "../core/drawing/scan_routine.js";
+import { createKeyScanSource, createRoutineInsertion } from "../core/drawing/scan_routine.js";
 import { sentText } from "../core/text/sendable_text.js";
 import { Engine } from "../core/engine/engine.js";
 import { examplesOfPage, pageModule } from "./page_session.js";
@@ -66,7 +66,7 @@ for (const [name, text] of Object.entries(BOARDS)) {
     const wireAnswers = serveLines(engine, session, `wire\n${sentText(text, "#")}.\n`);
     assert.match(wireAnswers[0], /^ok/, wireAnswers.join());
     const board = readBoard(engine.ask(session, "board\n").answers);
-    const code = keyScanSource(board, "; a source without instructions\n");
+    const code = createKeyScanSource(board, "; a source without instructions\n");
     const [assembleAnswer] = serveLines(engine, session, `asm\n${sentText(code, ";")}.\n`);
     assert.match(assembleAnswer, /^ok \d+ bytes \d+$/, code);
     const { rows, columns } = board.matrix;
@@ -91,17 +91,17 @@ for (const [name, text] of Object.entries(BOARDS)) {
 
 test("labels of the source are not reused, and a source with instructions keeps its beginning", async () => {
   const board = { chains: [{ clock: "rom0.0", data: "rom0.1", chips: 1 }], matrix: { chain: 0, first: 0, rows: 1, columns: ["rom0.2"] } };
-  const firstRoutine = keyScanSource(board, "loop: NOP\n JUN loop\n");
+  const firstRoutine = createKeyScanSource(board, "loop: NOP\n JUN loop\n");
   assert.match(firstRoutine, /^; Scans the keys: bit 0 of chain 0 drives row 0; columns are read at the port of ROM 0\.\n/);
   assert.match(firstRoutine, /^keys_scan: +LDM 0$/m);
-  assert.match(keyScanSource(board, firstRoutine), /^keys1_scan: /m);
-  assert.match(keyScanSource(board, firstRoutine + keyScanSource(board, firstRoutine)), /^keys2_scan: /m);
-  assert.equal(keyScanSource({ ...board, matrix: null }, ""), "");
+  assert.match(createKeyScanSource(board, firstRoutine), /^keys1_scan: /m);
+  assert.match(createKeyScanSource(board, firstRoutine + createKeyScanSource(board, firstRoutine)), /^keys2_scan: /m);
+  assert.equal(createKeyScanSource({ ...board, matrix: null }, ""), "");
 });
 
 test("a routine is inserted after the caret's paragraph, or at the end, with blank lines around it", () => {
   const insertRoutine = (text, line) => {
-    const { edit, first, isEnd } = routineInsertion(text, line, "scan: BBL 0\n");
+    const { edit, first, isEnd } = createRoutineInsertion(text, line, "scan: BBL 0\n");
     return [text.slice(0, edit.from) + edit.insert + text.slice(edit.to), first, isEnd];
   };
   assert.deepEqual(insertRoutine("", 0), ["scan: BBL 0\n", 1, true]);

@@ -10,9 +10,9 @@ import { createSubject } from "../core/explore/subject.js";
 import { beginProving, createPropertyVerdict } from "../core/prove/bounded_proof.js";
 import { replayCounterexample } from "../core/prove/counterexample.js";
 import { listInputLimits } from "../core/prove/input_limits.js";
-import { neverQuestion, questionText } from "../core/prove/question.js";
+import { createNeverQuestion, formatQuestion } from "../core/prove/question.js";
 import { isStillValid } from "../core/prove/verdict_validity.js";
-import { exitStatus, formatJudgedTap } from "../core/prove/verdicts.js";
+import { findExitStatus, formatJudgedTap } from "../core/prove/verdicts.js";
 import { describeVerdict } from "../words/prove_results.js";
 import { pageModule } from "./page_session.js";
 import { DRIVE_ROW_0 } from "./drive_row.js";
@@ -88,7 +88,7 @@ test("limits on the inputs fit the board", () => {
 
 test("the limits on the inputs are lines of a question", () => {
   const linesOf = (inputLimits, limits = { maxStates: 77 }) => (
-    questionText({ board: "rom = []\n", program: "NOP" }, { ...neverQuestion([[]]), inputLimits }, limits).split("\n"));
+    formatQuestion({ board: "rom = []\n", program: "NOP" }, { ...createNeverQuestion([[]]), inputLimits }, limits).split("\n"));
   assert.deepEqual(linesOf(null).slice(0, 3), ["most 77", "pause 1000000", "wire"]);
   assert.deepEqual(linesOf({ keys: null, maxKeysDown: 2, minWait: 1, maxPressTime: null, words: [] }).slice(1, 4),
     ["pause 1000000", "together 2", "wire"]);
@@ -136,7 +136,7 @@ async function prove(propertiesText, answer, { programText = PROGRAM, answerMist
     verdicts: verdictsWhere(({ line }) => line > 0),
     mistakes: verdictsWhere(({ line }) => line === 0),
     questions: engine.questions.filter((text) => !isAboutMistakes(text)), mistakeQuestions: engine.questions.filter(isAboutMistakes),
-    status: exitStatus(judgedProperties),
+    status: findExitStatus(judgedProperties),
   };
 }
 
@@ -286,7 +286,7 @@ test("the limits of a proof are printed", async () => {
     'not ok 1 - never it # never reached, for the inputs of "press", "test" and "together 1" (2 states)\n');
   const verdict = createProvedVerdict(2, "press", "test");
   assert.equal(describeVerdict({ ...property, verdict }), 'for the inputs of "press" and "test": 2 states');
-  assert.equal(exitStatus([{ property, verdict: createProvedVerdict(2, "press") }]), 0);
+  assert.equal(findExitStatus([{ property, verdict: createProvedVerdict(2, "press") }]), 0);
 });
 
 test("a proof with limits is valid until they change", () => {

@@ -4,7 +4,7 @@ import { readFileSync } from "node:fs";
 import { test } from "node:test";
 import { editDistance, findSimilarWords } from "../core/text/similar_words.js";
 import { formatQuantity } from "../core/bench/numbers.js";
-import { createProgramTexts, describeAssembled } from "../core/text/asm_texts.js";
+import { createProgramTexts, describeAssembledProgram } from "../core/text/asm_texts.js";
 import { findDefinedNames, splitStatement, tokenizeLine, wordAt } from "../core/text/assembly.js";
 import { completeProgram } from "../core/text/completion.js";
 import { readInstructions } from "../core/help/manual.js";
@@ -178,7 +178,7 @@ test("a program is loaded into ROM with zeros elsewhere, in one text if possible
 });
 
 test("the message about assembled bytes names the bytes that stay in ROM", () => {
-  assert.equal(describeAssembled({ size: 3, remainingAddresses: [0x41, 0x42] }, "012"),
+  assert.equal(describeAssembledProgram({ size: 3, remainingAddresses: [0x41, 0x42] }, "012"),
     "3 bytes assembled. 2 bytes from before stay in ROM, from 0x041. The counter stays at 012; nothing was reset.");
   assert.deepEqual(
     [formatQuantity(1, "byte"), formatQuantity(0, "byte"), formatQuantity(1543, "cycle"),

@@ -5,7 +5,7 @@ import { test } from "node:test";
 import { DebugSession } from "../core/debug/debug_session.js";
 import { COMMANDS, findCommand, commandHelp } from "../core/prompt/prompt_commands.js";
 import { Prompt } from "../core/prompt/debugger_prompt.js";
-import { View, viewSize } from "../core/prompt/view.js";
+import { View, chooseViewSize } from "../core/prompt/view.js";
 import { parseCountArgument, parseCycles, findInstruction } from "../core/prompt/argument_parsers.js";
 import { stepBackBy } from "../core/prompt/prompt_moves.js";
 import { Engine } from "../core/engine/engine.js";
@@ -224,11 +224,11 @@ test("the view shows source, registers and lamps in each size, and marks changed
   const leaveUnmarked = (text) => text;
   const marks = { head: leaveUnmarked, nextInstruction: (text) => `[${text}]`, changedValue: (text) => `{${text}}` };
   const view = new View(prompt);
-  assert.deepEqual(viewSize(24, 80), { rows: 14, columns: 79 });
-  assert.deepEqual([viewSize(11, 80), viewSize(24, 39), viewSize(undefined, undefined)], [null, null, null]);
-  view.lines(viewSize(24, 80), marks);
+  assert.deepEqual(chooseViewSize(24, 80), { rows: 14, columns: 79 });
+  assert.deepEqual([chooseViewSize(11, 80), chooseViewSize(24, 39), chooseViewSize(undefined, undefined)], [null, null, null]);
+  view.buildLines(chooseViewSize(24, 80), marks);
   await ask("until wait", "display r4", "hold 1");
-  const lines = view.lines(viewSize(24, 80), marks);
+  const lines = view.buildLines(chooseViewSize(24, 80), marks);
   assert.equal(lines.length, 14);
   assert.match(lines[0], /^p\.asm {2}014 \(wait, line 20\) {2}9 cycles, 0\.097 ms *$/);
   const nextLine = lines.find((line) => line.startsWith("["));
@@ -236,8 +236,8 @@ test("the view shows source, registers and lamps in each size, and marks changed
   assert.match(lines.join("\n"), /\{acc 1\} {3}cy 0 .*\n.*\n.*P0 00 {2}P1 00\n.*\{P2 10\}/);
   assert.deepEqual(lines.slice(-3), ["lamps ..* right", "r4 = 0x1", "-".repeat(79)]);
   for (const [rows, columns] of [[12, 40], [24, 60], [50, 200]]) {
-    const size = viewSize(rows, columns);
-    const plainLines = view.lines(size, { head: leaveUnmarked, nextInstruction: leaveUnmarked, changedValue: leaveUnmarked });
+    const size = chooseViewSize(rows, columns);
+    const plainLines = view.buildLines(size, { head: leaveUnmarked, nextInstruction: leaveUnmarked, changedValue: leaveUnmarked });
     assert.equal(plainLines.length, size.rows);
     assert.deepEqual(plainLines.filter((line) => line.length > size.columns), []);
     assert.match(plainLines.join("\n"), /acc 1/);

@@ -12,9 +12,9 @@ import { replayCounterexample } from "../core/prove/counterexample.js";
 import { listComparisons } from "../core/prove/condition_comparisons.js";
 import { listMistakes, countCyclesToMistake } from "../core/prove/mistakes.js";
 import {
-  MAX_STOPWATCH_CYCLES, MAX_PRESSES, createQuestion, mistakeQuestion, neverQuestion, questionText, readAnswer,
+  MAX_STOPWATCH_CYCLES, MAX_PRESSES, createQuestion, createMistakeQuestion, createNeverQuestion, formatQuestion, readAnswer,
 } from "../core/prove/question.js";
-import { exitStatus, tapHead, formatJudgedTap } from "../core/prove/verdicts.js";
+import { findExitStatus, formatTapHeader, formatJudgedTap } from "../core/prove/verdicts.js";
 import { runTests } from "../core/testing/test_suite.js";
 import { NullRecorder } from "../core/testing/recorders.js";
 import { pageModule } from "./page_session.js";
@@ -226,33 +226,35 @@ test("a time that is too long for the stopwatch is rejected with a reason", () =
 
 test("the lines of a stopwatch follow the texts", () => {
   const stopwatch = { startCondition: [["in register 1 whole 0 3"], []], endCondition: [["out counter 1 whole 0 0"]], maxCycles: 5 };
-  const lines = questionText({ board: "rom = []\n", program: "NOP" }, { ...neverQuestion([]), stopwatch }, { maxStates: 77 }).split("\n");
+  const question = { ...createNeverQuestion([]), stopwatch };
+  const lines = formatQuestion({ board: "rom = []\n", program: "NOP" }, question, { maxStates: 77 }).split("\n");
   assert.deepEqual(lines.slice(8),
     ["within 5", "begin", "in register 1 whole 0 3", "begin", "end", "out counter 1 whole 0 0", "prove", ""]);
 });
 
 test("the lines of key presses follow the conditions that they enable", () => {
   const presses = { openCondition: [["in register 1 whole 0 3"], []], keys: [matrixKey(0, 2), matrixKey(1, 0)] };
-  const lines = questionText({ board: "rom = []\n", program: "NOP" }, { ...neverQuestion([]), presses }, { maxStates: 77 }).split("\n");
+  const question = { ...createNeverQuestion([]), presses };
+  const lines = formatQuestion({ board: "rom = []\n", program: "NOP" }, question, { maxStates: 77 }).split("\n");
   assert.deepEqual(lines.slice(8), ["open", "in register 1 whole 0 3", "open", "up 0 2", "down 0 2", "up 1 0", "down 1 0", "prove", ""]);
 });
 
 test("a question contains its limits, both texts and the forbidden conditions", () => {
   const nevers = [["in register 1 whole 0 3", "out counter 1 whole 0 0"], []];
-  const question = questionText({ board: "rom = []\n", program: "NOP" }, neverQuestion(nevers), { maxStates: 77 });
+  const question = formatQuestion({ board: "rom = []\n", program: "NOP" }, createNeverQuestion(nevers), { maxStates: 77 });
   assert.deepEqual(question.split("\n"), ["most 77", "pause 1000000", "wire", "rom = []", ".", "asm", "NOP", ".", "never",
     "in register 1 whole 0 3", "out counter 1 whole 0 0", "never", "prove", ""]);
 });
 
 test("a question can have a limit of memory, and of sets", () => {
-  const questionLines = (limits) => questionText({ board: "rom = []\n", program: "NOP" }, neverQuestion([[]]), limits).split("\n");
+  const questionLines = (limits) => formatQuestion({ board: "rom = []\n", program: "NOP" }, createNeverQuestion([[]]), limits).split("\n");
   assert.deepEqual(questionLines({ maxStates: 77, memory: 5 }).slice(0, 4), ["most 77", "memory 5", "pause 1000000", "wire"]);
   assert.deepEqual(questionLines({ maxStates: 0, sets: 9 }).slice(0, 4), ["most 0", "sets 9", "pause 1000000", "wire"]);
 });
 
 test("mistakes are another forbidden condition", () => {
-  const question = { ...mistakeQuestion(["code", "ram"]), forbidden: [["in register 1 whole 0 3"]] };
-  const lines = questionText({ board: "rom = []\n", program: "NOP" }, question, { maxStates: 77 }).split("\n");
+  const question = { ...createMistakeQuestion(["code", "ram"]), forbidden: [["in register 1 whole 0 3"]] };
+  const lines = formatQuestion({ board: "rom = []\n", program: "NOP" }, question, { maxStates: 77 }).split("\n");
   assert.deepEqual(lines.slice(8), ["never", "in register 1 whole 0 3", "never", "mistake code ram", "prove", ""]);
   assert.deepEqual(listMistakes().map(({ word, property: { form } }) => `${word} ${form}`),
     ["code code", "call calls", "return returns", "ram mistake", "rom mistake", "rdr mistake", "wrr mistake"]);
@@ -399,7 +401,7 @@ test("verdicts are printed as TAP, and determine the exit status", () => {
     counterexample: { steps: 1, cycles: 1200, isAllowed: true, isTest: true, text: "test x\n  run 1\n" } };
   const verdicts = [{ property, verdict: provedVerdict }, { property, verdict: openVerdict }, { property: goal, verdict: foundVerdict },
     { property: goal, verdict: provedVerdict }, { property, verdict: setVerdict }, { property: goal, verdict: setVerdict }];
-  assert.equal(tapHead(verdicts.length) + verdicts.map((propertyVerdict, at) => formatJudgedTap(propertyVerdict, at, "p")).join(""),
+  assert.equal(formatTapHeader(verdicts.length) + verdicts.map((propertyVerdict, at) => formatJudgedTap(propertyVerdict, at, "p")).join(""),
     `TAP version 13
 1..6
 ok 1 - never \\# on # proved for all inputs (96,937 states)
@@ -416,8 +418,8 @@ not ok 4 - reach it # never reached, for all inputs (96,937 states)
 ok 5 - never \\# on # proved for all inputs (23 sets of states), even without "once" and "after press"
 not ok 6 - reach it # never reached, for all inputs (23 sets of states), even without "once" and "after press"
 `);
-  assert.equal(exitStatus([{ property, verdict: provedVerdict }, { property: goal, verdict: foundVerdict }]), 0);
-  assert.equal(exitStatus([{ property, verdict: provedVerdict }, { property, verdict: openVerdict }]), 3);
-  assert.equal(exitStatus([{ property, verdict: foundVerdict }, { property, verdict: openVerdict }]), 1);
-  assert.equal(exitStatus([{ property: goal, verdict: provedVerdict }]), 1);
+  assert.equal(findExitStatus([{ property, verdict: provedVerdict }, { property: goal, verdict: foundVerdict }]), 0);
+  assert.equal(findExitStatus([{ property, verdict: provedVerdict }, { property, verdict: openVerdict }]), 3);
+  assert.equal(findExitStatus([{ property, verdict: foundVerdict }, { property, verdict: openVerdict }]), 1);
+  assert.equal(findExitStatus([{ property: goal, verdict: provedVerdict }]), 1);
 });

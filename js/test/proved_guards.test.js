@@ -7,7 +7,7 @@ import { readCampaign } from "../core/explore/campaign.js";
 import { InitialProof } from "../core/explore/initial_proof.js";
 import { createSubject } from "../core/explore/subject.js";
 import { beginProving } from "../core/prove/bounded_proof.js";
-import { createQuestion, nameOmittedGuards } from "../core/prove/question.js";
+import { createQuestion, describeOmittedGuards } from "../core/prove/question.js";
 import { pageModule } from "./page_session.js";
 
 // A reaction timer. After START, it waits and then switches the lamp `go` on. PRESS, a key at TEST, stops it. A press of PRESS during the
@@ -114,8 +114,8 @@ test("the question about a property omits guards that depend on the past", () =>
     assert.deepEqual(questionOf(text), questionOf(textWithoutGuards), text);
   }
   const guardedProperty = propertyOf("once r0 = 1, after press START within 9, once r0 = 2, never r1 = 1");
-  assert.equal(nameOmittedGuards(guardedProperty), '"once" and "after press"');
-  assert.equal(nameOmittedGuards(propertyOf("while r0 = 1, never r1 = 1")), "");
+  assert.equal(describeOmittedGuards(guardedProperty), '"once" and "after press"');
+  assert.equal(describeOmittedGuards(propertyOf("while r0 = 1, never r1 = 1")), "");
   // The cells that a guard reads do not matter, because the prover ignores the guard.
   assert.notEqual(questionOf("once rom1 in 8, never r1 = 1").question, null);
   assert.equal(questionOf("while rom1 in 8, never r1 = 1").question, null);

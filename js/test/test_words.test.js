@@ -2,8 +2,8 @@ import assert from "node:assert/strict";
 import { test } from "node:test";
 import { testsTabMark, coverageMessage, textErrorsMessage, testsSummary, testDuration } from "../words/test_results.js";
 import { formatCount, describeCount } from "../page/text/count_marks.js";
-import { completeProperty, createFirstProperties, helpForProperty, propertyForms } from "../core/text/property_words.js";
-import { completeTest, helpForTest, testForms } from "../core/text/test_words.js";
+import { completeProperty, createInitialProperties, helpForProperty, readPropertyForms } from "../core/text/property_words.js";
+import { completeTest, helpForTest, readTestForms } from "../core/text/test_words.js";
 
 const names = { keys: ["1", "2", "ENTER"], lamps: ["red", "green"], labels: ["start", "stop"] };
 const table = (...rows) => ({ caption: "", head: ["", ""], rows });
@@ -17,7 +17,7 @@ const manual = [{ title: "The lines of a test", tables: [
 ] }, { title: "Inputs", tables: [table(["`press KEY ..`", "these keys may go down"])],
 }, { title: "Properties", tables: [table(["`never C`", "the condition never holds"], ["`at @LABEL C`", "it holds there"],
   ["`no press below TIME reaches @LABEL`", "short presses do not count"])] }];
-const forms = testForms(manual);
+const forms = readTestForms(manual);
 const completeLine = (line) => completeTest([line], 0, line.length, names, forms).list.map(({ text }) => text);
 const helpAt = (line, at) => helpForTest([line], 0, at, forms);
 
@@ -78,7 +78,7 @@ test("line counts are formatted", () => {
 });
 
 test("words of properties are completed, and have the help of the manual", () => {
-  const listedForms = propertyForms(manual);
+  const listedForms = readPropertyForms(manual);
   const listCompletions = (line) => completeProperty([line], 0, line.length, names, listedForms).list.map(({ text }) => text);
   assert.deepEqual(listCompletions("ne"), ["never"]);
   assert.deepEqual(["n", "no ", "no press ", "no press below ", "no press below 5 ", "no press below 5 ms r"].map(listCompletions),
@@ -99,6 +99,6 @@ test("words of properties are completed, and have the help of the manual", () =>
   assert.equal(helpForProperty(["no press below 5 ms reaches @stop"], 0, 1, listedForms),
     "no press below TIME reaches @LABEL: short presses do not count");
   assert.equal(helpForProperty(["never lamps none"], 0, 8, listedForms), "lamps NAME ..: these lamps are lit");
-  assert.match(createFirstProperties(names), /\nnote lamps\n\nreach lamp red on\n/);
-  assert.match(createFirstProperties({ ...names, keys: [] }), /\ntest\nwait /);
+  assert.match(createInitialProperties(names), /\nnote lamps\n\nreach lamp red on\n/);
+  assert.match(createInitialProperties({ ...names, keys: [] }), /\ntest\nwait /);
 });

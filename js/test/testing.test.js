@@ -6,7 +6,7 @@ import { before, test } from "node:test";
 import { CancelledError } from "../core/bench/bench_errors.js";
 import { formatCoverageSummary } from "../core/testing/coverage.js";
 import { formatTenths } from "../core/bench/numbers.js";
-import { sampleTest } from "../core/testing/sample_test.js";
+import { createSampleTest } from "../core/testing/sample_test.js";
 import { parseTestedTexts, runTests } from "../core/testing/test_suite.js";
 import { Engine } from "../core/engine/engine.js";
 import { pageModule } from "./page_session.js";
@@ -141,7 +141,7 @@ test("tenths are rounded half to even, as by printf", () => {
 
 test("the sample test presses the first key and expects what the bench shows then, so it passes", async () => {
   const sampleOf = async (sampleTexts) => {
-    const testText = await sampleTest(engine, sampleTexts);
+    const testText = await createSampleTest(engine, sampleTexts);
     const { errors, outcomes } = await runTests(engine, { ...sampleTexts, testText }, alwaysContinue);
     assert.deepEqual([errors, outcomes.map(({ failure }) => failure)], [[], [null]]);
     return testText.split("\n").slice(2, -1).map((line) => line.trim());
@@ -157,7 +157,7 @@ test("the sample test presses the first key and expects what the bench shows the
 
 test("the sample test for texts with errors, or for a program that stops, expects only its cycles", async () => {
   for (const program of [" what", " DB 0x01"]) {
-    const [, , ...lines] = (await sampleTest(engine, { boardText, programText: program })).trimEnd().split("\n");
+    const [, , ...lines] = (await createSampleTest(engine, { boardText, programText: program })).trimEnd().split("\n");
     assert.deepEqual(lines, ["test it has run for 100 cycles", "  run 100", "  expect cycles 100"]);
   }
 });

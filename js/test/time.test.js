@@ -1,7 +1,9 @@
 import assert from "node:assert/strict";
 import { test } from "node:test";
 import { Rate } from "../core/time/rate.js";
-import { CYCLES_PER_SECOND, CYCLE_US, EYE_CYCLES, FRAME_CYCLES, FRAME_MS, cyclesFromMilliseconds } from "../core/time/mcs4_time.js";
+import {
+  CYCLES_PER_SECOND, CYCLE_US, EYE_PERSISTENCE_CYCLES, FRAME_CYCLES, FRAME_MS, cyclesFromMilliseconds
+} from "../core/time/mcs4_time.js";
 import { MAX_EARLY_MS, MAX_CYCLES_PER_FRAME, RealTime } from "../core/time/real_time.js";
 import { formatDuration } from "../core/bench/error_messages.js";
 import { PLACES_HINT } from "../words/conditions.js";
@@ -11,7 +13,7 @@ test("a cycle of the 4004 takes eight periods of a clock of 740,740.7 Hz", () =>
   const countCycles = (seconds) => (seconds * (5185185.185 / 7)) / 8;
   assert.ok(Math.abs(CYCLE_US * countCycles(1) - 1e6) < 0.001);
   const roundedCycles = [1, 0.03, 0.001, 0.02].map((time) => Math.round(countCycles(time)));
-  assert.deepEqual([CYCLES_PER_SECOND, EYE_CYCLES, cyclesFromMilliseconds(1), cyclesFromMilliseconds(20)], roundedCycles);
+  assert.deepEqual([CYCLES_PER_SECOND, EYE_PERSISTENCE_CYCLES, cyclesFromMilliseconds(1), cyclesFromMilliseconds(20)], roundedCycles);
   assert.equal(FRAME_CYCLES, Math.floor(countCycles(FRAME_MS / 1000)));
 });
 

@@ -32,7 +32,7 @@ test("rows have the order of the board until the user moves one; the other rows 
 
 test("a group has the position of its first row, can be folded, and moves as a whole", () => {
   const rows = new WaveRows();
-  for (const name of ["b", "e"]) rows.change(name, { group: "g" });
+  for (const name of ["b", "e"]) rows.changeAppearance(name, { group: "g" });
   assert.equal(rowsOf(rows), "a [g b e c d");
   rows.toggleFold("g");
   assert.equal(rowsOf(rows), "a ]g c d");
@@ -60,8 +60,8 @@ test("a row can be moved into a group and out of it", () => {
 
 test("names and colours are stored by line name", () => {
   const rows = new WaveRows();
-  rows.change("b", { title: "clock" });
-  rows.change("b", { colour: "red" });
+  rows.changeAppearance("b", { title: "clock" });
+  rows.changeAppearance("b", { colour: "red" });
   rows.toggleFold("x");
   const storedRows = JSON.parse(JSON.stringify(rows.storedRows));
   assert.deepEqual(storedRows, { order: [], looks: { b: { title: "clock", colour: "red" } }, folded: ["x"] });

@@ -2,7 +2,7 @@
 import assert from "node:assert/strict";
 import { test } from "node:test";
 import { Waves } from "../core/waves/wave_recording.js";
-import { findMatch, readSearch } from "../core/waves/wave_search.js";
+import { findMatch, parseSearch } from "../core/waves/wave_search.js";
 import { findLineByName } from "../core/waves/trigger.js";
 import { openExample, examplesOfPage } from "./page_session.js";
 
@@ -40,7 +40,7 @@ test("values and edges are found in both directions", () => {
   const waves = createWaves();
   const markedLine = 6;
   const findAll = (text, isForward = true) => {
-    const { search, error } = readSearch(text, waves, markedLine);
+    const { search, error } = parseSearch(text, waves, markedLine);
     assert.equal(error, "", text);
     const moments = [];
     const findNext = (/** @type {number} */ from) => findMatch(waves, search, from, isForward);
@@ -61,7 +61,7 @@ test("values and edges are found in both directions", () => {
 
 test("invalid searches are rejected with a reason", () => {
   const waves = createWaves();
-  const errorOf = (text, markedLine = 6) => readSearch(text, waves, markedLine).error;
+  const errorOf = (text, markedLine = 6) => parseSearch(text, waves, markedLine).error;
   assert.match(errorOf(""), /^Enter a search: a value of the selected row/);
   assert.match(errorOf("A"), /^A is not a number such as 10, 0x0A or 0b1010/);
   assert.equal(errorOf("16"), "r5 has 4 bits: its value is at most 15.");
@@ -76,7 +76,7 @@ test("an edge found in two million cycles is the one that the bench reports", as
   const { board, program } = examplesOfPage.find((example) => example.name === "stopwatch");
   const calls = await openExample("stopwatch", "test 0\n");
   const waves = new Waves(await calls.record(2000000, false, { board, program, values: ["r4"] }));
-  const findMoment = (text, moment, isForward) => findMatch(waves, readSearch(text, waves, -1).search, moment, isForward);
+  const findMoment = (text, moment, isForward) => findMatch(waves, parseSearch(text, waves, -1).search, moment, isForward);
   const firstEdge = findMoment("lamp15 rises", 0, true);
   assert.ok(findMoment("lamp15 rises", 2000000, false) > 1990000);
   assert.equal(findMoment("pc = 0xFFF", 0, true), -1);

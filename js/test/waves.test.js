@@ -4,7 +4,7 @@ import assert from "node:assert/strict";
 import { test } from "node:test";
 import { readBoard } from "../core/bench/answers.js";
 import { vcdParts } from "../core/waves/vcd.js";
-import { listRecordableLines, searchLines, chosenValueNames } from "../core/waves/wave_catalog.js";
+import { listRecordableLines, searchLines, listChosenValueNames } from "../core/waves/wave_catalog.js";
 import { createBoardLines, createValueLine } from "../core/waves/wave_lines.js";
 import { ForecastAnswers } from "../core/engine/forecast_answers.js";
 import { WaveBuilder } from "../core/engine/wave_builder.js";
@@ -101,7 +101,7 @@ test("recordable lines are found by words", () => {
   assert.deepEqual(findNames("p2"), ["p2"]);
   assert.match(searchLines(recordableLines, "", new Set()).note, /^160 nibbles of RAM are not listed: find one, as in: ram 0 0x12/);
   assert.equal(searchLines(recordableLines, " rubbish ", new Set()).note, "Nothing here is called rubbish.");
-  assert.deepEqual(chosenValueNames(recordableLines, new Set(["r5", "lamp2", "st.1.3.0", "gone"])), ["r5", "st.1.3.0"]);
+  assert.deepEqual(listChosenValueNames(recordableLines, new Set(["r5", "lamp2", "st.1.3.0", "gone"])), ["r5", "st.1.3.0"]);
 });
 
 /** The initial values of places. All other places are 0. */

@@ -148,7 +148,7 @@ test("a recording in pieces gives the same VCD file, also for some lines, ports 
       for await (const waves of recordPieces(calls.bench.engine, state, { lines: recordedLines, program, cycles: 50001 }, async () => {})) {
         if (!vcdText) {
           vcdText = new VcdText(waves, chosenIndices);
-          parts.push(vcdText.formatHead());
+          parts.push(vcdText.formatHeader());
         }
         parts = [...parts, ...vcdText.formatChanges()];
         assert.ok(waves.length <= 20000);

@@ -2,9 +2,9 @@
 import assert from "node:assert/strict";
 import { test } from "node:test";
 import { findFlagLeft } from "../page/waves/wave_canvas.js";
-import { WaveWindow, tickMoments } from "../core/waves/wave_window.js";
+import { WaveWindow, chooseTickMoments } from "../core/waves/wave_window.js";
 import {
-  describeDistance, describeCursor, cyclesText, instructionText, readCycles, describeRecording, screenReaderText, valueText,
+  describeDistance, describeCursor, cyclesText, instructionText, parseCycleCount, describeRecording, describeForScreenReader, valueText,
 } from "../core/waves/wave_words.js";
 import { Waves } from "../core/waves/wave_recording.js";
 
@@ -43,9 +43,9 @@ test("at least ten cycles are visible, and at most the whole recording", () => {
   view.zoom(1e9, 995);
   assert.equal(view.span, 10);
   assert.ok(view.from >= 0 && view.to <= 1000);
-  view.goTo(5000);
+  view.scrollTo(5000);
   assert.equal(view.to, 1000);
-  view.goTo(-5000);
+  view.scrollTo(-5000);
   assert.equal(view.from, 0);
   view.showAll();
   assert.deepEqual([view.from, view.span], [0, 1000]);
@@ -76,7 +76,7 @@ test("a window follows the end of a recording if the end was visible", () => {
   view.zoom(4, 1000);
   view.extendRange(500, 2000);
   assert.deepEqual([view.from, view.to, view.cursors], [1750, 2000, [500, 500]]);
-  view.goTo(600);
+  view.scrollTo(600);
   view.extendRange(700, 2500);
   assert.deepEqual([view.from, view.span], [700, 250]);
 });
@@ -99,14 +99,14 @@ test("an empty recording also has a window", () => {
   const view = createWindow(0, 500);
   view.zoom(2, 0);
   view.move(3);
-  assert.deepEqual([view.from, view.moment, tickMoments(view, 90)], [0, 0, [0, 1]]);
+  assert.deepEqual([view.from, view.moment, chooseTickMoments(view, 90)], [0, 0, [0, 1]]);
 });
 
 test("the tick labels do not overlap", () => {
-  assert.deepEqual(tickMoments(createWindow(1000, 500), 90), [0, 200, 400, 600, 800, 1000]);
+  assert.deepEqual(chooseTickMoments(createWindow(1000, 500), 90), [0, 200, 400, 600, 800, 1000]);
   const view = createWindow(100000, 500);
   view.zoom(10000, 50000);
-  const ticks = tickMoments(view, 90);
+  const ticks = chooseTickMoments(view, 90);
   assert.ok(ticks.length >= 4 && ticks.every((tick) => Number.isInteger(tick)));
 });
 
@@ -119,8 +119,8 @@ test("the instruction and value at a cursor are described", () => {
   const waves = createWaves([2], 3);
   assert.equal(describeCursor("A", 0, waves), "A: cycle 0, 0.000 ms: 000 D5 LDM 5");
   assert.equal(describeCursor("B", 3, waves), "B: cycle 3, 0.032 ms: next: 002 00 NOP");
-  assert.equal(screenReaderText(2, waves, 0), "test is 0, cycle 2, 001 40 00 JUN 0x000");
-  assert.equal(screenReaderText(1, waves, -1), "cycle 1, 001 40 00 JUN 0x000");
+  assert.equal(describeForScreenReader(2, waves, 0), "test is 0, cycle 2, 001 40 00 JUN 0x000");
+  assert.equal(describeForScreenReader(1, waves, -1), "cycle 1, 001 40 00 JUN 0x000");
   const row = { address: 1, listingLine: "001 40 00 JUN 0x000", line: 3, source: "JUN wait", isSecond: false, isEnd: false };
   assert.equal(instructionText(row), "001 40 00 JUN 0x000; line 3 of the source: JUN wait");
   assert.equal(instructionText({ ...row, isSecond: true }), "the second cycle of an instruction");
@@ -142,8 +142,8 @@ test("values are formatted in three bases", () => {
 });
 
 test("the typed number of cycles is parsed", () => {
-  assert.deepEqual(["1", " 10,000 ", "10,000,000"].map(readCycles), [1, 10000, 10000000]);
-  assert.deepEqual(["0", "10000001", "", "x", "1.5", "-1", "999999999"].map(readCycles), [0, 0, 0, 0, 0, 0, 0]);
+  assert.deepEqual(["1", " 10,000 ", "10,000,000"].map(parseCycleCount), [1, 10000, 10000000]);
+  assert.deepEqual(["0", "10000001", "", "x", "1.5", "-1", "999999999"].map(parseCycleCount), [0, 0, 0, 0, 0, 0, 0]);
 });
 
 test("a finished recording is shown as a whole unless the user has zoomed", () => {
@@ -156,7 +156,7 @@ test("a finished recording is shown as a whole unless the user has zoomed", () =
   view.showAllIfUnzoomed();
   assert.equal(view.span, 1543.63);
   view.zoom(1 / 20, 154363);
-  view.goTo(1000);
+  view.scrollTo(1000);
   view.showAllIfUnzoomed();
   assert.equal(view.from, 1000);
 });

@@ -1,6 +1,6 @@
 // Messages and labels about the front panel (lamps, keys, sound) and the board's wiring.
 
-import { EYE_CYCLES, EYE_PERSISTENCE_MS } from "../core/time/mcs4_time.js";
+import { EYE_PERSISTENCE_CYCLES, EYE_PERSISTENCE_MS } from "../core/time/mcs4_time.js";
 
 // --- board/board_keys.js ---
 /** @type {(legend: string, row: number, column: number) => string} */
@@ -125,7 +125,7 @@ export const answerIsRefusalMessage = (line, answer) => `line ${line} of the ans
 /** @type {(line: number, board: string) => string} */
 export const answerShowsInstantMessage = (line, board) => (
   `line ${line} of the answers has the lamps at an instant, and the digits of ${board} are multiplexed; `
-  + `\`trace ${EYE_CYCLES} lamps\` reports what is perceived in ${EYE_PERSISTENCE_MS} ms`);
+  + `\`trace ${EYE_PERSISTENCE_CYCLES} lamps\` reports what is perceived in ${EYE_PERSISTENCE_MS} ms`);
 /** @type {(line: number, count: number, board: string, needed: number) => string} */
 export const tooFewLampsMessage = (line, count, board, needed) => (
   `line ${line} of the answers has ${count} lamps, and the display of ${board} needs ${needed}`);

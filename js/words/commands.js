@@ -1,6 +1,6 @@
 // The help of mcs4's commands, from which the manual pages and completions are generated, and their error messages.
 
-import { EYE_CYCLES, EYE_PERSISTENCE_MS } from "../core/time/mcs4_time.js";
+import { EYE_PERSISTENCE_CYCLES, EYE_PERSISTENCE_MS } from "../core/time/mcs4_time.js";
 import { didYouMean } from "./text.js";
 
 /**
@@ -145,7 +145,7 @@ export const COMMAND_WORDS = {
       \`# display 3: 8 digits with points\` makes a display that starts at lamp 3: five lamps for each digit (8, 4, 2, 1 and the point),
       the leftmost digit first. \`# display 0: 2 digits of 7 segments\` has seven lamps for each digit, segments a to g. \`# display 0: 4
       digits of 7 segments scanned by 7\` has one set of segments and, from lamp 7, one lamp for each digit: no instant shows the number,
-      but \`trace ${EYE_CYCLES} lamps\` does, which is ${
+      but \`trace ${EYE_PERSISTENCE_CYCLES} lamps\` does, which is ${
   EYE_PERSISTENCE_MS} ms. \`# lamp 0: minus overflow\` names lamps: a \`minus\` that is on is
       printed before the number, other names after it.
 

@@ -4,7 +4,7 @@
 import { DebugSession } from "../debug/debug_session.js";
 import { MAX_RUN_CYCLES } from "../engine/key_queue.js";
 import { findDependencies } from "../server/text_kinds.js";
-import { failureLine } from "../testing/tap.js";
+import { formatFailureLine } from "../testing/tap.js";
 import { runTests } from "../testing/test_suite.js";
 import { AdapterError } from "./dap_protocol.js";
 import * as say from "../../words/adapter.js";
@@ -66,10 +66,10 @@ export async function createTestSession(engine, texts, { name, file }, pause) {
   const outcome = outcomes.pop();
   const testSession = sessions.pop();
   if (!outcome) throw new AdapterError(say.noSuchTestMessage(name, file), true);
-  if (!testSession || (outcome.failure && !outcome.failure.file)) throw new AdapterError(failureLine(outcome).trim(), true);
+  if (!testSession || (outcome.failure && !outcome.failure.file)) throw new AdapterError(formatFailureLine(outcome).trim(), true);
   const contents = { file: engine.bytesOf(testSession.initialFile), board: texts.boardText, program: texts.programText };
   const session = new DebugSession(engine, contents);
   const lines = createReplayLines(testSession);
   if (lines !== "") await session.debugger.session.serve(lines, async () => true);
-  return { session, result: outcome.failure ? failureLine(outcome).trim().slice(2) : say.testHasPassed(name) };
+  return { session, result: outcome.failure ? formatFailureLine(outcome).trim().slice(2) : say.testHasPassed(name) };
 }

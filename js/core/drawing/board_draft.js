@@ -110,7 +110,7 @@ export class BoardDraft {
    * Returns the number of the last line of a part.
    * @param {Entry} entry
    */
-  lastLine({ line, keys, end }) {
+  findLastLine({ line, keys, end }) {
     return end ? end.line : Math.max(line, ...keys.map(({ value }) => value.end.line));
   }
 

@@ -7,7 +7,7 @@ import { formatQuantity } from "../bench/numbers.js";
 import { Face } from "../board/face.js";
 import { sentText } from "../text/sendable_text.js";
 import { SHELF_PARTS, applyAction, reasonNotToAdd, matchesBench } from "./drawing_actions.js";
-import { targetName, possibleSources, possibleTargets, inputLines, boardWithBuzzer } from "./board_lines.js";
+import { targetName, listPossibleSources, listPossibleTargets, mapInputsToLines, boardWithBuzzer } from "./board_lines.js";
 import { selectionForm } from "./selection_form.js";
 import { MovedParts } from "./moved_parts.js";
 import * as say from "../../words/drawing.js";
@@ -39,7 +39,7 @@ import * as say from "../../words/drawing.js";
  */
 
 /** The board editor: its state and its actions. */
-export class Drawing {
+export class BoardDrawing {
   /**
    * @param {DrawingCallbacks} callbacks
    * @param {(state: DrawingState) => void} show shows a state in the view
@@ -156,16 +156,16 @@ export class Drawing {
     if (kind === "rom") return board.roms.some(({ chip }) => String(chip) === number);
     if (kind === "chain") return Number(number) < board.chains.length;
     if (kind === "ram") return signalLines(board).some((line) => line.name.startsWith(`ram${number}.`));
-    return inputLines(board).has(name) || signalLines(board).some((line) => line.name === name);
+    return mapInputsToLines(board).has(name) || signalLines(board).some((line) => line.name === name);
   }
 
   /** The pins at which the unfinished wire can end; none if there is no unfinished wire. */
   get possibleEnds() {
     const { board, wireStart } = this;
     if (wireStart === "" || this.error) return new Set(/** @type {string[]} */ ([]));
-    const currentLine = inputLines(board).get(wireStart);
-    if (currentLine === undefined) return new Set(possibleTargets(board, wireStart));
-    return new Set(possibleSources(board, wireStart).filter((line) => line !== currentLine));
+    const currentLine = mapInputsToLines(board).get(wireStart);
+    if (currentLine === undefined) return new Set(listPossibleTargets(board, wireStart));
+    return new Set(listPossibleSources(board, wireStart).filter((line) => line !== currentLine));
   }
 
   /** Passes the current state to the view. */
@@ -186,7 +186,7 @@ export class Drawing {
 
   /**
    * Handles a click, tap or Enter on a part or pin. If an unfinished wire can end at the pin, connects the wire. Otherwise, selects the
-   * part or pin and, if a wire can start there, begins a wire. A second click on the start pin removes the unfinished wire.
+   * part or pin. If a wire can start there, begins a wire. A second click on the start pin removes the unfinished wire.
    * @param {string} name
    */
   handleClick(name) {
@@ -206,7 +206,7 @@ export class Drawing {
    */
   endWire(name) {
     const { wireStart, board } = this;
-    const [line, target] = inputLines(board).has(wireStart) ? [name, wireStart] : [wireStart, name];
+    const [line, target] = mapInputsToLines(board).has(wireStart) ? [name, wireStart] : [wireStart, name];
     return this.performInOrder({ kind: "wire", line, target });
   }
 

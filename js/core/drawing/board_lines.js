@@ -35,7 +35,7 @@ export function boardWithBuzzer(board, face) {
  * @param {Board} board
  * @returns {Map<Target, string>}
  */
-export function inputLines({ chains, matrix, lamps, buzzer }) {
+export function mapInputsToLines({ chains, matrix, lamps, buzzer }) {
   /** @type {Map<Target, string>} */
   const lines = new Map();
   chains.forEach(({ clock, data }, chain) => lines.set(`clock ${chain}`, clock).set(`data ${chain}`, data));
@@ -102,10 +102,10 @@ export function canConnect({ chains, matrix }, { name, kind, isInput }, target) 
  * @param {string} name the name of the line
  * @returns {Target[]}
  */
-export function possibleTargets(board, name) {
+export function listPossibleTargets(board, name) {
   const line = signalLines(board).find((boardLine) => boardLine.name === name);
   if (!line) return [];
-  const targets = [...inputLines(board)].filter(([target, currentLine]) => currentLine !== name && canConnect(board, line, target));
+  const targets = [...mapInputsToLines(board)].filter(([target, currentLine]) => currentLine !== name && canConnect(board, line, target));
   return targets.map(([target]) => target);
 }
 
@@ -114,7 +114,7 @@ export function possibleTargets(board, name) {
  * @param {Board} board
  * @param {Target} target
  */
-export function possibleSources(board, target) {
+export function listPossibleSources(board, target) {
   return signalLines(board).filter((line) => canConnect(board, line, target)).map(({ name }) => name);
 }
 
@@ -122,7 +122,7 @@ export function possibleSources(board, target) {
  * Returns the signal lines that are connected to no input.
  * @param {Board} board
  */
-export function freeLines(board) {
-  const usedLines = new Set(inputLines(board).values());
+export function listFreeLines(board) {
+  const usedLines = new Set(mapInputsToLines(board).values());
   return signalLines(board).filter(({ name }) => !usedLines.has(name));
 }

@@ -4,12 +4,12 @@
 import { signalLines } from "../bench/board_form.js";
 import { formatQuantity } from "../bench/numbers.js";
 import { Face } from "../board/face.js";
-import { BUZZER, parseChainBit, canConnect, targetName, splitTarget, inputLines } from "./board_lines.js";
+import { BUZZER, parseChainBit, canConnect, targetName, splitTarget, mapInputsToLines } from "./board_lines.js";
 import {
   INPUT_MASK, OUTPUT_MASK, addBuzzer, addChain, addColumn, addDisplay, addKeys, addLamp, addRam, addRom, addMultiplexedDisplay,
-  displayedPartName, ensureRom, checkFrontPanelOutputs, setChips, setRows,
+  formatPartName, ensureRom, checkFrontPanelOutputs, setChips, setRows,
 } from "./part_addition.js";
-import { deletePart, displayAt, lampsInSameGroup } from "./part_deletion.js";
+import { deletePart, findDisplayAt, lampsInSameGroup } from "./part_deletion.js";
 import { COLOURS, setLampColour, moveBuzzer, setKeyName, setLampName, setLineText, toWord } from "./face_edits.js";
 import { replaceValue, setValue } from "./part_edits.js";
 import { ImpossibleAction, EditedBoard } from "./edited_board.js";
@@ -92,7 +92,7 @@ function addTestPinPart(editedBoard, kind) {
 function connectLine(editedBoard, name, target) {
   const { board, draft } = editedBoard;
   const line = signalLines(board).find((boardLine) => boardLine.name === name);
-  if (!line || !inputLines(board).has(target)) throw new ImpossibleAction(say.boardHasNoMessage(line ? target : name));
+  if (!line || !mapInputsToLines(board).has(target)) throw new ImpossibleAction(say.boardHasNoMessage(line ? target : name));
   if (!canConnect(board, line, target)) throw new ImpossibleAction(wireErrorMessage(line, target));
   const [kind, number] = splitTarget(target);
   if (kind === "clock" || kind === "data") editedBoard.edit([setValue(draft, draft.requirePart("chain", number), kind, name)]);
@@ -133,7 +133,7 @@ function setLineMode(editedBoard, line, mode) {
   const { draft, board } = editedBoard;
   const entry = draft.partByNumber("rom", chip);
   const port = String(draft.requireKey(entry, "port").value.inner);
-  const targets = [...inputLines(board)].filter(([target, name]) => name === line && target !== BUZZER).map(([target]) => target);
+  const targets = [...mapInputsToLines(board)].filter(([target, name]) => name === line && target !== BUZZER).map(([target]) => target);
   const changesDirection = (port[3 - portLine] === "i") !== (mode === "i");
   if (changesDirection && targets.length > 0) {
     throw new ImpossibleAction(say.lineInUse(line, targets.map(targetName).join(say.AND)));
@@ -156,7 +156,7 @@ function copyPart(editedBoard, part) {
   if (kind === "ram") return addRam(editedBoard);
   if (kind === "chain") return addChain(editedBoard, board.chains[number].chips);
   if (kind !== "lamp") throw new ImpossibleAction(say.ONLY_ONCE);
-  const display = displayAt(face, number);
+  const display = findDisplayAt(face, number);
   if (display) return addDisplay(editedBoard, display.columns < 7 ? "digit" : "segments", display.rows);
   if (lampsInSameGroup(face, number).length > 1) throw new ImpossibleAction(say.COPY_IN_TEXT);
   return addLamp(editedBoard, "", (face.colours.get(number) || { text: "" }).text);
@@ -216,7 +216,7 @@ function setColour(editedBoard, lamp, colour) {
  * @param {string} participle such as `added`
  */
 function completionMessage(part, participle) {
-  return `${capitalize(displayedPartName(part))} ${part === "keys" || part === "lamps" ? "were" : "was"} ${participle}`;
+  return `${capitalize(formatPartName(part))} ${part === "keys" || part === "lamps" ? "were" : "was"} ${participle}`;
 }
 
 /**
@@ -244,7 +244,7 @@ function perform(editedBoard, action) {
     }
     case "copy": {
       const part = copyPart(editedBoard, action.part);
-      return [part, say.copyAdded(capitalize(displayedPartName(part)), displayedPartName(action.part))];
+      return [part, say.copyAdded(capitalize(formatPartName(part)), formatPartName(action.part))];
     }
     case "wire":
       connectLine(editedBoard, action.line, action.target);
@@ -265,7 +265,7 @@ function perform(editedBoard, action) {
     }
     case "name":
       renamePart(editedBoard, action.part, action.name);
-      return [action.part, say.partNamed(capitalize(displayedPartName(action.part)), action.name.trim())];
+      return [action.part, say.partNamed(capitalize(formatPartName(action.part)), action.name.trim())];
     case "colour":
       setColour(editedBoard, action.lamp, action.colour);
       return [`lamp ${action.lamp}`, say.lampColoured(action.lamp, action.colour || say.USUAL_RED)];
@@ -273,7 +273,7 @@ function perform(editedBoard, action) {
 }
 
 /**
- * Returns the message for an error that an action has caused in the front panel; "" if the action has caused none.
+ * Returns the message for a front-panel error that an action has caused; "" if the action has caused none.
  * @param {string} textBefore the text before the action
  * @param {string} textAfter the text after the action
  */
@@ -318,7 +318,7 @@ export function reasonNotToAdd(text, part) {
 }
 
 /**
- * Returns whether the page and the bench read the same board from a board text. If not, the board editor cannot edit the text.
+ * Returns whether the page reads the same board from a board text as the bench does. If not, the board editor cannot edit the text.
  * @param {string} text
  * @param {string[]} answers the bench's answer to `board` after `wire` with the text
  */

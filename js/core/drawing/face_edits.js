@@ -2,7 +2,7 @@
 // front-panel entries and renumber the remaining entries.
 
 import { COLOURS, LINE_KINDS } from "../board/face_words.js";
-import { addFaceLine, faceLines, headNumber, removeFaceLine, removeWords, setWord } from "./face_lines.js";
+import { addFaceLine, faceLines, firstNumber, removeFaceLine, removeWords, setWord } from "./face_lines.js";
 
 /**
  * @typedef {import("./board_draft.js").BoardDraft} BoardDraft
@@ -40,15 +40,15 @@ export function toWord(name) {
  * @returns {TextEdit[]}
  */
 function setListWord(draft, kind, lamp, text) {
-  const lists = faceLines(draft).filter((line) => line.kind === kind && line.first && !line.last);
-  const containingLine = lists.find((line) => headNumber(line) <= lamp && lamp < headNumber(line) + line.words.length);
+  const linesWithLists = faceLines(draft).filter((line) => line.kind === kind && line.first && !line.last);
+  const containingLine = linesWithLists.find((line) => firstNumber(line) <= lamp && lamp < firstNumber(line) + line.words.length);
   if (containingLine) {
-    const otherWords = containingLine.words.filter((_, index) => headNumber(containingLine) + index !== lamp);
+    const otherWords = containingLine.words.filter((_, index) => firstNumber(containingLine) + index !== lamp);
     if (text === "" && otherWords.every((word) => word.text === EMPTY_ENTRY)) return [removeFaceLine(draft, containingLine)];
-    return setWord(containingLine.words[lamp - headNumber(containingLine)], text || EMPTY_ENTRY);
+    return setWord(containingLine.words[lamp - firstNumber(containingLine)], text || EMPTY_ENTRY);
   }
   if (text === "") return [];
-  const precedingList = lists.find((line) => headNumber(line) + line.words.length === lamp);
+  const precedingList = linesWithLists.find((line) => firstNumber(line) + line.words.length === lamp);
   if (precedingList) return [{ from: precedingList.end, to: precedingList.end, insert: ` ${text}` }];
   return addFaceLine(draft, kind, `# ${kind} ${lamp}: ${text}`);
 }
@@ -62,8 +62,8 @@ function setListWord(draft, kind, lamp, text) {
 export function setLampName(draft, lamp, name) {
   const word = toWord(name);
   const lines = faceLines(draft);
-  const nameLine = lines.find((line) => line.kind === "lamp" && headNumber(line) <= lamp && lamp < headNumber(line) + line.words.length);
-  const oldName = nameLine && nameLine.words[lamp - headNumber(nameLine)].text;
+  const nameLine = lines.find((line) => line.kind === "lamp" && firstNumber(line) <= lamp && lamp < firstNumber(line) + line.words.length);
+  const oldName = nameLine && nameLine.words[lamp - firstNumber(nameLine)].text;
   const gridWords = lines.filter(({ kind }) => kind === "grid").flatMap(({ words }) => words)
     .filter(({ text }) => text === oldName && text !== EMPTY_ENTRY);
   return [...setListWord(draft, "lamp", lamp, word), ...gridWords.flatMap((gridWord) => setWord(gridWord, word || String(lamp)))];
@@ -78,10 +78,10 @@ export function setLampName(draft, lamp, name) {
  * @returns {TextEdit[]}
  */
 export function setLampColour(draft, lamp, colour) {
-  const rangeLine = faceLines(draft).find((line) => line.kind === "colour" && line.last && headNumber(line) <= lamp
+  const rangeLine = faceLines(draft).find((line) => line.kind === "colour" && line.last && firstNumber(line) <= lamp
     && lamp <= Number(line.last.text));
   if (!rangeLine || !rangeLine.first || !rangeLine.last) return setListWord(draft, "colour", lamp, colour);
-  const first = headNumber(rangeLine);
+  const first = firstNumber(rangeLine);
   const [oldColour = { text: EMPTY_ENTRY }] = rangeLine.words;
   const count = Number(rangeLine.last.text) - first + 1;
   const colours = Array.from({ length: count }, (_, index) => (first + index === lamp ? colour || EMPTY_ENTRY : oldColour.text));
@@ -100,7 +100,7 @@ export function setLampColour(draft, lamp, colour) {
  */
 export function setKeyName(draft, { row, column }, name) {
   const word = toWord(name) || EMPTY_ENTRY;
-  const line = faceLines(draft).find((faceLine) => faceLine.kind === "row" && headNumber(faceLine) === row);
+  const line = faceLines(draft).find((faceLine) => faceLine.kind === "row" && firstNumber(faceLine) === row);
   const count = line ? line.words.length : 0;
   if (line && column < count) return setWord(line.words[column], word);
   const missingNames = Array.from({ length: column - count }, (_, index) => `${row}.${count + index}`);
@@ -156,71 +156,72 @@ export function addGroup(draft, kind, first, text) {
  */
 export function renumberLamps(draft, deletedLamps) {
   /** @type {(lamp: number) => number} */
-  const newNumber = (lamp) => lamp - [...deletedLamps].filter((deletedLamp) => deletedLamp < lamp).length;
+  const toNewNumber = (lamp) => lamp - [...deletedLamps].filter((deletedLamp) => deletedLamp < lamp).length;
   return faceLines(draft).flatMap((line) => {
-    if (line.kind === "grid") return renumberGrid(draft, line, deletedLamps, newNumber);
-    if (!LAMP_KINDS.has(line.kind) || !line.first || Number.isNaN(headNumber(line))) return [];
-    if (line.last) return renumberRange(draft, line, deletedLamps, newNumber);
-    return renumberList(draft, line, deletedLamps, newNumber);
+    if (line.kind === "grid") return renumberGrid(draft, line, deletedLamps, toNewNumber);
+    if (!LAMP_KINDS.has(line.kind) || !line.first || Number.isNaN(firstNumber(line))) return [];
+    if (line.last) return renumberRange(draft, line, deletedLamps, toNewNumber);
+    return renumberList(draft, line, deletedLamps, toNewNumber);
   });
 }
 
 /**
- * Returns the edits that renumber the lamps in the line of a list (names or colours) or of a group, or remove the line if no lamps remain.
+ * Returns the edits that renumber the lamps in a line with a list of names, a list of colours or a group. The edits remove the line if no
+ * lamps remain.
  * @param {BoardDraft} draft
  * @param {FaceLine} line
  * @param {Set<number>} deletedLamps
- * @param {(lamp: number) => number} newNumber returns the new number of a lamp
+ * @param {(lamp: number) => number} toNewNumber returns the new number of a lamp
  * @returns {TextEdit[]}
  */
-function renumberList(draft, line, deletedLamps, newNumber) {
-  const first = headNumber(line);
+function renumberList(draft, line, deletedLamps, toNewNumber) {
+  const first = firstNumber(line);
   const isGroup = line.kind !== "lamp" && line.kind !== "colour";
   const remainingLamps = isGroup ? [...(deletedLamps.has(first) ? [] : [first])]
     : line.words.map((_, index) => first + index).filter((lamp) => !deletedLamps.has(lamp));
   if (remainingLamps.length === 0) return [removeFaceLine(draft, line)];
-  const head = setWord(/** @type {import("./face_lines.js").FaceWord} */ (line.first), String(newNumber(remainingLamps[0])));
+  const head = setWord(/** @type {import("./face_lines.js").FaceWord} */ (line.first), String(toNewNumber(remainingLamps[0])));
   if (!isGroup) return [...head, ...removeWords(line, (index) => deletedLamps.has(first + index))];
   // In `scanned by N`, N is also a lamp number.
   const scanLampWord = line.words[line.words.findIndex(({ text }) => text === "scanned") + 2];
   const isMultiplexed = line.words.some(({ text }) => text === "scanned");
-  return isMultiplexed && scanLampWord ? [...head, ...setWord(scanLampWord, String(newNumber(Number(scanLampWord.text))))] : head;
+  return isMultiplexed && scanLampWord ? [...head, ...setWord(scanLampWord, String(toNewNumber(Number(scanLampWord.text))))] : head;
 }
 
 /**
- * Returns the edits that renumber the lamps in the line of a colour range, or remove the line if no lamps remain.
+ * Returns the edits that renumber the lamps in a line with a colour range. The edits remove the line if no lamps remain.
  * @param {BoardDraft} draft
  * @param {FaceLine} line
  * @param {Set<number>} deletedLamps
- * @param {(lamp: number) => number} newNumber returns the new number of a lamp
+ * @param {(lamp: number) => number} toNewNumber returns the new number of a lamp
  * @returns {TextEdit[]}
  */
-function renumberRange(draft, line, deletedLamps, newNumber) {
+function renumberRange(draft, line, deletedLamps, toNewNumber) {
   const { first, last } = line;
   if (!first || !last) return [];
-  const lamps = Array.from({ length: Math.max(0, Number(last.text) - headNumber(line) + 1) }, (_, index) => headNumber(line) + index);
+  const lamps = Array.from({ length: Math.max(0, Number(last.text) - firstNumber(line) + 1) }, (_, index) => firstNumber(line) + index);
   const remainingLamps = lamps.filter((lamp) => !deletedLamps.has(lamp));
   if (remainingLamps.length === 0) return [removeFaceLine(draft, line)];
   const lastRemaining = remainingLamps[remainingLamps.length - 1];
-  return [...setWord(first, String(newNumber(remainingLamps[0]))), ...setWord(last, String(newNumber(lastRemaining)))];
+  return [...setWord(first, String(toNewNumber(remainingLamps[0]))), ...setWord(last, String(toNewNumber(lastRemaining)))];
 }
 
 /**
- * Returns the edits that renumber the lamps in a grid row, or remove the row if no lamps remain.
+ * Returns the edits that renumber the lamps in a grid row. The edits remove the row if no lamps remain.
  * @param {BoardDraft} draft
  * @param {FaceLine} line
  * @param {Set<number>} deletedLamps
- * @param {(lamp: number) => number} newNumber returns the new number of a lamp
+ * @param {(lamp: number) => number} toNewNumber returns the new number of a lamp
  * @returns {TextEdit[]}
  */
-function renumberGrid(draft, line, deletedLamps, newNumber) {
+function renumberGrid(draft, line, deletedLamps, toNewNumber) {
   const names = new Map(faceLines(draft).filter(({ kind, first, last }) => kind === "lamp" && first && !last)
-    .flatMap((list) => list.words.map(({ text }, index) => /** @type {[string, number]} */ ([text, headNumber(list) + index]))));
+    .flatMap((list) => list.words.map(({ text }, index) => /** @type {[string, number]} */ ([text, firstNumber(list) + index]))));
   const texts = line.words.map(({ text }) => {
     const namedLamp = names.get(text);
     if (namedLamp !== undefined) return deletedLamps.has(namedLamp) ? EMPTY_ENTRY : text;
     if (!/^\d+$/.test(text)) return text;
-    return deletedLamps.has(Number(text)) ? EMPTY_ENTRY : String(newNumber(Number(text)));
+    return deletedLamps.has(Number(text)) ? EMPTY_ENTRY : String(toNewNumber(Number(text)));
   });
   if (texts.every((text) => text === EMPTY_ENTRY)) return [removeFaceLine(draft, line)];
   return line.words.flatMap((word, index) => setWord(word, texts[index]));
@@ -229,15 +230,15 @@ function renumberGrid(draft, line, deletedLamps, newNumber) {
 /**
  * Returns the edits that rename ports and chains in the front panel after a deletion, and remove the lines of deleted ports and chains.
  * @param {BoardDraft} draft
- * @param {(port: string) => string} newPortName returns the new name of a port or chain, "" if it was deleted
+ * @param {(port: string) => string} toNewPortName returns the new name of a port or chain, "" if it was deleted
  * @returns {TextEdit[]}
  */
-export function renamePorts(draft, newPortName) {
+export function renamePorts(draft, toNewPortName) {
   return faceLines(draft).flatMap((line) => {
     if (!line.first || !PORT_KINDS.includes(line.kind)) return [];
     // A printer line contains two ports: the port of the strobe line, and the port for the character code.
     const words = [line.first, ...(line.kind === "printer" ? line.words.slice(0, 1) : [])];
-    const newNames = words.map(({ text }, index) => renamePort(text, line.kind !== "port" && index === 0, newPortName));
+    const newNames = words.map(({ text }, index) => renamePort(text, line.kind !== "port" && index === 0, toNewPortName));
     if (newNames.includes("")) return [removeFaceLine(draft, line)];
     return words.flatMap((word, index) => setWord(word, newNames[index]));
   });
@@ -247,11 +248,11 @@ export function renamePorts(draft, newPortName) {
  * Returns the new name of a port or port line; "" if the port was deleted.
  * @param {string} text the old name
  * @param {boolean} isLine true for a port line
- * @param {(port: string) => string} newPortName returns the new name of a port or chain, "" if it was deleted
+ * @param {(port: string) => string} toNewPortName returns the new name of a port or chain, "" if it was deleted
  */
-function renamePort(text, isLine, newPortName) {
+function renamePort(text, isLine, toNewPortName) {
   const end = isLine ? text.lastIndexOf(".") : text.length;
-  const port = newPortName(text.slice(0, end).toLowerCase());
+  const port = toNewPortName(text.slice(0, end).toLowerCase());
   return port && port + text.slice(end);
 }
 
@@ -261,7 +262,7 @@ function renamePort(text, isLine, newPortName) {
  * @param {number} rowCount the number of remaining rows
  */
 export function removeRows(draft, rowCount) {
-  return faceLines(draft).filter((line) => line.kind === "row" && headNumber(line) >= rowCount).map((line) => removeFaceLine(draft, line));
+  return faceLines(draft).filter((line) => line.kind === "row" && firstNumber(line) >= rowCount).map((line) => removeFaceLine(draft, line));
 }
 
 /**

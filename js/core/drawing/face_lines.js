@@ -15,7 +15,7 @@ import { removeLines } from "./part_edits.js";
  */
 
 /** Matches the comment sign and the first word of a line. */
-const LINE_HEAD = /^[ \t]*#[ \t]*[A-Za-z]+[ \t]*/;
+const LINE_START = /^[ \t]*#[ \t]*[A-Za-z]+[ \t]*/;
 
 /**
  * Returns the words of the text with their offsets.
@@ -40,7 +40,7 @@ export function faceLines(draft) {
     const parsedLine = parseFaceLine(text.replace(/\r$/, ""));
     if (!parsedLine) return [];
     const lineStart = draft.lineOffsets[index];
-    const [prefix] = LINE_HEAD.exec(text) || [""];
+    const [prefix] = LINE_START.exec(text) || [""];
     const colon = text.indexOf(":", prefix.length);
     const [first = null, , last = null] = splitWithOffsets(text.slice(prefix.length, colon), lineStart + prefix.length);
     const words = splitWithOffsets(text.slice(colon + 1), lineStart + colon + 1);
@@ -52,7 +52,7 @@ export function faceLines(draft) {
  * Returns the first number before the colon; NaN if there is no number.
  * @param {FaceLine} line
  */
-export function headNumber({ first }) {
+export function firstNumber({ first }) {
   return first ? Number(first.text) : NaN;
 }
 
@@ -68,10 +68,10 @@ export function addFaceLine(draft, kind, text) {
   const lines = faceLines(draft);
   const precedingLine = lines.filter((line) => line.kind === kind).pop() || lines.pop();
   if (precedingLine) return [{ from: precedingLine.end, to: precedingLine.end, insert: `\n${text}` }];
-  const nonCommentIndex = draft.lines.findIndex((line) => !line.startsWith("#"));
-  const insertionOffset = nonCommentIndex < 0 ? draft.text.length : draft.lineOffsets[nonCommentIndex];
-  const gap = nonCommentIndex === 0 && draft.text.trim() !== "" && draft.lines[0].trim() !== "" ? "\n" : "";
-  return [{ from: insertionOffset, to: insertionOffset, insert: `${nonCommentIndex < 0 ? "\n" : ""}${text}\n${gap}` }];
+  const firstCodeIndex = draft.lines.findIndex((line) => !line.startsWith("#"));
+  const insertionOffset = firstCodeIndex < 0 ? draft.text.length : draft.lineOffsets[firstCodeIndex];
+  const gap = firstCodeIndex === 0 && draft.text.trim() !== "" && draft.lines[0].trim() !== "" ? "\n" : "";
+  return [{ from: insertionOffset, to: insertionOffset, insert: `${firstCodeIndex < 0 ? "\n" : ""}${text}\n${gap}` }];
 }
 
 /**
@@ -100,7 +100,7 @@ export function setWord(word, text) {
  * @returns {TextEdit[]}
  */
 export function removeWords({ words, first, last }, isDeleted) {
-  const head = last || first;
+  const lastNumberWord = last || first;
   return words.flatMap(({ from, to }, index) => {
     if (!isDeleted(index)) return [];
     const previousEnd = words[index - 1] ? words[index - 1].to : from;
@@ -108,6 +108,6 @@ export function removeWords({ words, first, last }, isDeleted) {
     const next = words[index + 1];
     const isFirstWord = words.slice(0, index).every((_, earlierIndex) => isDeleted(earlierIndex));
     if (isFirstWord) return [{ from, to: next ? next.from : to, insert: "" }];
-    return head ? [{ from: previousEnd, to, insert: "" }] : [];
+    return lastNumberWord ? [{ from: previousEnd, to, insert: "" }] : [];
   });
 }

@@ -17,11 +17,11 @@ const POINT_LABEL = "point";
  * @param {Face} face
  * @param {number} count the number of lamps on the board
  */
-export function lampLabels(face, count) {
+export function createLampLabels(face, count) {
   const labels = lampNames(face, count);
   for (const group of face.groups) {
     if (group.kind !== "display") continue;
-    const groupLabels = displayLabels(group);
+    const groupLabels = createDisplayLabels(group);
     lampsOfGroup(group).forEach((lamp, index) => {
       if (lamp < count) labels[lamp] = labels[lamp] || groupLabels[index];
     });
@@ -33,7 +33,7 @@ export function lampLabels(face, count) {
  * Returns the labels of the lamps in a display, in the order of `lampsOfGroup`.
  * @param {import("../board/face.js").Group} group
  */
-function displayLabels(group) {
+function createDisplayLabels(group) {
   const { rows, columns } = group;
   const lamps = [...(columns < SEGMENT_LABELS.length ? BCD_LABELS : SEGMENT_LABELS), POINT_LABEL].slice(0, columns);
   if (isMultiplexed(group)) return [...lamps.map((lamp) => say.allDigits(lamp)), ...indices(rows).map((digit) => `digit ${digit}`)];

@@ -1,5 +1,5 @@
-// The positions of parts that the user dragged in the board drawing. When a chain is deleted, later chains get new numbers, and their
-// positions are stored under the new numbers. Undo restores the positions together with the text.
+// The positions of parts that the user dragged in the board drawing. When a chain is deleted, the later chains get new numbers. Their
+// positions are then stored under the new numbers. Undo restores the positions together with the text.
 
 /**
  * @typedef {import("../board/wiring.js").Positions} Positions
@@ -81,8 +81,8 @@ export class MovedParts {
    */
   restoreChains({ chains, points }) {
     for (const [currentNumber, point] of this.takeChains()) {
-      const number = chains.reduce((sum, deletedNumber) => (deletedNumber <= sum ? sum + 1 : sum), currentNumber);
-      this.positions.set(`chain ${number}`, point);
+      const oldNumber = chains.reduce((number, deletedNumber) => (deletedNumber <= number ? number + 1 : number), currentNumber);
+      this.positions.set(`chain ${oldNumber}`, point);
     }
     for (const [part, point] of points) this.positions.set(part, point);
   }

@@ -7,7 +7,7 @@ import { printerLines } from "../board/face_board.js";
 import { findLimit } from "../board/face_words.js";
 import { BITS_PER_CHIP, MAX_COLUMNS, MAX_PARTS, VALUE_RANGES } from "../bench/board_form.js";
 import { addGroup, setLampColour, setLineText } from "./face_edits.js";
-import { BUZZER, parseChainBit, freeLines, inputLines } from "./board_lines.js";
+import { BUZZER, parseChainBit, listFreeLines, mapInputsToLines } from "./board_lines.js";
 import { addPart, appendElement, setValue, formatToml } from "./part_edits.js";
 import { ImpossibleAction } from "./edited_board.js";
 import * as say from "../../words/drawing.js";
@@ -28,7 +28,7 @@ const LINES_PER_DIGIT = { digit: 4, segments: 7 };
  * @param {number[]} usedNumbers
  * @param {number} count the numbers are 0 to `count` - 1
  */
-function freeNumber(usedNumbers, count) {
+function findFreeNumber(usedNumbers, count) {
   return indices(count).find((number) => !usedNumbers.includes(number));
 }
 
@@ -38,7 +38,7 @@ function freeNumber(usedNumbers, count) {
  * @param {string} port the port mask
  */
 export function addRom(editedBoard, port) {
-  const chip = freeNumber(editedBoard.board.roms.map((rom) => Number(rom.chip)), MAX_PARTS.rom);
+  const chip = findFreeNumber(editedBoard.board.roms.map((rom) => Number(rom.chip)), MAX_PARTS.rom);
   if (chip === undefined) throw new ImpossibleAction(say.tooManyRomsMessage(MAX_PARTS.rom));
   editedBoard.edit(addPart(editedBoard.draft, "rom", { chip, port }));
   return `rom ${chip}`;
@@ -51,12 +51,13 @@ export function addRom(editedBoard, port) {
 export function addRam(editedBoard) {
   const { banks } = editedBoard.board;
   const { to: maxChips } = VALUE_RANGES["ram.chips"];
-  const openBank = banks.find(({ chips }) => chips < maxChips);
-  if (openBank) {
-    editedBoard.edit([setValue(editedBoard.draft, editedBoard.draft.partByNumber("ram", openBank.bank), "chips", openBank.chips + 1)]);
-    return `ram ${openBank.bank}.${openBank.chips}`;
+  const bankWithSpace = banks.find(({ chips }) => chips < maxChips);
+  if (bankWithSpace) {
+    const entry = editedBoard.draft.partByNumber("ram", bankWithSpace.bank);
+    editedBoard.edit([setValue(editedBoard.draft, entry, "chips", bankWithSpace.chips + 1)]);
+    return `ram ${bankWithSpace.bank}.${bankWithSpace.chips}`;
   }
-  const bank = freeNumber(banks.map((ramBank) => ramBank.bank), MAX_PARTS.ram);
+  const bank = findFreeNumber(banks.map((ramBank) => ramBank.bank), MAX_PARTS.ram);
   if (bank === undefined) throw new ImpossibleAction(say.tooManyRamChipsMessage(MAX_PARTS.ram, maxChips));
   editedBoard.edit(addPart(editedBoard.draft, "ram", { bank, chips: 1 }));
   return `ram ${bank}.0`;
@@ -67,9 +68,9 @@ export function addRam(editedBoard) {
  * @param {EditedBoard} editedBoard
  * @param {() => string} add adds the part and returns its name
  */
-function addRequired(editedBoard, add) {
+function addRequiredPart(editedBoard, add) {
   const part = add();
-  editedBoard.addedParts.push(displayedPartName(part));
+  editedBoard.addedParts.push(formatPartName(part));
   return part;
 }
 
@@ -77,7 +78,7 @@ function addRequired(editedBoard, add) {
  * Returns the name of a part for messages: `ROM 0`, `RAM 0.1`, `chain 0`, `lamp 3` or `the keys`.
  * @param {string} part
  */
-export function displayedPartName(part) {
+export function formatPartName(part) {
   if (part === "test") return say.AT_TEST;
   if (part === "title") return say.THE_BOARD;
   if (part === "keys" || part === "lamps") return say.thePart(part);
@@ -90,7 +91,7 @@ export function displayedPartName(part) {
  * @param {EditedBoard} editedBoard
  */
 export function ensureRom(editedBoard) {
-  if (editedBoard.board.roms.length === 0) addRequired(editedBoard, () => addRom(editedBoard, OUTPUT_MASK));
+  if (editedBoard.board.roms.length === 0) addRequiredPart(editedBoard, () => addRom(editedBoard, OUTPUT_MASK));
 }
 
 /**
@@ -101,32 +102,32 @@ export function ensureRom(editedBoard) {
  * @param {() => string} addLines adds a part with such lines, and returns its name
  */
 function ensureLines(editedBoard, count, findLines, addLines) {
-  while (findLines(editedBoard.board).length < count) addRequired(editedBoard, addLines);
+  while (findLines(editedBoard.board).length < count) addRequiredPart(editedBoard, addLines);
   return findLines(editedBoard.board).slice(0, count);
 }
 
 /**
- * Returns the names of the free output lines of ports.
+ * Returns the names of the port lines that are outputs and free.
  * @param {Board} board
  */
-function freeOutputs(board) {
-  return freeLines(board).filter(({ kind, isInput }) => kind !== "bit" && !isInput).map(({ name }) => name);
+function listFreeOutputs(board) {
+  return listFreeLines(board).filter(({ kind, isInput }) => kind !== "bit" && !isInput).map(({ name }) => name);
 }
 
 /**
  * Returns the names of the free input lines.
  * @param {Board} board
  */
-function freeInputs(board) {
-  return freeLines(board).filter(({ isInput }) => isInput).map(({ name }) => name);
+function listFreeInputs(board) {
+  return listFreeLines(board).filter(({ isInput }) => isInput).map(({ name }) => name);
 }
 
 /**
  * Returns the names of the free lines for lamps: first RAM port lines, then ROM port lines, then chain bits.
  * @param {Board} board
  */
-function freeLampLines(board) {
-  const outputLines = freeLines(board).filter(({ isInput }) => !isInput);
+function listFreeLampLines(board) {
+  const outputLines = listFreeLines(board).filter(({ isInput }) => !isInput);
   return ["ram", "rom", "bit"].flatMap((wantedKind) => outputLines.filter(({ kind }) => kind === wantedKind)).map(({ name }) => name);
 }
 
@@ -138,7 +139,7 @@ function freeLampLines(board) {
 export function addChain(editedBoard, chips = 1) {
   const chainNumber = editedBoard.board.chains.length;
   if (chainNumber >= MAX_PARTS.chain) throw new ImpossibleAction(say.tooManyChainsMessage(MAX_PARTS.chain));
-  const [clock, data] = ensureLines(editedBoard, 2, freeOutputs, () => addRom(editedBoard, OUTPUT_MASK));
+  const [clock, data] = ensureLines(editedBoard, 2, listFreeOutputs, () => addRom(editedBoard, OUTPUT_MASK));
   editedBoard.edit(addPart(editedBoard.draft, "chain", { clock, data, chips }));
   return `chain ${chainNumber}`;
 }
@@ -149,10 +150,10 @@ export function addChain(editedBoard, chips = 1) {
  * @param {number} count
  */
 function findFreeBits(board, count) {
-  const freeLineNames = new Set(freeLines(board).map(({ name }) => name));
+  const freeLineNames = new Set(listFreeLines(board).map(({ name }) => name));
   for (const [chain, { chips }] of board.chains.entries()) {
-    const starts = indices(Math.max(0, BITS_PER_CHIP * chips - count + 1));
-    const first = starts.find((bit) => indices(count).every((index) => freeLineNames.has(`chain${chain}.${bit + index}`)));
+    const possibleStarts = indices(Math.max(0, BITS_PER_CHIP * chips - count + 1));
+    const first = possibleStarts.find((bit) => indices(count).every((index) => freeLineNames.has(`chain${chain}.${bit + index}`)));
     if (first !== undefined) return { chain, first };
   }
   return null;
@@ -164,7 +165,7 @@ function findFreeBits(board, count) {
  * @param {number} count
  */
 function ensureBits(editedBoard, count) {
-  if (!findFreeBits(editedBoard.board, count)) addRequired(editedBoard, () => addChain(editedBoard, Math.ceil(count / BITS_PER_CHIP)));
+  if (!findFreeBits(editedBoard.board, count)) addRequiredPart(editedBoard, () => addChain(editedBoard, Math.ceil(count / BITS_PER_CHIP)));
   return /** @type {{ chain: number, first: number }} */ (findFreeBits(editedBoard.board, count));
 }
 
@@ -176,15 +177,15 @@ export function addKeys(editedBoard) {
   if (editedBoard.board.matrix) throw new ImpossibleAction(say.ONE_MATRIX);
   ensureRom(editedBoard);
   const { chain, first } = ensureBits(editedBoard, 1);
-  if (freeInputs(editedBoard.board).length === 0) addRequired(editedBoard, () => addRom(editedBoard, INPUT_MASK));
-  const columns = freeInputs(editedBoard.board).slice(0, 4);
+  if (listFreeInputs(editedBoard.board).length === 0) addRequiredPart(editedBoard, () => addRom(editedBoard, INPUT_MASK));
+  const columns = listFreeInputs(editedBoard.board).slice(0, 4);
   editedBoard.edit(addPart(editedBoard.draft, "keys", { chain, first, rows: 1, columns }));
   return "keys";
 }
 
 /**
- * Sets the number of key rows; returns the name of the part. Throws `ImpossibleAction` if there is no key matrix, if the number is out of
- * range, or if the chain has too few bits.
+ * Sets the number of key rows; returns `keys`, the part that changed. Throws `ImpossibleAction` if there is no key matrix, if the number is
+ * out of range, or if the chain has too few bits.
  * @param {EditedBoard} editedBoard
  * @param {number} rows
  */
@@ -202,15 +203,15 @@ export function setRows(editedBoard, rows) {
 }
 
 /**
- * Adds a key column; returns the name of the part. Throws `ImpossibleAction` if there is no key matrix, or if it has the maximum number of
- * columns.
+ * Adds a key column; returns `keys`, the part that changed. Throws `ImpossibleAction` if there is no key matrix, or if it has the maximum
+ * number of columns.
  * @param {EditedBoard} editedBoard
  */
 export function addColumn(editedBoard) {
   const { matrix } = editedBoard.board;
   if (!matrix) throw new ImpossibleAction(say.NO_KEYS);
   if (matrix.columns.length >= MAX_COLUMNS) throw new ImpossibleAction(say.tooManyColumnsMessage(MAX_COLUMNS));
-  const [line] = ensureLines(editedBoard, 1, freeInputs, () => addRom(editedBoard, INPUT_MASK));
+  const [line] = ensureLines(editedBoard, 1, listFreeInputs, () => addRom(editedBoard, INPUT_MASK));
   const { draft } = editedBoard;
   editedBoard.edit(appendElement(draft, draft.requireKey(draft.requirePart("keys", 0), "columns").value, formatToml(line)));
   return "keys";
@@ -246,8 +247,8 @@ export function addLamp(editedBoard, line = "", colour = "") {
   const lampNumber = editedBoard.board.lamps.length;
   const hasRam = editedBoard.board.banks.length > 0;
   // If the board has no RAM, add a RAM chip for its first lamp, so that later lamps can use the same port.
-  if (!line && !hasRam && lampNumber === 0) addRequired(editedBoard, () => addRam(editedBoard));
-  addLamps(editedBoard, [line || ensureLines(editedBoard, 1, freeLampLines, () => addRam(editedBoard))[0]]);
+  if (!line && !hasRam && lampNumber === 0) addRequiredPart(editedBoard, () => addRam(editedBoard));
+  addLamps(editedBoard, [line || ensureLines(editedBoard, 1, listFreeLampLines, () => addRam(editedBoard))[0]]);
   if (colour) editedBoard.edit(setLampColour(editedBoard.draft, lampNumber, colour));
   return `lamp ${lampNumber}`;
 }
@@ -260,7 +261,7 @@ export function addLamp(editedBoard, line = "", colour = "") {
 export function addBuzzer(editedBoard, line = "") {
   if (new Face(editedBoard.text).buzzer) throw new ImpossibleAction(say.ONE_BUZZER);
   ensureRom(editedBoard);
-  const output = line || ensureLines(editedBoard, 1, freeOutputs, () => addRam(editedBoard))[0];
+  const output = line || ensureLines(editedBoard, 1, listFreeOutputs, () => addRam(editedBoard))[0];
   editedBoard.edit(setLineText(editedBoard.draft, "buzzer", output, "buzzer"));
   return BUZZER;
 }
@@ -279,10 +280,10 @@ export function addDisplay(editedBoard, kind, digits) {
   const firstLamp = editedBoard.board.lamps.length;
   if (kind === "digit") for (let digit = 0; digit < digits; digit++) addLamps(editedBoard, ensureDigitPort(editedBoard));
   else addLamps(editedBoard, ensureSegmentBits(editedBoard, digits * LINES_PER_DIGIT.segments));
-  // (The next literal is a comment in the board text, in the syntax of `tools/lib/face.txt`.)
+  // This literal is not a message but a comment in the board text, in the syntax of `tools/lib/face.txt`.
   // eslint-disable-next-line no-restricted-syntax
-  const display = `${formatQuantity(digits, "digit")}${kind === "segments" ? " of 7 segments" : ""}`;
-  editedBoard.edit(addGroup(editedBoard.draft, "display", firstLamp, display));
+  const displayText = `${formatQuantity(digits, "digit")}${kind === "segments" ? " of 7 segments" : ""}`;
+  editedBoard.edit(addGroup(editedBoard.draft, "display", firstLamp, displayText));
   return `lamp ${firstLamp}`;
 }
 
@@ -294,17 +295,17 @@ export function addDisplay(editedBoard, kind, digits) {
 export function addMultiplexedDisplay(editedBoard, digits) {
   const maxDigits = findLimit("scanned");
   if (!Number.isInteger(digits) || digits < 1 || digits > maxDigits) throw new ImpossibleAction(say.multiplexedDigitsMessage(maxDigits));
-  const count = LINES_PER_DIGIT.segments + digits;
-  checkLampCount(editedBoard, count);
+  const lineCount = LINES_PER_DIGIT.segments + digits;
+  checkLampCount(editedBoard, lineCount);
   ensureRom(editedBoard);
   const firstLamp = editedBoard.board.lamps.length;
   /** @type {(board: Board) => string[]} */
-  const findRamLines = (board) => freeLampLines(board).filter((line) => line.startsWith("ram"));
-  addLamps(editedBoard, ensureLines(editedBoard, count, findRamLines, () => addRam(editedBoard)));
-  // (The next literal is a comment in the board text, in the syntax of `tools/lib/face.txt`.)
+  const findRamLines = (board) => listFreeLampLines(board).filter((line) => line.startsWith("ram"));
+  addLamps(editedBoard, ensureLines(editedBoard, lineCount, findRamLines, () => addRam(editedBoard)));
+  // This literal is not a message but a comment in the board text, in the syntax of `tools/lib/face.txt`.
   // eslint-disable-next-line no-restricted-syntax
-  const display = `${formatQuantity(digits, "digit")} of 7 segments scanned by ${firstLamp + LINES_PER_DIGIT.segments}`;
-  editedBoard.edit(addGroup(editedBoard.draft, "display", firstLamp, display));
+  const displayText = `${formatQuantity(digits, "digit")} of 7 segments scanned by ${firstLamp + LINES_PER_DIGIT.segments}`;
+  editedBoard.edit(addGroup(editedBoard.draft, "display", firstLamp, displayText));
   return `lamp ${firstLamp}`;
 }
 
@@ -313,14 +314,14 @@ export function addMultiplexedDisplay(editedBoard, digits) {
  * @param {EditedBoard} editedBoard
  */
 function ensureDigitPort(editedBoard) {
-  const freeNames = new Set(freeOutputs(editedBoard.board));
+  const freeNames = new Set(listFreeOutputs(editedBoard.board));
   for (const { bank, chips } of editedBoard.board.banks) {
     for (const chip of indices(chips)) {
       const lines = [3, 2, 1, 0].map((line) => `ram${bank}.${chip}.${line}`);
       if (lines.every((line) => freeNames.has(line))) return lines;
     }
   }
-  const addedChip = addRequired(editedBoard, () => addRam(editedBoard)).replace(" ", "");
+  const addedChip = addRequiredPart(editedBoard, () => addRam(editedBoard)).replace(" ", "");
   return [3, 2, 1, 0].map((line) => `${addedChip}.${line}`);
 }
 
@@ -358,10 +359,10 @@ export function setChips(editedBoard, chain, chips) {
   if (chips > to) throw new ImpossibleAction(say.tooManyChipsMessage(to));
   if (chips < from) throw new ImpossibleAction(say.TOO_FEW_CHIPS);
   /** @type {(line: string) => boolean} */
-  const isBeyond = (line) => line.startsWith(`chain${chain}.`) && parseChainBit(line).bit >= BITS_PER_CHIP * chips;
-  checkFrontPanelOutputs(editedBoard, isBeyond);
-  const lostLine = [...inputLines(editedBoard.board).values()].find(isBeyond);
-  if (lostLine) throw new ImpossibleAction(say.bitInUse(lostLine));
+  const isRemovedBit = (line) => line.startsWith(`chain${chain}.`) && parseChainBit(line).bit >= BITS_PER_CHIP * chips;
+  checkFrontPanelOutputs(editedBoard, isRemovedBit);
+  const usedLine = [...mapInputsToLines(editedBoard.board).values()].find(isRemovedBit);
+  if (usedLine) throw new ImpossibleAction(say.bitInUse(usedLine));
   editedBoard.edit([setValue(editedBoard.draft, editedBoard.draft.requirePart("chain", chain), "chips", chips)]);
   return `chain ${chain}`;
 }

@@ -6,7 +6,7 @@ import { Face } from "../board/face.js";
 import { isMultiplexed, lampsOfGroup } from "../board/face_board.js";
 import { removeColumns, removeRows, renamePorts, renumberLamps, setLineText } from "./face_edits.js";
 import { BUZZER, splitTarget } from "./board_lines.js";
-import { displayedPartName, setRows } from "./part_addition.js";
+import { formatPartName, setRows } from "./part_addition.js";
 import { removeElement, removePart, replaceValue, setValue } from "./part_edits.js";
 import { ImpossibleAction } from "./edited_board.js";
 import * as say from "../../words/drawing.js";
@@ -53,13 +53,13 @@ export function lampsInSameGroup(face, lamp) {
  * @param {Face} face
  * @param {number} lamp
  */
-export function displayAt(face, lamp) {
+export function findDisplayAt(face, lamp) {
   return face.groups.find((group) => group.kind === "display" && group.first === lamp && (group.columns === 4 || group.columns === 7)
     && !isMultiplexed(group));
 }
 
 /**
- * Adds the parts that depend on the parts to delete.
+ * Adds to `deletedParts` the parts that depend on parts in it.
  * @param {Board} board
  * @param {Face} face
  * @param {DeletedParts} deletedParts
@@ -74,7 +74,7 @@ function addDependents(board, face, deletedParts) {
     deletedParts.keys = deletedParts.keys || deletedParts.chains.has(matrix.chain) || deletedParts.columns.size === matrix.columns.length;
   }
   board.lamps.forEach((line, lamp) => isLineDeleted(deletedParts, line) && deletedParts.lamps.add(lamp));
-  // If one lamp of a group is deleted, all lamps of the group are deleted. The loop also visits the lamps that it adds to the set.
+  // If one lamp of a group is deleted, all lamps of the group are deleted. This loop also visits the lamps that its body adds to the set.
   for (const deletedLamp of deletedParts.lamps) {
     const groups = face.groups.map(lampsOfGroup).filter((lamps) => lamps.includes(deletedLamp));
     for (const lamp of groups.flat()) if (lamp < board.lamps.length) deletedParts.lamps.add(lamp);
@@ -139,7 +139,7 @@ function removeKeyColumns(editedBoard, columns) {
 }
 
 /**
- * Removes a chain, and renumbers the later chains wherever the text names them or their bits.
+ * Removes a chain, and renumbers the later chains wherever their names or the names of their bits occur in the text.
  * @param {EditedBoard} editedBoard
  * @param {number} chain
  */
@@ -148,11 +148,11 @@ function removeChain(editedBoard, chain) {
   const renumberChain = (line) => line.replace(/^chain(\d+)/, (_, number) => `chain${Number(number) - (Number(number) > chain ? 1 : 0)}`);
   const { draft } = editedBoard;
   const lineValues = draft.partsOfKind("lamp").map((entry) => draft.requireKey(entry, "line").value);
-  const renamedValues = lineValues.filter(({ inner }) => renumberChain(String(inner)) !== inner);
+  const valuesToRename = lineValues.filter(({ inner }) => renumberChain(String(inner)) !== inner);
   const chainNumbers = draft.partsOfKind("keys").map((entry) => draft.requireKey(entry, "chain").value)
     .filter(({ inner }) => Number(inner) > chain);
   editedBoard.edit([
-    ...renamedValues.map((value) => replaceValue(draft, value, renumberChain(String(value.inner)))),
+    ...valuesToRename.map((value) => replaceValue(draft, value, renumberChain(String(value.inner)))),
     ...chainNumbers.map((value) => replaceValue(draft, value, Number(value.inner) - 1)),
   ]);
   editedBoard.edit(renamePorts(editedBoard.draft, (port) => (port === `chain${chain}` ? "" : renumberChain(port))));
@@ -275,7 +275,7 @@ function describeDependents({ buzzer }, deletedParts, part) {
   const { chains, keys, columns, lamps } = deletedParts;
   const dependents = [...chains].map((chain) => `chain ${chain}`).filter((name) => name !== part);
   const otherLampCount = part === "lamps" || (part.startsWith("lamp ") && lamps.size === 1) ? 0 : lamps.size;
-  if (keys && part !== "keys") dependents.push(displayedPartName("keys"));
+  if (keys && part !== "keys") dependents.push(formatPartName("keys"));
   else if (!keys && columns.size > 0 && !part.startsWith("column")) dependents.push(say.ofKeys(formatQuantity(columns.size, "column")));
   if (otherLampCount > 0) {
     dependents.push(part.startsWith("lamp ") ? say.allLampsOf(otherLampCount) : formatQuantity(otherLampCount, "lamp"));

@@ -1,7 +1,7 @@
 // Creates text edits that add parts to a board text, remove parts, or change their values. The edits keep the comments. New parts have the
 // style of the existing parts.
 
-import { tomlWords } from "../text/toml_words.js";
+import { splitTomlWords } from "../text/toml_words.js";
 import { PART_KEYS } from "../bench/board_form.js";
 
 /**
@@ -67,7 +67,7 @@ export function addPart(draft, kind, values) {
   const gap = isCompact(draft) ? "\n" : "\n\n";
   const lastPart = draft.partsOfKind(kind).pop();
   if (!lastPart) return [appendTable(draft, gap, block)];
-  const line = draft.lastLine(lastPart);
+  const line = draft.findLastLine(lastPart);
   const insertionOffset = draft.offsetAt(line, draft.lines[line - 1].length);
   return [{ from: insertionOffset, to: insertionOffset, insert: gap + block }];
 }
@@ -94,8 +94,8 @@ function appendTable({ text, lines }, gap, block) {
  * @param {number} from the offset of the start of the range
  * @param {number} to the offset of its end
  */
-function tokensAround(draft, from, to) {
-  const tokens = tomlWords(draft.lines).filter(({ kind }) => kind !== "end");
+function findTokensAround(draft, from, to) {
+  const tokens = splitTomlWords(draft.lines).filter(({ kind }) => kind !== "end");
   /** @type {(word: TomlWord | undefined) => { text: string, from: number, to: number } | null} */
   const addOffsets = (word) => (word
     ? { text: word.text, from: draft.offsetAt(word.line, word.from), to: draft.offsetAt(word.line, word.to) } : null);
@@ -120,12 +120,12 @@ export function appendElement(draft, array, element) {
   const line = draft.lines[lastElement.end.line - 1];
   const previousElement = elements[elements.length - 2];
   const hasOwnLine = previousElement ? previousElement.end.line < lastElement.line : lastElement.line > array.line;
-  const isShort = line.length + element.length + 2 <= MAX_LINE_LENGTH;
-  if (!hasOwnLine && isShort) return [{ from: elementEnd, to: elementEnd, insert: `, ${element}` }];
-  const { next } = tokensAround(draft, elementEnd, elementEnd);
+  const fitsOnLine = line.length + element.length + 2 <= MAX_LINE_LENGTH;
+  if (!hasOwnLine && fitsOnLine) return [{ from: elementEnd, to: elementEnd, insert: `, ${element}` }];
+  const { next } = findTokensAround(draft, elementEnd, elementEnd);
   const hasComma = next !== null && next.text === ",";
   const indent = lastElement.line > array.line ? (/^[ \t]*/.exec(line) || [""])[0] : INDENT;
-  // The new line goes before the closing bracket if the bracket is on the line of the last element; otherwise after that line.
+  // The new element goes before the closing bracket if the bracket is on the line of the last element; otherwise after that line.
   const isBeforeBracket = next && next.text === "]" && array.end.line === lastElement.end.line;
   const end = isBeforeBracket ? elementEnd : draft.offsetAt(lastElement.end.line, line.length);
   const comma = { from: elementEnd, to: elementEnd, insert: "," };
@@ -145,8 +145,8 @@ export function removeLines({ lines, lineOffsets, text }, first, last) {
   const isLast = next === undefined || (last === lines.length - 1 && next === "");
   const firstDeleted = isLast && first > 1 && isBlankBefore ? first - 1 : first;
   if (next === undefined) return { from: Math.max(0, lineOffsets[firstDeleted - 1] - 1), to: text.length, insert: "" };
-  const endDeleted = !isLast && isBlankBefore && isBlank(next) ? last + 1 : last;
-  return { from: lineOffsets[firstDeleted - 1], to: lineOffsets[endDeleted], insert: "" };
+  const lastDeleted = !isLast && isBlankBefore && isBlank(next) ? last + 1 : last;
+  return { from: lineOffsets[firstDeleted - 1], to: lineOffsets[lastDeleted], insert: "" };
 }
 
 /**
@@ -176,7 +176,7 @@ function removeRange({ text }, from, to) {
 export function removeElement(draft, array, index) {
   const element = /** @type {Value[]} */ (array.inner)[index];
   const [from, to] = [draft.startOffset(element), draft.endOffset(element)];
-  const { before, next } = tokensAround(draft, from, to);
+  const { before, next } = findTokensAround(draft, from, to);
   if (next && next.text === ",") return [removeRange(draft, from, next.to)];
   if (!before || before.text !== ",") return [{ from, to, insert: "" }];
   if (!draft.text.slice(before.to, from).includes("\n")) return [{ from: before.from, to, insert: "" }];
@@ -192,7 +192,7 @@ export function removeElement(draft, array, index) {
  */
 export function removePart(draft, kind, index) {
   const entry = draft.requirePart(kind, index);
-  if (!entry.end) return [removeLines(draft, entry.line, draft.lastLine(entry))];
+  if (!entry.end) return [removeLines(draft, entry.line, draft.findLastLine(entry))];
   const key = draft.keys.find(({ name }) => name === kind);
   if (!key) throw new Error(`the text has no ${kind}`);
   if (kind === "keys") return [removeLines(draft, key.line, key.value.end.line)];

@@ -20,7 +20,7 @@ import * as say from "../../words/key_scan.js";
 const LABEL_WIDTH = 12;
 const COMMENT_COLUMN = 32;
 /** The number of values of a 4-bit register, which is the maximum number of iterations of an ISZ loop. */
-const REGISTER_VALUES = 16;
+const REGISTER_VALUE_COUNT = 16;
 
 /**
  * Returns the port of a signal line.
@@ -45,7 +45,7 @@ const hexByte = (byte) => `0x${byte.toString(16).toUpperCase().padStart(2, "0")}
  * @param {Port} port
  * @returns {Line[]}
  */
-function selectionLines({ bank, srcByte, title }) {
+function createSelectionLines({ bank, srcByte, title }) {
   /** @type {Line[]} */
   const bankLines = bank < 0 ? [] : [["", ["LDM", String(bank)]], ["", ["DCL"]]];
   return [...bankLines, ["", ["FIM", "P0,", hexByte(srcByte)], title], ["", ["SRC", "P0"]]];
@@ -80,32 +80,33 @@ class Labels {
  * @param {Labels} labels
  * @returns {Line[]}
  */
-function firstRowLines(first, labels) {
+function createFirstRowLines(first, labels) {
   if (first === 0) return [];
-  const rounds = Math.ceil(first / REGISTER_VALUES);
+  const rounds = Math.ceil(first / REGISTER_VALUE_COUNT);
   const [loopLabel, shiftLabel] = [labels.labelFor("first"), labels.labelFor("shift")];
   /** @type {Line[]} */
-  const counters = [
-    ["", ["LDM", String((REGISTER_VALUES - (first % REGISTER_VALUES)) % REGISTER_VALUES)]], ["", ["XCH", "R8"], say.movesTo(first)],
+  const counterLines = [
+    ["", ["LDM", String((REGISTER_VALUE_COUNT - (first % REGISTER_VALUE_COUNT)) % REGISTER_VALUE_COUNT)]],
+    ["", ["XCH", "R8"], say.movesTo(first)],
   ];
-  if (rounds > 1) counters.push(["", ["LDM", String(REGISTER_VALUES - rounds)]], ["", ["XCH", "R9"]]);
+  if (rounds > 1) counterLines.push(["", ["LDM", String(REGISTER_VALUE_COUNT - rounds)]], ["", ["XCH", "R9"]]);
   /** @type {Line[]} */
   const loop = [[loopLabel, ["LDM", "0"]], ["", ["JMS", shiftLabel]], ["", ["ISZ", "R8,", loopLabel]]];
-  return [...counters, ...loop, .../** @type {Line[]} */ (rounds > 1 ? [["", ["ISZ", "R9,", loopLabel]]] : [])];
+  return [...counterLines, ...loop, .../** @type {Line[]} */ (rounds > 1 ? [["", ["ISZ", "R9,", loopLabel]]] : [])];
 }
 
 /**
- * Returns the source lines that read the columns. At the first column that is 1, they jump to the label of the column.
+ * Returns the source lines that read the columns. If a column is 1, the program jumps to the label of the first such column.
  * @param {string[]} columns the signal lines of the columns
  * @param {Labels} labels
  * @returns {Line[]}
  */
-function columnLines(columns, labels) {
+function createColumnLines(columns, labels) {
   const ports = columns.map(portForLine);
   const distinctPorts = ports.filter((port, index) => ports.findIndex((candidate) => isSamePort(candidate, port)) === index);
   return distinctPorts.flatMap((distinctPort) => {
     /** @type {Line[]} */
-    const lines = [...selectionLines(distinctPort), ["", ["RDR"]]];
+    const lines = [...createSelectionLines(distinctPort), ["", ["RDR"]]];
     let bit = 1 / 2;
     const portColumns = ports.map((port, column) => ({ ...port, column })).filter((port) => isSamePort(port, distinctPort));
     for (const { bit: columnBit, column } of portColumns.sort((a, b) => a.bit - b.bit)) {
@@ -125,14 +126,14 @@ function columnLines(columns, labels) {
  * @param {Labels} labels
  * @returns {Line[]}
  */
-function shiftLines(clock, data, labels) {
+function createShiftLines(clock, data, labels) {
   const isOnePort = isSamePort(clock, data);
   /** @type {Line[]} */
-  const clockLowLines = isOnePort ? [] : [...selectionLines(clock), ["", ["LDM", "0"]], ["", [clock.write]]];
+  const clockLowLines = isOnePort ? [] : [...createSelectionLines(clock), ["", ["LDM", "0"]], ["", [clock.write]]];
   /** @type {Line[]} */
   const dataBitLines = isOnePort ? [["", ["CLC"]], ["", ["ADD", "R6"]]] : [];
   return [
-    [labels.labelFor("shift"), ["XCH", "R6"], say.BIT_ENTERS], ...selectionLines(data), ["", ["LD", "R6"]],
+    [labels.labelFor("shift"), ["XCH", "R6"], say.BIT_ENTERS], ...createSelectionLines(data), ["", ["LD", "R6"]],
     ["", [data.write], isOnePort ? say.CLOCK_LOW : say.DATA], ...clockLowLines,
     ["", ["LDM", String(clock.bit)]], ...dataBitLines, ["", [clock.write], say.CLOCK_RISES], ["", ["BBL", "0"]],
   ];
@@ -145,13 +146,13 @@ function shiftLines(clock, data, labels) {
  * @param {Port} data
  * @param {Labels} labels
  */
-function headerLines({ chain, first, rows, columns }, clock, data, labels) {
-  const readPorts = [...new Set(columns.map((line) => portForLine(line).title))];
+function createHeaderLines({ chain, first, rows, columns }, clock, data, labels) {
+  const portsToRead = [...new Set(columns.map((line) => portForLine(line).title))];
   const writtenPorts = [...new Set([data.title, clock.title])];
   const banks = [...new Set([data.bank, clock.bank])].filter((bank) => bank >= 0);
   return [
-    say.scansKeys(rows, first, chain, readPorts), say.callUsage(labels.labelFor("scan")),
-    say.registersUsed(first > REGISTER_VALUES ? "R9" : first > 0 ? "R8" : "R7"), say.writesPorts(writtenPorts),
+    say.scansKeys(rows, first, chain, portsToRead), say.callUsage(labels.labelFor("scan")),
+    say.registersUsed(first > REGISTER_VALUE_COUNT ? "R9" : first > 0 ? "R8" : "R7"), say.writesPorts(writtenPorts),
     ...banks.map(say.designatesBank),
   ].map((words) => `; ${words}`);
 }
@@ -162,7 +163,7 @@ function headerLines({ chain, first, rows, columns }, clock, data, labels) {
  * @param {Board} board
  * @param {string} text the source that will contain the routine
  */
-export function keyScanSource({ matrix, chains }, text) {
+export function createKeyScanSource({ matrix, chains }, text) {
   if (!matrix) return "";
   const { rows, first, columns } = matrix;
   const [clock, data] = [portForLine(chains[matrix.chain].clock), portForLine(chains[matrix.chain].data)];
@@ -173,17 +174,17 @@ export function keyScanSource({ matrix, chains }, text) {
   /** @type {Line[]} */
   const lines = [
     [scanLabel, ["LDM", "0"]], ["", ["XCH", "R4"], say.FIRST_ROW],
-    ["", ["LDM", String(REGISTER_VALUES - rows)]], ["", ["XCH", "R7"], say.countsRows(rows)],
-    ["", ["LDM", String(data.bit)]], ["", ["JMS", shiftLabel], say.ONE_ENTERS], ...firstRowLines(first, labels),
-    ...columnLines(columns, labels).map((line, index) => /** @type {Line} */ (index === 0 ? [rowLabel, line[1], line[2]] : line)),
+    ["", ["LDM", String(REGISTER_VALUE_COUNT - rows)]], ["", ["XCH", "R7"], say.countsRows(rows)],
+    ["", ["LDM", String(data.bit)]], ["", ["JMS", shiftLabel], say.ONE_ENTERS], ...createFirstRowLines(first, labels),
+    ...createColumnLines(columns, labels).map((line, index) => /** @type {Line} */ (index === 0 ? [rowLabel, line[1], line[2]] : line)),
     ["", ["LDM", "0"]], ["", ["JMS", shiftLabel], say.NEXT_ROW], ["", ["INC", "R4"]], ["", ["ISZ", "R7,", rowLabel]],
     ["", ["BBL", "0"], say.NO_KEY],
     ...columns.flatMap((_, column) => /** @type {Line[]} */ ([
       [labels.labelFor(String(column)), ["LDM", String(column)], say.columnIsDown(column)], ["", ["JUN", labels.labelFor("down")]]])),
     [labels.labelFor("down"), ["XCH", "R5"]], [outLabel, ["LDM", "0"]], ["", ["JMS", shiftLabel], say.LEAVES_ROWS],
-    ["", ["ISZ", "R7,", outLabel]], ["", ["BBL", "1"], say.KEY_IS_DOWN], ...shiftLines(clock, data, labels),
+    ["", ["ISZ", "R7,", outLabel]], ["", ["BBL", "1"], say.KEY_IS_DOWN], ...createShiftLines(clock, data, labels),
   ];
-  const headerComments = headerLines(matrix, clock, data, labels);
+  const headerComments = createHeaderLines(matrix, clock, data, labels);
   const blankLine = callingProgram.length > 0 ? [""] : [];
   return [...callingProgram.map(formatLine), ...blankLine, ...headerComments, ...lines.map(formatLine), ""].join("\n");
 }
@@ -197,15 +198,15 @@ export function keyScanSource({ matrix, chains }, text) {
  * @returns {{ edit: import("./text_edits.js").TextEdit, first: number, isEnd: boolean }} `first`: the number of the first routine
  *   line; `isEnd`: true if no text follows the routine
  */
-export function routineInsertion(text, line, code) {
+export function createRoutineInsertion(text, line, code) {
   const lines = text.split("\n");
   const before = lines.slice(0, line > 0 ? line : lines.length).join("\n");
   const head = before.trimEnd();
   const tail = text.slice(before.length).replace(/^([ \t]*\n)+/, "");
   const isEnd = tail.trim() === "";
-  const insert = `${head === "" ? "" : "\n\n"}${code}${isEnd ? "" : "\n"}`;
+  const insertedText = `${head === "" ? "" : "\n\n"}${code}${isEnd ? "" : "\n"}`;
   return {
-    edit: { from: head.length, to: isEnd ? text.length : text.length - tail.length, insert },
+    edit: { from: head.length, to: isEnd ? text.length : text.length - tail.length, insert: insertedText },
     first: head === "" ? 1 : head.split("\n").length + 2,
     isEnd,
   };

@@ -4,8 +4,8 @@
 import { indices } from "../bench/numbers.js";
 import { COLOURS } from "../board/face_words.js";
 import { VALUE_RANGES, signalLines } from "../bench/board_form.js";
-import { displayAt, lampsInSameGroup } from "./part_deletion.js";
-import { BUZZER, targetName, possibleSources, splitTarget, inputLines } from "./board_lines.js";
+import { findDisplayAt, lampsInSameGroup } from "./part_deletion.js";
+import { BUZZER, targetName, listPossibleSources, splitTarget, mapInputsToLines } from "./board_lines.js";
 import * as say from "../../words/drawing.js";
 
 /**
@@ -53,7 +53,7 @@ function choiceField(label, value, options, createAction) {
  * Returns the numbers of a range as strings.
  * @param {{ from: number, to: number }} range
  */
-function rangeNumbers({ from, to }) {
+function listNumbersInRange({ from, to }) {
   return indices(to + 1).slice(from).map(String);
 }
 
@@ -64,8 +64,9 @@ function rangeNumbers({ from, to }) {
  * @param {string} [label] the displayed name of the input
  */
 function lineField(board, target, label = targetName(target)) {
-  const currentLine = inputLines(board).get(target) || "";
-  return choiceField(say.lineFieldLabel(label), currentLine, possibleSources(board, target), (line) => ({ kind: "wire", line, target }));
+  const currentLine = mapInputsToLines(board).get(target) || "";
+  const sources = listPossibleSources(board, target);
+  return choiceField(say.lineFieldLabel(label), currentLine, sources, (line) => ({ kind: "wire", line, target }));
 }
 
 /**
@@ -91,9 +92,9 @@ function directionField(line, port) {
 }
 
 /** @type {(part: string) => Button} returns the button that copies a part */
-const copyButton = (part) => ({ label: say.COPY, action: { kind: "copy", part } });
+const createCopyButton = (part) => ({ label: say.COPY, action: { kind: "copy", part } });
 /** @type {(part: string, label?: string) => Button} returns the button that deletes a part */
-const deleteButton = (part, label = say.DELETE) => ({ label, action: { kind: "delete", part } });
+const createDeleteButton = (part, label = say.DELETE) => ({ label, action: { kind: "delete", part } });
 
 /**
  * Returns the form for a ROM.
@@ -108,7 +109,7 @@ function romForm(board, face, part) {
   const port = rom ? rom.port : "0000";
   const lineFields = indices(4).map((portLine) => directionField(`rom${chip}.${portLine}`, port));
   const fields = [portNameField(face, part), ...lineFields];
-  return { title: say.romWithPort(chip), part, fields, buttons: [copyButton(part), deleteButton(part)] };
+  return { title: say.romWithPort(chip), part, fields, buttons: [createCopyButton(part), createDeleteButton(part)] };
 }
 
 /**
@@ -120,11 +121,12 @@ function romForm(board, face, part) {
  */
 function chainForm(board, face, part) {
   const chainNumber = splitTarget(part)[1];
-  const chipsField = choiceField("chips", String(board.chains[chainNumber].chips), rangeNumbers(VALUE_RANGES["chain.chips"]), (value) => (
+  const chipCounts = listNumbersInRange(VALUE_RANGES["chain.chips"]);
+  const chipsField = choiceField("chips", String(board.chains[chainNumber].chips), chipCounts, (value) => (
     { kind: "chips", chain: chainNumber, chips: Number(value) }));
   const lineFields = [lineField(board, `clock ${chainNumber}`, "clock"), lineField(board, `data ${chainNumber}`, "data")];
   const fields = [portNameField(face, part), ...lineFields, chipsField];
-  return { title: say.chainOf(chainNumber), part, fields, buttons: [copyButton(part), deleteButton(part)] };
+  return { title: say.chainOf(chainNumber), part, fields, buttons: [createCopyButton(part), createDeleteButton(part)] };
 }
 
 /**
@@ -134,7 +136,7 @@ function chainForm(board, face, part) {
  * @returns {SelectionForm}
  */
 function keysForm(board, face) {
-  const rowsField = choiceField("rows", String(board.rows), rangeNumbers(VALUE_RANGES["keys.rows"]), (value) => (
+  const rowsField = choiceField("rows", String(board.rows), listNumbersInRange(VALUE_RANGES["keys.rows"]), (value) => (
     { kind: "rows", rows: Number(value) }));
   const columnFields = indices(board.columns).map((column) => lineField(board, `column ${column}`, `column ${column}`));
   const nameFields = indices(board.rows).flatMap((row) => indices(board.columns).map((column) => {
@@ -144,7 +146,7 @@ function keysForm(board, face) {
   }));
   const columnButton = { label: say.ANOTHER_COLUMN, action: /** @type {DrawingAction} */ ({ kind: "column" }) };
   const fields = [rowsField, lineField(board, "row 0", "row 0"), ...columnFields, ...nameFields];
-  return { title: say.KEYS, part: "keys", fields, buttons: [columnButton, deleteButton("keys")] };
+  return { title: say.KEYS, part: "keys", fields, buttons: [columnButton, createDeleteButton("keys")] };
 }
 
 /**
@@ -156,18 +158,18 @@ function keysForm(board, face) {
  */
 function lampForm(board, face, lamp) {
   const part = `lamp ${lamp}`;
-  const groupLamps = lampsInSameGroup(face, lamp);
-  const isSingle = groupLamps.length === 1;
+  const lampsOfGroup = lampsInSameGroup(face, lamp);
+  const isSingle = lampsOfGroup.length === 1;
   // All lamps of a group have the colour of its first lamp.
-  const [name, colour] = [face.lamps.get(lamp), face.colours.get(groupLamps[0])];
+  const [name, colour] = [face.lamps.get(lamp), face.colours.get(lampsOfGroup[0])];
   const fields = [
     textField("name", name ? name.text : "", (value) => ({ kind: "name", part, name: value })),
-    choiceField("colour", colour ? colour.text : "red", [...COLOURS], (value) => ({ kind: "colour", lamp: groupLamps[0], colour: value })),
+    choiceField("colour", colour ? colour.text : "red", [...COLOURS], (value) => ({ kind: "colour", lamp: lampsOfGroup[0], colour: value })),
     lineField(board, part, "lamp"),
   ];
-  const copyButtons = displayAt(face, groupLamps[0]) ? [{ ...copyButton(`lamp ${groupLamps[0]}`), label: say.COPY_DISPLAY }] : [];
-  const groupButtons = [...copyButtons, deleteButton(part, say.deleteLamps(groupLamps.length))];
-  const buttons = isSingle ? [copyButton(part), deleteButton(part)] : groupButtons;
+  const copyButtons = findDisplayAt(face, lampsOfGroup[0]) ? [{ ...createCopyButton(`lamp ${lampsOfGroup[0]}`), label: say.COPY_DISPLAY }] : [];
+  const groupButtons = [...copyButtons, createDeleteButton(part, say.deleteLamps(lampsOfGroup.length))];
+  const buttons = isSingle ? [createCopyButton(part), createDeleteButton(part)] : groupButtons;
   return { title: say.lampTitle(lamp), part, fields, buttons };
 }
 
@@ -180,7 +182,7 @@ function lampForm(board, face, lamp) {
 function buzzerForm(board, { buzzer }) {
   const name = textField("name", buzzer ? buzzer.name : "", (value) => ({ kind: "name", part: "buzzer", name: value }));
   const fields = [name, lineField(board, BUZZER, "buzzer")];
-  return { title: say.THE_BUZZER_TITLE, part: "buzzer", fields, buttons: [deleteButton("buzzer")] };
+  return { title: say.THE_BUZZER_TITLE, part: "buzzer", fields, buttons: [createDeleteButton("buzzer")] };
 }
 
 /**
@@ -191,7 +193,8 @@ function buzzerForm(board, { buzzer }) {
  */
 function ramForm(face, part) {
   const title = say.ramWithPort(part.slice(4));
-  return { title, part: part.split(".")[0], fields: [portNameField(face, part)], buttons: [copyButton(part), deleteButton(part)] };
+  const buttons = [createCopyButton(part), createDeleteButton(part)];
+  return { title, part: part.split(".")[0], fields: [portNameField(face, part)], buttons };
 }
 
 /**
@@ -224,7 +227,7 @@ function targetForm(board, target) {
   const name = targetName(target);
   const title = name.charAt(0).toUpperCase() + name.slice(1);
   const part = kind === "row" || kind === "column" ? "keys" : `chain ${number}`;
-  return { title, part, fields: [lineField(board, target, say.LOCATION_LABEL)], buttons: canDelete ? [deleteButton(target)] : [] };
+  return { title, part, fields: [lineField(board, target, say.LOCATION_LABEL)], buttons: canDelete ? [createDeleteButton(target)] : [] };
 }
 
 /**
@@ -242,12 +245,14 @@ export function selectionForm(board, face, selection) {
   if (kind === "lamp") return lampForm(board, face, number);
   if (kind === "ram") return ramForm(face, selection);
   if (kind === "buzzer" && board.buzzer) return buzzerForm(board, face);
-  if (kind === "lamps") return { title: say.ALL_LAMPS, part: "lamp 0", fields: [], buttons: [deleteButton("lamps", say.DELETE_ALL_LAMPS)] };
+  if (kind === "lamps") {
+    return { title: say.ALL_LAMPS, part: "lamp 0", fields: [], buttons: [createDeleteButton("lamps", say.DELETE_ALL_LAMPS)] };
+  }
   if (kind === "test" && face.test) {
     const name = textField("name", face.test.name, (value) => ({ kind: "name", part: "test", name: value }));
-    return { title: say.atTest(face.test.kind), part: "test", fields: [name], buttons: [deleteButton("test")] };
+    return { title: say.atTest(face.test.kind), part: "test", fields: [name], buttons: [createDeleteButton("test")] };
   }
-  if (inputLines(board).has(selection)) return targetForm(board, selection);
+  if (mapInputsToLines(board).has(selection)) return targetForm(board, selection);
   if (selection.includes(".")) return lineForm(board, selection);
   const title = textField("title", face.title, (name) => ({ kind: "name", part: "title", name }));
   return { title: say.BOARD_TITLE, part: "", fields: [title], buttons: [] };

@@ -21,7 +21,7 @@ export function applyEdits(text, edits) {
  * @param {TextEdit[]} edits
  * @returns {TextEdit[]}
  */
-export function inverseEdits(text, edits) {
+export function invertEdits(text, edits) {
   let currentText = text;
   /** @type {TextEdit[]} */
   const inverse = [];

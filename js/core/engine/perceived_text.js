@@ -4,7 +4,7 @@
 import { Brightness } from "../board/brightness.js";
 import { DisplayText } from "../board/display_text.js";
 import { isMultiplexed } from "../board/face_board.js";
-import { EYE_CYCLES } from "../time/mcs4_time.js";
+import { EYE_PERSISTENCE_CYCLES } from "../time/mcs4_time.js";
 import { BrightnessMeter } from "./brightness_meter.js";
 
 /**
@@ -12,7 +12,7 @@ import { BrightnessMeter } from "./brightness_meter.js";
  */
 
 /** The query that forecasts the lamps of the next 30 ms. */
-export const LAMPS_FORECAST_QUERY = `trace ${EYE_CYCLES} lamps\n`;
+export const LAMPS_FORECAST_QUERY = `trace ${EYE_PERSISTENCE_CYCLES} lamps\n`;
 
 /**
  * Returns whether a front panel has a multiplexed display. The digits of such a display are not all on at the same instant.

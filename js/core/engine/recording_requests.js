@@ -1,6 +1,6 @@
 // Requests that record the signal lines of the board.
 
-import { readTrigger } from "../waves/trigger.js";
+import { parseTrigger } from "../waves/trigger.js";
 import { LiveRecorder } from "./live_recorder.js";
 import { recordNextCycles, recordLastCycles } from "./wave_recorder.js";
 
@@ -44,7 +44,7 @@ export class RecordingRequests {
     const { engine, session } = this.bench;
     const recorder = new LiveRecorder(engine, session.file, this.bench.createRecordingTexts(texts));
     const names = this.bench.collectNames(texts);
-    const { trigger, error } = readTrigger(options.trigger, recorder.lines, names);
+    const { trigger, error } = parseTrigger(options.trigger, recorder.lines, names);
     if (error) return { recording: null, error };
     recorder.setTrigger(trigger, options);
     session.recorder = recorder;

@@ -1,7 +1,7 @@
 // Requests that run tests and search for counterexamples. Both use separate sessions; the open session does not change.
 
 import { SlicedSearch, parseSearchTexts, prepareSearch } from "../explore/sliced_search.js";
-import { sampleTest } from "../testing/sample_test.js";
+import { createSampleTest } from "../testing/sample_test.js";
 import { parseTestedTexts, runTests } from "../testing/test_suite.js";
 
 /**
@@ -29,7 +29,7 @@ export class TrialRequests {
    * @param {import("../testing/test_preparation.js").Texts} texts
    */
   createSampleTest(texts) {
-    return sampleTest(this.bench.engine, texts);
+    return createSampleTest(this.bench.engine, texts);
   }
 
   /**

@@ -3,7 +3,7 @@
 import { MAX_PLACES } from "../bench/inputs.js";
 import { stateValue } from "../bench/state_line.js";
 import { NumberQueue } from "../waves/number_queue.js";
-import { Track, emptyTrack } from "../waves/track.js";
+import { Track, createEmptyTrack } from "../waves/track.js";
 import { parseTraceLine, rowValues } from "./forecast_answers.js";
 
 /**
@@ -142,7 +142,7 @@ export class WaveBuilder {
     this.isSecondCycle = false;
     this.hasStarted = false;
     this.groups = groupPlaces(lines);
-    this.tracks = lines.map(({ width }) => new Track(emptyTrack(width)));
+    this.tracks = lines.map(({ width }) => new Track(createEmptyTrack(width)));
     this.moments = new NumberQueue(new Uint32Array(0));
     this.counters = new NumberQueue(new Uint16Array(0));
     /** The moment at which the previous part ended. */

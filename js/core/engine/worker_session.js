@@ -11,7 +11,7 @@ import { KeyQueue } from "./key_queue.js";
 import { buildSnapshot, snapshotQueries } from "../bench/snapshot.js";
 import { PieceSize } from "./piece_size.js";
 import { romCodes } from "./rom_codes.js";
-import { EYE_CYCLES } from "../time/mcs4_time.js";
+import { EYE_PERSISTENCE_CYCLES } from "../time/mcs4_time.js";
 import { MAX_MEASURED_CYCLES } from "./brightness_meter.js";
 import { MAX_SEGMENT_ENTRIES, Timeline } from "./timeline.js";
 
@@ -248,8 +248,8 @@ export class WorkerSession {
   forecastMeters() {
     const { brightnessMeter, heatMeter } = this;
     return {
-      litShares: brightnessMeter && brightnessMeter.take([this.ask(brightnessMeter.queries(EYE_CYCLES))]),
-      chipHeat: heatMeter && heatMeter.take([this.ask(heatMeter.queries(EYE_CYCLES))]),
+      litShares: brightnessMeter && brightnessMeter.take([this.ask(brightnessMeter.queries(EYE_PERSISTENCE_CYCLES))]),
+      chipHeat: heatMeter && heatMeter.take([this.ask(heatMeter.queries(EYE_PERSISTENCE_CYCLES))]),
     };
   }
 

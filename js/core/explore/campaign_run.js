@@ -1,6 +1,6 @@
 // Runs a campaign: searches for counterexamples, minimises and confirms them, and creates the report.
 
-import { nameOmittedGuards } from "../prove/question.js";
+import { describeOmittedGuards } from "../prove/question.js";
 import { formatTest, formatViolationLines } from "./counterexample_test.js";
 import { Model } from "./model.js";
 import { InitialProof } from "./initial_proof.js";
@@ -206,7 +206,7 @@ export class CampaignRun {
         text: property.text, line: property.line, isGoal: property.isGoal, isSkipped: property.form === "model" && this.model === null,
         applied: search.appliedProperties.has(at) || property.isGoal,
         chains: this.model && at === this.modelIndex ? this.model.sequenceCount : 0,
-        states: proof.states[at], limits: proof.limits[at], leftOut: nameOmittedGuards(property), found: this.counterexamples[at],
+        states: proof.states[at], limits: proof.limits[at], leftOut: describeOmittedGuards(property), found: this.counterexamples[at],
       })),
     };
   }

@@ -5,7 +5,7 @@
 import { listInputLimits, listPropertyLimits } from "../prove/input_limits.js";
 import { listMistakes } from "../prove/mistakes.js";
 import {
-  createQuestion, listBounds, combineQuestions, mistakeQuestion, needsSeparateQuestion, questionText, readAnswer,
+  createQuestion, listBounds, combineQuestions, createMistakeQuestion, needsSeparateQuestion, formatQuestion, readAnswer,
 } from "../prove/question.js";
 
 /**
@@ -85,7 +85,7 @@ export class InitialProof {
   askProver(question) {
     const { engine, texts } = this.subject;
     const limits = { maxStates: this.bounds[0], pause: PAUSE_CYCLES };
-    const answer = engine.prove ? readAnswer(engine.prove(questionText(texts, question, limits))) : null;
+    const answer = engine.prove ? readAnswer(engine.prove(formatQuestion(texts, question, limits))) : null;
     return answer || { kind: /** @type {const} */ ("lost") };
   }
 
@@ -134,7 +134,7 @@ function createQuestions(subject, campaign) {
   const mistakeWords = new Map(listMistakes().map(({ property: { form }, word }) => [form, word]));
   return campaign.properties.flatMap((property, at) => {
     const mistake = mistakeWords.get(property.form);
-    const question = mistake ? mistakeQuestion([mistake]) : createQuestion(property, campaign, subject).question;
+    const question = mistake ? createMistakeQuestion([mistake]) : createQuestion(property, campaign, subject).question;
     return question ? [{ properties: [at], question }] : [];
   });
 }

@@ -2,7 +2,7 @@
 // processes or machines.
 
 import { formatQuantity } from "../bench/numbers.js";
-import { TAP_HEAD, tapDescription, yamlString } from "../testing/tap.js";
+import { TAP_HEADER, formatTapDescription, formatYamlString } from "../testing/tap.js";
 import { Coverage } from "./search_coverage.js";
 import { moreItems } from "../../words/debug.js";
 import * as say from "../../words/explore.js";
@@ -131,11 +131,12 @@ export function propertyLocation({ line }, { names }) {
 function formatTapLines(property, index, report) {
   const { text, found } = property;
   const status = hasExpectedResult(property) ? "ok" : "not ok";
-  const lines = [`${status} ${index + 1} - ${tapDescription(text)} # ${formatRemark(property, report)}`];
+  const lines = [`${status} ${index + 1} - ${formatTapDescription(text)} # ${formatRemark(property, report)}`];
   if (!found) return lines;
   const resultWord = property.isGoal ? "reached" : "broken";
   const message = say.foundBy(resultWord, formatSteps(found.steps), formatNumber(found.cycles), found.seed);
-  lines.push("  ---", `  message: ${yamlString(message)}`, `  at: ${yamlString(propertyLocation(property, report))}`, "  test: |");
+  const location = formatYamlString(propertyLocation(property, report));
+  lines.push("  ---", `  message: ${formatYamlString(message)}`, `  at: ${location}`, "  test: |");
   return [...lines, ...found.test.trimEnd().split("\n").map((line) => `    ${line}`), "  ..."];
 }
 
@@ -172,7 +173,7 @@ export function formatCoverage({ covered, instructions }) {
 export function formatTap(report) {
   const { properties, seeds, steps, seconds, states, isStopped } = report;
   const checkedProperties = properties.filter(({ isSkipped }) => !isSkipped);
-  const lines = [TAP_HEAD, `1..${checkedProperties.length}`];
+  const lines = [TAP_HEADER, `1..${checkedProperties.length}`];
   checkedProperties.forEach((property, at) => lines.push(...formatTapLines(property, at, report)));
   for (const property of properties) {
     if (property.isSkipped) lines.push(`# ${say.notRunMessage(propertyLocation(property, report), property.text)}`);

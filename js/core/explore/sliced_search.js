@@ -5,7 +5,7 @@
 //     const exploring = new SlicedSearch(engine, texts, searchSetup, { seed: 1, seconds: 20 }, async () => {});
 //     const { report, found, isDone } = await exploring.runFor(200);
 
-import { isConfirmed } from "../testing/confirmation.js";
+import { confirmsCounterexample } from "../testing/confirmation.js";
 import { prepareTests } from "../testing/test_preparation.js";
 import { startCampaign, findLeadingTests } from "./start_state.js";
 import { CampaignRun, minimisingCycleLimit, initialProofTime } from "./campaign_run.js";
@@ -89,7 +89,7 @@ export class SlicedSearch {
   constructor(engine, texts, { subject, campaign }, { seed, seconds }, yieldToMessages) {
     // A counterexample counts only after its test has failed; for a goal, after its test has passed.
     const confirm = (/** @type {string} */ test, /** @type {boolean} */ isGoal) => (
-      isConfirmed(engine, texts, test, isGoal, yieldToMessages));
+      confirmsCounterexample(engine, texts, test, isGoal, yieldToMessages));
     const [cycleLimit, proofTime] = [minimisingCycleLimit(seconds), initialProofTime(seconds)];
     this.campaignRun = new CampaignRun(subject, campaign, seed, confirm, cycleLimit, null, yieldToMessages, proofTime);
   }

@@ -8,14 +8,15 @@ import * as say from "../../words/import.js";
  * The value of an expression. `isKnown` is false if a name in the expression has no value yet. `error` is the message, "" if there is none.
  * @typedef {{ value: number, isKnown: boolean, error: string }} EvaluationResult
  *
- * The names in a program. `isDefined` returns whether a line defines a name. `valueOf` returns its value, undefined if it is not known yet.
+ * The names in a program. `isDefined` returns whether a line defines a name. `valueOf` returns the value of a name, undefined if the value
+ * is not known yet.
  * @typedef {{ isDefined: (name: string) => boolean, valueOf: (name: string) => number | undefined }} NameValues
  */
 
 /** The maximum nesting depth of an expression. */
 const MAX_DEPTH = 50;
 /** The number of possible values of a byte. */
-const BYTE_VALUES = 256;
+const BYTE_VALUE_COUNT = 256;
 /** The value of the highest bit that the operator & evaluates. */
 const HIGHEST_BIT = 4096;
 const NAME = /[A-Za-z_.?@][A-Za-z0-9_.?@$]*/y;
@@ -148,7 +149,7 @@ class Evaluation {
     if (byteFunction) {
       this.index += byteFunction[0].length - 1;
       const value = this.parseBracketed();
-      return /^l/i.test(byteFunction[0]) ? value % BYTE_VALUES : Math.trunc(value / BYTE_VALUES);
+      return /^l/i.test(byteFunction[0]) ? value % BYTE_VALUE_COUNT : Math.trunc(value / BYTE_VALUE_COUNT);
     }
     const character = this.match(CHARACTER);
     if (character) return this.parseCharacter(character[0]);
@@ -176,7 +177,7 @@ class Evaluation {
     if (sign === "-") return -this.parseFactor();
     if (sign === "+") return this.parseFactor();
     const value = this.parseSum();
-    return sign === "<" ? ((value % BYTE_VALUES) + BYTE_VALUES) % BYTE_VALUES : Math.trunc(value / BYTE_VALUES);
+    return sign === "<" ? ((value % BYTE_VALUE_COUNT) + BYTE_VALUE_COUNT) % BYTE_VALUE_COUNT : Math.trunc(value / BYTE_VALUE_COUNT);
   }
 
   /** Parses an expression in parentheses, and returns its value. */

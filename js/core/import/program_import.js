@@ -6,7 +6,7 @@ import { MAX_NAME_LENGTH } from "../text/assembly.js";
 import { evaluate, isAscii } from "./expressions.js";
 import {
   BYTE_DIRECTIVES, MAX_CODE_LENGTH, INSTRUCTIONS_OF_4040, OPERAND_KINDS, PROGRAM_RAM_MNEMONIC, COMMENTED_DIRECTIVES, RESERVE_DIRECTIVES,
-  UNSUPPORTED_DIRECTIVES, toAsciiUpperCase, splitList, quotedCharacters, readSource, trimBlanks,
+  UNSUPPORTED_DIRECTIVES, toAsciiUpperCase, splitList, extractQuotedCharacters, readSource, trimBlanks,
 } from "./source_lines.js";
 import * as say from "../../words/import.js";
 
@@ -26,14 +26,14 @@ import * as say from "../../words/import.js";
 /** The maximum number of passes that compute the values of names. */
 const MAX_PASSES = 20;
 /** The number of possible values of a nibble, and of a byte. */
-const NIBBLE_VALUES = 16;
-const BYTE_VALUES = 256;
+const NIBBLE_VALUE_COUNT = 16;
+const BYTE_VALUE_COUNT = 256;
 /** The columns at which statements and comments start in the output, counted from 0. */
 const COLUMNS = { statement: 8, comment: 24 };
 /** Matches names that are reserved words in the bench's syntax. */
 const RESERVED_WORD = /^(ORG|DB|WPM|R[0-9]|R1[0-5]|P[0-7])$/;
 const NAME = /^[A-Za-z_.?@][A-Za-z0-9_.?@$]*$/;
-/** Matches numbers whose original spelling is not repeated in a comment in the output. */
+/** Matches numbers whose original spelling needs no comment in the output. */
 const PLAIN_NUMBER = /^([0-9]+|[0-9][0-9A-Fa-f]*[hH]|(0[xX]|[$%])[0-9A-Fa-f]+)$/;
 /** @type {Map<string, number>} the JCN condition numbers, by condition name */
 const CONDITIONS = new Map(Object.entries({ TZ: 1, T0: 1, TN: 9, T1: 9, CN: 2, C1: 2, CZ: 10, C0: 10, AZ: 4, AN: 12 }));
@@ -134,11 +134,11 @@ class ProgramImport {
     for (const [name, line] of this.definingLines) {
       const plainLabel = this.lines[line - 1].label.replace(/[^A-Za-z0-9_]/g, "_").replace(/^(?=[0-9])/, "_");
       const isReserved = OPERAND_KINDS.has(toAsciiUpperCase(plainLabel)) || RESERVED_WORD.test(toAsciiUpperCase(plainLabel));
-      const base = (isReserved ? `${plainLabel}_` : plainLabel).slice(0, MAX_NAME_LENGTH);
-      let spelling = base;
-      for (let number = nextNumbers.get(base) || 2; usedSpellings.has(spelling); number++) {
-        spelling = `${base.slice(0, MAX_NAME_LENGTH - `_${number}`.length)}_${number}`;
-        nextNumbers.set(base, number + 1);
+      const baseSpelling = (isReserved ? `${plainLabel}_` : plainLabel).slice(0, MAX_NAME_LENGTH);
+      let spelling = baseSpelling;
+      for (let number = nextNumbers.get(baseSpelling) || 2; usedSpellings.has(spelling); number++) {
+        spelling = `${baseSpelling.slice(0, MAX_NAME_LENGTH - `_${number}`.length)}_${number}`;
+        nextNumbers.set(baseSpelling, number + 1);
       }
       usedSpellings.add(spelling);
       this.names.set(name, spelling);
@@ -184,7 +184,9 @@ class ProgramImport {
       if (word !== "ALIGN") return address + value;
       return value > 0 ? Math.trunc((address + value - 1) / value) * value : address;
     }
-    if (BYTE_DIRECTIVES.has(word)) return splitList(operand).reduce((sum, part) => sum + (quotedCharacters(part) || " ").length, address);
+    if (BYTE_DIRECTIVES.has(word)) {
+      return splitList(operand).reduce((sum, part) => sum + (extractQuotedCharacters(part) || " ").length, address);
+    }
     const kinds = OPERAND_KINDS.get(word);
     return kinds ? address + (kinds.length > 1 || kinds.includes("target") ? 2 : 1) : address;
   }
@@ -244,7 +246,7 @@ class ProgramImport {
   }
 
   /**
-   * Converts a directive that reserves bytes or aligns the address into an ORG statement.
+   * Returns the ORG statement that replaces a directive that reserves bytes or aligns the address.
    * @param {string} word
    * @param {string} operand
    */
@@ -264,8 +266,8 @@ class ProgramImport {
     const parts = splitList(list);
     if (parts.length === 0) throw new LineError(say.NO_VALUES);
     return parts.flatMap((part) => {
-      const characters = quotedCharacters(part);
-      if (characters === null) return [this.convertExpression(part, { to: BYTE_VALUES - 1, modulus: BYTE_VALUES })];
+      const characters = extractQuotedCharacters(part);
+      if (characters === null) return [this.convertExpression(part, { to: BYTE_VALUE_COUNT - 1, modulus: BYTE_VALUE_COUNT })];
       if (!isAscii(characters)) throw new LineError(say.noCharacterMessage(part));
       return [...characters].map((character) => `0x${hex(character.charCodeAt(0), 2)}`);
     }).join(", ");
@@ -297,8 +299,8 @@ class ProgramImport {
       case "register": return this.convertRegister(text);
       case "pair": return this.convertPair(text);
       case "condition": return this.convertCondition(text);
-      case "digit": return this.convertExpression(text, { to: NIBBLE_VALUES - 1, modulus: NIBBLE_VALUES });
-      case "byte": return this.convertExpression(text, { to: BYTE_VALUES - 1, modulus: BYTE_VALUES });
+      case "digit": return this.convertExpression(text, { to: NIBBLE_VALUE_COUNT - 1, modulus: NIBBLE_VALUE_COUNT });
+      case "byte": return this.convertExpression(text, { to: BYTE_VALUE_COUNT - 1, modulus: BYTE_VALUE_COUNT });
       default: return this.convertExpression(text, { to: LAST_ADDRESS });
     }
   }
@@ -318,8 +320,8 @@ class ProgramImport {
     if (!(number >= from && number <= to)) throw new LineError(say.outOfRange(text, number, from, to));
     if (NAME.test(text) && !requiresNumber) return this.names.get(toAsciiUpperCase(text)) || "";
     if (!PLAIN_NUMBER.test(text)) this.originalTexts.push(text);
-    if (/^[0-9]+$/.test(text) || to < NIBBLE_VALUES || (requiresNumber && number < 10)) return String(number);
-    return `0x${hex(number, number > BYTE_VALUES - 1 || (to > BYTE_VALUES - 1 && !requiresNumber) ? 3 : 2)}`;
+    if (/^[0-9]+$/.test(text) || to < NIBBLE_VALUE_COUNT || (requiresNumber && number < 10)) return String(number);
+    return `0x${hex(number, number > BYTE_VALUE_COUNT - 1 || (to > BYTE_VALUE_COUNT - 1 && !requiresNumber) ? 3 : 2)}`;
   }
 
   /**
@@ -330,7 +332,7 @@ class ProgramImport {
     const word = toAsciiUpperCase(text);
     if (/^R([0-9]|1[0-5])$/.test(word) && !this.definingLines.has(word)) return word;
     // The operand can be a name for the number of a register, as in `COUNT EQU 5`.
-    return `R${this.convertExpression(text, { to: NIBBLE_VALUES - 1, requiresNumber: true })}`;
+    return `R${this.convertExpression(text, { to: NIBBLE_VALUE_COUNT - 1, requiresNumber: true })}`;
   }
 
   /**
@@ -343,7 +345,7 @@ class ProgramImport {
     if (number !== undefined) return `P${number}`;
     const [, first = "", mark = ""] = /^R([0-9]+)(?:R[0-9]+|P)$/.exec(word) || /^([0-9]+)(<)$/.exec(word) || [];
     const register = Number(first);
-    if (first !== "" && register % 2 === 0 && register < NIBBLE_VALUES) return `P${register / 2}`;
+    if (first !== "" && register % 2 === 0 && register < NIBBLE_VALUE_COUNT) return `P${register / 2}`;
     if (mark === "<") throw new LineError(say.oddPair(text, register));
     const { value, isKnown, error } = this.evaluateText(text, this.address);
     if (error === "" && isKnown && value === 0) return "P0";
@@ -356,11 +358,11 @@ class ProgramImport {
    */
   convertCondition(text) {
     const word = toAsciiUpperCase(text);
-    if (this.definingLines.has(word)) return this.convertExpression(text, { to: NIBBLE_VALUES - 1 });
+    if (this.definingLines.has(word)) return this.convertExpression(text, { to: NIBBLE_VALUE_COUNT - 1 });
     const knownNumber = CONDITIONS.get(word);
     if (knownNumber !== undefined) return String(knownNumber);
     if (word === "NC" && !this.isForAsAssembler) throw new LineError(say.NC_IS_AMBIGUOUS);
-    if (!/^N?[ZCT]+$/.test(word)) return this.convertExpression(text, { to: NIBBLE_VALUES - 1 });
+    if (!/^N?[ZCT]+$/.test(word)) return this.convertExpression(text, { to: NIBBLE_VALUE_COUNT - 1 });
     const letters = new Set(word.replace(/^N/, ""));
     return String([...letters].reduce((sum, letter) => sum + CONDITION_BITS[letter], word.startsWith("N") ? INVERTING_BIT : 0));
   }

@@ -177,6 +177,6 @@ export function splitList(list) {
  * Returns the text in a quoted string with two or more characters; null for any other operand.
  * @param {string} part
  */
-export function quotedCharacters(part) {
+export function extractQuotedCharacters(part) {
   return part.length > 3 && /^("[^"]*"|'[^']*')$/.test(part) ? part.slice(1, -1) : null;
 }

@@ -16,7 +16,7 @@ import { indices } from "../bench/numbers.js";
  */
 
 /** A group with at least this number of columns is drawn without gaps between its lamps. */
-const MIN_NARROW_COLUMNS = 13;
+const MIN_COLUMNS_WITHOUT_GAPS = 13;
 /** The width of a die cell in characters. */
 const DIE_WIDTH = 4;
 /** The number of characters around the name in a cell: `( ) ` before the name and a blank after the name. */
@@ -84,7 +84,7 @@ class LampRows {
    */
   addGroup(group, multiplexedIndex) {
     const { kind, first, rows, columns } = group;
-    const width = kind === "die" ? DIE_WIDTH : columns < MIN_NARROW_COLUMNS ? 2 : 1;
+    const width = kind === "die" ? DIE_WIDTH : columns < MIN_COLUMNS_WITHOUT_GAPS ? 2 : 1;
     const cells = indices(rows * columns).map((index) => {
       if (multiplexedIndex < 0) return this.makeCell(lampReader(first + index), first + index, width, "");
       const lamp = scannedLampReader(group, multiplexedIndex, index);
@@ -100,8 +100,8 @@ class LampRows {
    * @param {LampCell[]} pips the seven cells of the pips
    */
   addDie([first, second, ...otherPips]) {
-    const space = makeGapCell(DIE_WIDTH);
-    this.rows.push([first, space, second], otherPips.slice(0, 3), [otherPips[3], space, otherPips[4]]);
+    const gapCell = makeGapCell(DIE_WIDTH);
+    this.rows.push([first, gapCell, second], otherPips.slice(0, 3), [otherPips[3], gapCell, otherPips[4]]);
   }
 
   /**

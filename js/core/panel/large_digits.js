@@ -3,7 +3,7 @@
 import { digitPattern } from "../board/digit_patterns.js";
 
 /** The number of rows of a large digit. */
-export const LARGE_ROWS = 5;
+export const LARGE_DIGIT_ROWS = 5;
 const BLANK = " ";
 
 /** @type {(pattern: number, letter: string) => boolean} returns whether a pattern contains a segment, given as a letter from a to g */
@@ -14,7 +14,7 @@ const hasSegment = (pattern, letter) => ((pattern >> "abcdefg".indexOf(letter)) 
  * @param {string} character a digit, another display character, or a dot
  */
 function formatCharacter(character) {
-  if (character === ".") return [...Array(LARGE_ROWS - 1).fill("  "), "# "];
+  if (character === ".") return [...Array(LARGE_DIGIT_ROWS - 1).fill("  "), "# "];
   const pattern = digitPattern(character);
   const formatHorizontal = (/** @type {string} */ letter) => (hasSegment(pattern, letter) ? " ###  " : BLANK.repeat(6));
   const formatVertical = (/** @type {string} */ letters) => (
@@ -28,5 +28,5 @@ function formatCharacter(character) {
  */
 export function largeDigitRows(number) {
   const characters = [...number].map(formatCharacter);
-  return Array.from({ length: LARGE_ROWS }, (_, index) => characters.map((rows) => rows[index]).join(""));
+  return Array.from({ length: LARGE_DIGIT_ROWS }, (_, index) => characters.map((rows) => rows[index]).join(""));
 }

@@ -25,8 +25,8 @@ import { visibleLines } from "../machine/listing_range.js";
 export const CHIP_ROWS = 5;
 /** The number of bytes in a new listing before the program counter. */
 const BYTES_BEFORE = 6;
-/** If the program counter is in the last LINES_LEFT lines of the listing, or not in the listing, the panel reads a new listing. */
-const LINES_LEFT = 2;
+/** If the program counter is in the last MIN_LINES_LEFT lines of the listing, or not in the listing, the panel reads a new listing. */
+const MIN_LINES_LEFT = 2;
 
 /** The state of the session that the panel shows. */
 export class PanelSnapshot {
@@ -46,7 +46,7 @@ export class PanelSnapshot {
     this.keysDown = new PressedKeys();
     /** One character for each lamp: `*` if the lamp is on at the time of the snapshot, otherwise `.`. */
     this.marks = "";
-    /** @type {Brightness | null} the perceived brightness of the lamps; null while time is paused, if the board has no lamps, and if the
+    /** @type {Brightness | null} the perceived brightness of the lamps; null while time is paused, if the board has no lamps, or if the
      *   last query asked only for the state */
     this.brightness = null;
     /** @type {string[]} the breakpoint addresses as three hexadecimal digits */
@@ -81,7 +81,7 @@ export class PanelSnapshot {
   }
 
   /**
-   * Returns the RAM chips that fit into a number of screen rows, starting at the chip to which the user has scrolled.
+   * Returns the RAM chips that fit into a number of screen rows. The first of them is the chip to which the user has scrolled.
    * @param {number} rows
    */
   listVisibleChips(rows) {
@@ -131,13 +131,13 @@ export class PanelSnapshot {
   }
 
   /**
-   * Reads a new listing near the program counter. Keeps the current listing if it contains the program counter, and at least LINES_LEFT
-   * lines after it.
+   * Reads a new listing near the program counter. Keeps the current listing if it contains the program counter and at least MIN_LINES_LEFT
+   * lines after that address.
    * @param {number} rows the number of listing lines
    */
   async refreshListing(rows) {
     const { counter } = this;
-    if (this.listing.slice(0, -LINES_LEFT).some(({ address }) => address === counter)) return;
+    if (this.listing.slice(0, -MIN_LINES_LEFT).some(({ address }) => address === counter)) return;
     const from = Math.max(0, counter - BYTES_BEFORE);
     this.listing = visibleLines(await this.reader.read({ from, anchor: counter }, rows), from, rows);
   }

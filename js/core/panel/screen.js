@@ -7,7 +7,7 @@ import { hex, indices } from "../bench/numbers.js";
 import { printoutLines } from "../board/printout_lines.js";
 import { escapeControls } from "../text/control_escapes.js";
 import { expandTabs } from "../text/tab_expansion.js";
-import { LARGE_ROWS, largeDigitRows } from "./large_digits.js";
+import { LARGE_DIGIT_ROWS, largeDigitRows } from "./large_digits.js";
 import { buildLampRows, formatCell } from "./lamp_rows.js";
 import { CHIP_ROWS } from "./panel_snapshot.js";
 import { notInSourceMessage } from "../../words/machine.js";
@@ -26,7 +26,7 @@ import * as say from "../../words/panel.js";
 export const MIN_SIZE = { rows: 24, columns: 80 };
 /** The number of rows above RAM, the front panel and the listing. */
 const TOP_ROWS = 10;
-/** The number of rows above and below the middle part (RAM, front panel and listing). */
+/** The number of rows above the middle part (RAM, front panel and listing) and below it. */
 const FIXED_ROWS = TOP_ROWS + 2;
 /** The widths of RAM and of the front panel, in characters. */
 const RAM_WIDTH = 28;
@@ -38,7 +38,7 @@ const MIN_PRINTOUT_ROWS = 2;
 /** The maximum number of characters that are shown as large digits. */
 const MAX_LARGE_CHARACTERS = 18;
 /** The minimum width of the large digits, in terminal columns. The display text is to the right of them. */
-const LARGE_WIDTH = 58;
+const LARGE_DIGITS_WIDTH = 58;
 
 /** @type {(text: string) => Piece} creates a piece that shows no lamp */
 const makePlainPiece = (text) => ({ text, colour: "", level: 0 });
@@ -97,7 +97,7 @@ export class Screen {
     const { panel } = this;
     const hasMore = panel.snapshot.chips.length > panel.snapshot.listVisibleChips(countMiddleRows(size)).length;
     const [titleRow, ...otherTopRows] = this.buildTopRows();
-    const helpRow = say.keyLine(this.test ? testName(this.test) : say.TEST_PIN, hasMore);
+    const helpRow = say.keyLine(this.test ? formatTestPinName(this.test) : say.TEST_PIN, hasMore);
     const frontRows = this.buildFrontRows(countMiddleRows(size));
     const middleRows = indices(countMiddleRows(size)).map((index) => [
       ...fitToWidth([makePlainPiece(this.formatRam(index))], RAM_WIDTH), makePlainPiece(" "), ...frontRows[index], makePlainPiece(" "),
@@ -125,11 +125,11 @@ export class Screen {
   /** Returns the rows that show the display in large digits; empty rows if the board has no display. */
   buildDisplayRows() {
     const { snapshot } = this.panel;
-    if (!snapshot.hasDisplay) return Array(LARGE_ROWS).fill("");
+    if (!snapshot.hasDisplay) return Array(LARGE_DIGIT_ROWS).fill("");
     const { display } = snapshot;
     const [number] = display.split(" ");
     const [first, ...otherRows] = largeDigitRows(number.slice(0, MAX_LARGE_CHARACTERS));
-    return [`${first.padEnd(LARGE_WIDTH)} ${say.displayLine(escapeControls(display))}`, ...otherRows];
+    return [`${first.padEnd(LARGE_DIGITS_WIDTH)} ${say.displayLine(escapeControls(display))}`, ...otherRows];
   }
 
   /** Returns the three rows with the lamps, the registers, and the register pairs. */
@@ -139,11 +139,11 @@ export class Screen {
     const { accumulator, carry, counter, owed, bank, test, registers, returns } = snapshot.registers;
     const pairs = indices(registers.length / 2).map((index) => `P${index} ${registers[2 * index]}${registers[2 * index + 1]}`).join("  ");
     const returnAddress = parseInt(returns[0], 16);
-    const isNamed = source !== null && returnAddress > 0 && source.map.lineOf(returnAddress) > 0;
+    const hasSourceLine = source !== null && returnAddress > 0 && source.map.lineOf(returnAddress) > 0;
     return [
       say.lampsLine(snapshot.marks || "-"),
       `acc ${accumulator}  cy ${carry}  pc ${counter}  owed ${owed}  dcl ${bank}  test ${test}  ret ${returns.join(" ")}`,
-      `${pairs}  ${isNamed ? say.returnTo(this.findAddressName(returnAddress)) : ""}`,
+      `${pairs}  ${hasSourceLine ? say.returnTo(this.findAddressName(returnAddress)) : ""}`,
     ];
   }
 
@@ -227,7 +227,7 @@ export class Screen {
       return (snapshot.isDown(keys[keyIndex].key) ? `[${label || "_"}]` : ` ${label} `).padEnd(this.keyWidth);
     }).join(""))]);
     if (!test) return rows;
-    const label = escapeControls(say.testKey(testName(test)));
+    const label = escapeControls(say.testKey(formatTestPinName(test)));
     return [...rows, [makePlainPiece(Number(snapshot.test) === test.level ? `[${label}]` : ` ${label} `)]];
   }
 
@@ -240,10 +240,10 @@ export class Screen {
     const { printerCodes, printout, subject: { face } } = this.panel;
     if (!printerCodes || !face.printer) return [];
     const lines = printoutLines(printout, face.printer.words).map(escapeControls);
-    const count = Math.max(MIN_PRINTOUT_ROWS, freeRows);
-    const head = count > MIN_PRINTOUT_ROWS ? [say.PRINTOUT_TITLE] : [];
-    const lastLines = lines.slice(-(count - head.length));
-    return [...head, ...lastLines, ...Array(count - head.length - lastLines.length).fill("")];
+    const rowCount = Math.max(MIN_PRINTOUT_ROWS, freeRows);
+    const titleRows = rowCount > MIN_PRINTOUT_ROWS ? [say.PRINTOUT_TITLE] : [];
+    const lastLines = lines.slice(-(rowCount - titleRows.length));
+    return [...titleRows, ...lastLines, ...Array(rowCount - titleRows.length - lastLines.length).fill("")];
   }
 }
 
@@ -251,7 +251,7 @@ export class Screen {
  * Returns the name of the button or switch at the TEST pin, with blanks instead of underscores.
  * @param {{ name: string }} test
  */
-function testName({ name }) {
+function formatTestPinName({ name }) {
   return name.replace(/_/g, " ");
 }
 

@@ -39,10 +39,10 @@ import * as say from "../../words/panel.js";
  *   isPaused: boolean, note: string }} PanelSubject
  */
 
-/** If the key queue contains this number of presses and releases, the panel ignores typed keys. */
-const MAX_CHANGES = 128;
+/** The number of presses and releases in the key queue at which the panel starts to ignore typed keys. */
+const MAX_QUEUED_CHANGES = 128;
 /** The maximum number of cycles of an instruction. */
-const STEP_CYCLES = 2;
+const MAX_INSTRUCTION_CYCLES = 2;
 
 /** The panel: its state, and the actions of its keys. */
 export class Panel {
@@ -185,7 +185,7 @@ export class Panel {
   async step() {
     this.isPaused = true;
     this.pauseReason = "";
-    if (this.printerCodes) this.printerCodes.readCodes([await this.ask(this.printerCodes.queries(STEP_CYCLES))], this.cycles);
+    if (this.printerCodes) this.printerCodes.readCodes([await this.ask(this.printerCodes.queries(MAX_INSTRUCTION_CYCLES))], this.cycles);
     const run = readRun(await this.sendCommand("step"));
     this.cycles += run ? run.cycles : 0;
     if (run && run.end !== "end") this.pauseReason = REASONS[run.end];
@@ -231,7 +231,7 @@ export class Panel {
     const boardKey = findBoardKey(this.keys, typedCharacter);
     if (!boardKey) this.message = /\p{C}/u.test(typedCharacter) ? say.NOTHING_HERE : say.noKeyMessage(typedCharacter);
     else if (this.isPaused) await this.toggleKey(boardKey.key);
-    else if (this.queue.changes.length < MAX_CHANGES) {
+    else if (this.queue.changes.length < MAX_QUEUED_CHANGES) {
       this.queue.press(boardKey.key);
       this.queue.release(boardKey.key);
     }

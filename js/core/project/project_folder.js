@@ -45,8 +45,8 @@ function findBytesError(bytes) {
  * @returns {ProjectFolder}
  */
 function listSettings({ board, program, tests, properties, speed }) {
-  const paths = (/** @type {{ path: string }[]} */ files) => files.map(({ path }) => path);
-  return { board: board.path, program: program.path, tests: paths(tests), properties: paths(properties), speed };
+  const listPaths = (/** @type {{ path: string }[]} */ files) => files.map(({ path }) => path);
+  return { board: board.path, program: program.path, tests: listPaths(tests), properties: listPaths(properties), speed };
 }
 
 /**

@@ -19,6 +19,7 @@ import * as say from "../../words/session_prompt.js";
  * @typedef {import("../bench/answers.js").Refusal} Refusal
  * @typedef {import("../help/manual.js").ManualSection} ManualSection
  * @typedef {import("./line_completion.js").Completion} Completion
+ *
  * A command that is followed by the lines of a board or program text.
  * @typedef {"wire" | "asm" | "map" | "wiring" | "errors"} TextWord
  *
@@ -31,7 +32,7 @@ import * as say from "../../words/session_prompt.js";
  */
 
 /**
- * The callbacks of the prompt. Completion also uses `files` and `ask`.
+ * The callbacks of the prompt. The completion of lines uses only `files` and `ask`.
  * @typedef {object} SessionPromptCallbacks
  * @property {(input: string) => Promise<string>} serve Sends an input (a line, or the lines of a text) to the bench and prints the answers.
  *   Resolves to the first answer line, or "".
@@ -203,7 +204,7 @@ export class SessionPrompt {
   async findTextErrors(word, text, board, { number, line }) {
     const isTextRefusal = number >= TEXT_ERROR_NUMBERS.first && number <= TEXT_ERROR_NUMBERS.last;
     const errors = isTextRefusal ? await this.callbacks.findErrors(word, text, board) : [];
-    // For a board, the bench reports the line of a table, but the error can be in one of its keys.
+    // For a board, the bench reports the line of the table header, but the error can be in a later line of the table.
     const isLineConfirmed = line === 0 || COMMENT_MARKS[word] === "#" || errors.some((error) => error.line === line);
     return isLineConfirmed && errors.length > 0 ? errors : [{ line, words: this.callbacks.messageOf(number) }];
   }

@@ -15,7 +15,7 @@ const BREAKPOINT_ARGUMENTS = /^(.*?)(?:\s*\bfrom\s+(\d{1,9}))?(?:\s*\bif\s+(.+?)
 /** The word for the number of the breakpoint that was set last, as in gdb. */
 export const LAST_BREAKPOINT = "$bpnum";
 /** Matches the name of a RAM nibble. The bench watches RAM nibbles. The command `continue` watches any other place. */
-const RAM_NIBBLE = /^ram\.[0-7]\.\w+$/i;
+const RAM_NIBBLE_NAME = /^ram\.[0-7]\.\w+$/i;
 
 export class BreakpointCommands {
   /** @param {Prompt} prompt */
@@ -38,7 +38,7 @@ export class BreakpointCommands {
    */
   get handlers() {
     /** @type {(isOn: boolean) => CommandHandler} */
-    const createSwitch = (isOn) => async (argumentText) => {
+    const createOnOffHandler = (isOn) => async (argumentText) => {
       if (argumentText === "") rejectCommand(say.BREAKPOINT_NUMBER_MISSING);
       for (const id of this.parseNumbers(argumentText)) this.list.change(id, { isOn });
       await this.applyBreakpoints();
@@ -48,8 +48,8 @@ export class BreakpointCommands {
         await this.add(argumentText);
       },
       delete: (argumentText) => this.remove(argumentText),
-      disable: createSwitch(false),
-      enable: createSwitch(true),
+      disable: createOnOffHandler(false),
+      enable: createOnOffHandler(true),
       watch: (argumentText) => this.watch(argumentText),
     };
   }
@@ -112,7 +112,7 @@ export class BreakpointCommands {
     await machine.saveAndReport();
   }
 
-  /** Sends the list to the bench, and saves the session. */
+  /** Sends the list of breakpoints to the bench, and saves the session. */
   async applyBreakpoints() {
     await this.prompt.session.applyBreakpoints();
     await this.prompt.machine.saveAndReport();
@@ -147,7 +147,7 @@ export class BreakpointCommands {
   async watch(argumentText) {
     const { prompt, watchedPlace } = this;
     const place = prompt.parsePlace(argumentText, "watch");
-    if (RAM_NIBBLE.test(place)) {
+    if (RAM_NIBBLE_NAME.test(place)) {
       await prompt.serve(`watch ${place.slice("ram.".length).replace(".", " ")}`);
       prompt.callbacks.print(say.placeIsWatchedMessage(place));
       return;
@@ -165,7 +165,7 @@ export class BreakpointCommands {
    */
   async unwatch(argumentText) {
     const place = this.prompt.parsePlace(argumentText, "delete");
-    if (RAM_NIBBLE.test(place)) await this.prompt.serve(`unwatch ${place.slice("ram.".length).replace(".", " ")}`);
+    if (RAM_NIBBLE_NAME.test(place)) await this.prompt.serve(`unwatch ${place.slice("ram.".length).replace(".", " ")}`);
     else if (this.watchedPlace === place) this.watchedPlace = "";
     else rejectCommand(say.notWatchedMessage(place));
   }

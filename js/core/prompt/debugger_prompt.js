@@ -52,7 +52,7 @@ import { stoppedAt } from "../../words/stops.js";
  * The maximum length of a move in a script, in cycles: 18 minutes on a real board. A move runs the machine or goes back in time.
  */
 const MAX_CYCLES = 100000000;
-/** The maximum number of stops at which breakpoint commands run after one line of a script. */
+/** The maximum number of stops whose breakpoint commands run after a single line of a script. */
 const MAX_STOPS = 100000;
 /** Matches a command word and the text after it. */
 const COMMAND = /^([a-zA-Z-]+|\S)(.*)$/;
@@ -153,7 +153,7 @@ export class Prompt {
    */
   output(text, category) {
     if (category === "stderr") this.sourceCommand.printError(text.trimEnd());
-    // This method ignores the message about a move that did nothing, because `makeMove` reports the same message.
+    // Does not print the message about a move that did nothing, because `makeMove` reports this message.
     else if (!text.startsWith(say.NOTHING_DONE)) this.callbacks.print(text.trimEnd());
   }
 
@@ -184,7 +184,7 @@ export class Prompt {
     this.stopActions = NO_STOP_ACTIONS;
     try {
       if (this.stopCommands.unfinishedCommands) this.stopCommands.addLine(line);
-      else if (line !== "" && !line.startsWith("#")) await this.runCommand(line);
+      else if (line !== "" && !line.startsWith("#")) await this.executeCommand(line);
       return true;
     } catch (error) {
       if (!(error instanceof ReportedError)) this.sourceCommand.printError(error instanceof Error ? error.message : String(error));
@@ -205,25 +205,25 @@ export class Prompt {
    * Executes the command in a line; fails if the command is unknown.
    * @param {string} line
    */
-  async runCommand(line) {
+  async executeCommand(line) {
     const [, word, argumentText] = /** @type {string[]} */ (COMMAND.exec(line));
     const { command, message } = findCommand(word);
     await this.handlers[command ? command.name : rejectCommand(message)](argumentText.trim());
   }
 
   /**
-   * Runs the commands of the breakpoint at which the last line stopped. When a command runs the machine, skips the commands after it, and
-   * runs the commands of the next breakpoint. Resolves to false if a command is rejected.
+   * Runs the commands of the breakpoint at which the machine stopped. When a command runs the machine again, skips the remaining commands,
+   * and runs those of the breakpoint at the new stop. Resolves to false if a command is rejected.
    */
   async runCommands() {
-    let stops = 0;
+    let stopCount = 0;
     for (let { commands } = this.stopActions; commands.length > 0 && !this.isInterrupted; { commands } = this.stopActions) {
       for (const line of commands) {
         if (!(await this.executeLine(line))) return false;
         if (this.stopActions.hasMoved || this.isEnded) break;
       }
-      stops += 1;
-      if (!this.stopActions.hasMoved || (!this.callbacks.isInteractive && stops === MAX_STOPS)) break;
+      stopCount += 1;
+      if (!this.stopActions.hasMoved || (!this.callbacks.isInteractive && stopCount === MAX_STOPS)) break;
       await this.yieldToOtherTasks();
     }
     this.stopActions = NO_STOP_ACTIONS;
@@ -239,9 +239,9 @@ export class Prompt {
     await this.machine.move;
     const message = this.lastStop.message.replace(say.PAGE_REMEMBERS, say.SESSION_REMEMBERS);
     if (message.startsWith(say.NOTHING_DONE)) rejectCommand(message);
-    const nextActions = await this.stopCommands.finishStop();
-    this.stopActions = { ...nextActions, hasMoved: true };
-    return nextActions.words ? `${message} ${nextActions.words}` : message;
+    const stopActions = await this.stopCommands.finishStop();
+    this.stopActions = { ...stopActions, hasMoved: true };
+    return stopActions.words ? `${message} ${stopActions.words}` : message;
   }
 
   /**
@@ -301,7 +301,7 @@ export class Prompt {
   // --- completion ---
 
   /**
-   * Resolves to the completions of a line: the candidate words, and the last part of the line, which the chosen word replaces.
+   * Resolves to the completions of a line: the candidate words, and the part at the end of the line that the chosen word replaces.
    * @param {string} line the line up to the cursor
    * @returns {Promise<[string[], string]>}
    */
@@ -313,7 +313,7 @@ export class Prompt {
     const file = FILE_ARGUMENTS[name] ? FILE_ARGUMENTS[name].exec(line) : null;
     if (file) return [this.callbacks.files(file[1]), file[1]];
     const [word] = /** @type {string[]} */ (/[\w@.+~*/-]*$/.exec(line));
-    const candidates = this.listArguments(name);
+    const candidates = this.listNextWords(name);
     return [candidates.filter((candidate) => candidate.toLowerCase().startsWith(word.toLowerCase())), word];
   }
 
@@ -321,7 +321,7 @@ export class Prompt {
    * Returns the words that can follow a command.
    * @param {string} command
    */
-  listArguments(command) {
+  listNextWords(command) {
     if (command === "info") return INFO_WORDS;
     if (command === "save") return ["breakpoints"];
     if (command === "help") return COMMANDS.map(({ name }) => name);

@@ -12,8 +12,8 @@ import * as say from "../../words/prompt.js";
  * @typedef {import("../adapter/expression_values.js").ExpressionContext} ExpressionContext
  */
 
-/** @type {(base: number, mark: string) => (value: number) => string} creates a formatter for a number base; `mark` is the prefix */
-const createFormatter = (base, mark) => (value) => `${value < 0 ? "-" : ""}${mark}${Math.abs(value).toString(base).toUpperCase()}`;
+/** @type {(base: number, prefix: string) => (value: number) => string} creates a formatter for a number base */
+const createFormatter = (base, prefix) => (value) => `${value < 0 ? "-" : ""}${prefix}${Math.abs(value).toString(base).toUpperCase()}`;
 /** @type {Record<string, (value: number, session: DebugSession) => string>} the formatters, by the letter after `print/` */
 const FORMATS = {
   x: createFormatter(16, "0x"),
@@ -47,8 +47,8 @@ function evaluateNumber(text, session) {
 export function formatExpressionValue(text, context) {
   const [, format, expression = ""] = /^\/(\w*)\s*(.*)$/.exec(text) || [];
   if (format === undefined) return evaluateExpression(text, context);
-  const formatNames = Object.keys(FORMATS);
-  const formatter = formatNames.includes(format) ? FORMATS[format] : rejectCommand(say.noFormatMessage(format, formatNames.join(", ")));
+  const knownFormats = Object.keys(FORMATS);
+  const formatter = knownFormats.includes(format) ? FORMATS[format] : rejectCommand(say.noFormatMessage(format, knownFormats.join(", ")));
   if (expression === "") rejectCommand(say.PRINT_SYNTAX);
   if (/^(display|lamps)$/.test(expression.trim())) rejectCommand(say.notANumberMessage(expression));
   return formatter(evaluateNumber(expression, context.session), context.session);

@@ -24,8 +24,8 @@ export const INFO_WORDS = [
   "registers", "ram", "ports", "keys", "breakpoints", "watches", "display", "names", "source", "session", "line", "symbol", "frame",
   "stack", "program", "locals",
 ];
-/** The other names that gdb accepts after `info`, each with the word in INFO_WORDS that has the same meaning. */
-const INFO_ABBREVIATIONS = new Map([
+/** The names that gdb accepts after `info` and that INFO_WORDS lacks, each with the word in INFO_WORDS that has the same meaning. */
+const GDB_INFO_NAMES = new Map([
   ["r", "registers"], ["s", "stack"], ["f", "frame"], ["args", "locals"], ["all-registers", "registers"],
 ]);
 
@@ -147,7 +147,7 @@ export class InspectCommands {
     }
     const address = place === "" ? session.address : parseAddress(place, session);
     if (address === undefined || address > LAST_ADDRESS) return rejectCommand(say.noPlaceOfMemoryMessage(place));
-    return callbacks.print(stateText.formatCode(session, address, shownCount));
+    return callbacks.print(stateText.formatDisassembly(session, address, shownCount));
   }
 
   /**
@@ -179,7 +179,7 @@ export class InspectCommands {
    * The functions that return the text of `info`, by the word after `info`.
    * @returns {Record<string, (argumentText: string) => string>}
    */
-  get infoTexts() {
+  get infoFormatters() {
     const { session, keys, launchResult, breakpointCommands, lastStop } = this.prompt;
     return {
       registers: () => stateText.formatRegisters(session),
@@ -206,14 +206,14 @@ export class InspectCommands {
 
   /**
    * Returns the text of an `info` command; fails if the word is unknown or not unique.
-   * @param {string} argumentText a word of INFO_WORDS, a unique prefix or a name that gdb accepts; `line` and `symbol` take an argument
+   * @param {string} argumentText a word of INFO_WORDS, a unique prefix of one, or its name in gdb; `line` and `symbol` take an argument
    */
   formatInfo(argumentText) {
     const [, word = "", argument = ""] = /^(\S*)\s*(.*)$/.exec(argumentText) || [];
     const matchingKinds = INFO_WORDS.filter((kind) => word !== "" && kind.startsWith(word));
     const [matchingKind] = matchingKinds.length === 1 ? matchingKinds : [""];
-    const kind = INFO_ABBREVIATIONS.get(word) || matchingKind || rejectCommand(say.infoShows(INFO_WORDS.join(", ")));
+    const kind = GDB_INFO_NAMES.get(word) || matchingKind || rejectCommand(say.infoShows(INFO_WORDS.join(", ")));
     if (argument !== "" && !/^(line|symbol)$/.test(kind)) rejectCommand(say.infoTakesNoArgument(kind));
-    return this.infoTexts[kind](argument);
+    return this.infoFormatters[kind](argument);
   }
 }

@@ -6,7 +6,7 @@ import { POKE_PLACE_NAMES, TRACE_PLACE_NAMES } from "../bench/line_forms.js";
 import { indices } from "../bench/numbers.js";
 
 /**
- * The candidate words, and the last part of the line, which the chosen word replaces.
+ * The candidate words, and the part at the end of the line that the chosen word replaces.
  * @typedef {[string[], string]} Completion
  */
 
@@ -37,7 +37,7 @@ const listNumbers = (count) => indices(count).map(String);
 /** @type {(words: string[]) => ArgumentWords} proposes words only for the first argument */
 const proposeFirstArgument = (words) => async (argumentIndex) => (argumentIndex === 0 ? words : []);
 /** @type {ArgumentWords} proposes row numbers for the first argument, and column numbers for the second */
-const completeKeys = async (argumentIndex, ask) => {
+const proposeKeyPosition = async (argumentIndex, ask) => {
   const { rows, columns } = readBoard(await ask("board"));
   return argumentIndex > 1 ? [] : listNumbers(argumentIndex === 0 ? rows : columns);
 };
@@ -51,8 +51,8 @@ const ARGUMENT_COMPLETIONS = {
   poke: proposeFirstArgument(POKE_PLACE_NAMES),
   trace: async (argumentIndex) => (argumentIndex > 0 ? TRACE_PLACE_NAMES : []),
   test: proposeFirstArgument(["0", "1"]),
-  press: completeKeys,
-  release: completeKeys,
+  press: proposeKeyPosition,
+  release: proposeKeyPosition,
   ram: async (argumentIndex, ask) => (argumentIndex > 0 ? [] : readBoard(await ask("board")).banks.map(({ bank }) => String(bank))),
   unbreak: async (argumentIndex, ask) => (argumentIndex > 0 ? [] : readItems((await ask("breaks"))[0]).map((word) => `0x${word}`)),
   unwatch: async (argumentIndex, ask) => (

@@ -96,8 +96,8 @@ export class MoveCommands {
    */
   stepBack(count) {
     const { session, machine } = this.prompt;
-    const act = async () => machine.toRunResult(await stepBackBy(session, count, () => machine.finishPiece()), "goal");
-    return this.moveAndShow(() => machine.beginMove(act, () => false));
+    const goBack = async () => machine.toRunResult(await stepBackBy(session, count, () => machine.finishPiece()), "goal");
+    return this.moveAndShow(() => machine.beginMove(goBack, () => false));
   }
 
   /**

@@ -44,7 +44,7 @@ function readNextOpcode(session) {
 
 /**
  * Steps back over an instruction. If the instruction returns from a subroutine, goes back to the call of this subroutine. To find the call,
- * goes back from change to change of the return addresses, and counts the calls and returns. If the stored past begins inside the
+ * goes back through the changes of the return addresses one by one, and counts the calls and returns. If the stored past begins inside the
  * subroutine, stops there. `goForward` then undoes all these moves.
  * @param {DebugSession} session
  * @param {ShouldContinue} shouldContinue

@@ -44,10 +44,10 @@ export function countSourceLines({ program }) {
 }
 
 /**
- * Returns the text of a range of source lines; fails if the first line is after the end of the source.
+ * Returns the text of a range of source lines; fails if the range starts after the end of the source.
  * @param {DebugSession} session
- * @param {number} firstLine the first line
- * @param {number} lastLine the last line, inclusive
+ * @param {number} firstLine
+ * @param {number} lastLine the last line of the range
  */
 export function formatSourceLines(session, firstLine, lastLine) {
   const last = Math.min(lastLine, countSourceLines(session));
@@ -60,7 +60,7 @@ export function formatSourceLines(session, firstLine, lastLine) {
  * @param {DebugSession} session
  */
 export function formatNextInstruction(session) {
-  return session.line > 0 ? formatSourceLine(session, session.line) : formatCode(session, session.address, 1);
+  return session.line > 0 ? formatSourceLine(session, session.line) : formatDisassembly(session, session.address, 1);
 }
 
 /**
@@ -69,7 +69,7 @@ export function formatNextInstruction(session) {
  * @param {number} address
  * @param {number} count the number of instructions
  */
-export function formatCode(session, address, count) {
+export function formatDisassembly(session, address, count) {
   const rows = listInstructionRows(session, address, 0, count).filter(({ bytes }) => bytes !== "");
   return rows.map((row) => {
     const label = row.name ? `${row.name}: ` : "";
@@ -203,6 +203,6 @@ export function formatNibbles(session, text, count) {
   const values = indices(Math.min(count, 256 - first)).map((offset) => state.character(Number(bank), first + offset));
   const missingIndex = values.findIndex((value) => value === "");
   if (missingIndex === 0) rejectCommand(say.noRamAtMessage(text));
-  const presentValues = missingIndex < 0 ? values : values.slice(0, missingIndex);
-  return `ram.${bank}.0x${hex(first, 2)}  ${presentValues.join("")}`;
+  const availableValues = missingIndex < 0 ? values : values.slice(0, missingIndex);
+  return `ram.${bank}.0x${hex(first, 2)}  ${availableValues.join("")}`;
 }

@@ -146,8 +146,8 @@ export class StopCommands {
   }
 
   /**
-   * Resolves to the commands of the breakpoint that ended the last move, whether these hide the stop message, and an additional message.
-   * Deletes a temporary breakpoint.
+   * Handles the stop at the end of a move. Resolves to the commands of the breakpoint that caused the stop, whether these commands hide the
+   * stop message, and an additional message. Deletes a temporary breakpoint.
    * @returns {Promise<{ commands: string[], isSilent: boolean, words: string }>}
    */
   async finishStop() {

@@ -2,13 +2,14 @@
 // the lamps, and the expressions of `display`. js/node/terminal_view.mjs writes the lines to the terminal.
 //
 //     const view = new View(prompt);
-//     view.lines(viewSize(24, 80), { head, nextInstruction, changedValue });      viewSize returns null if the terminal is too small
+//     const size = chooseViewSize(24, 80);                       null if the terminal is too small
+//     view.buildLines(size, { head, nextInstruction, changedValue });
 
 import { indices } from "../bench/numbers.js";
 import { MachineState } from "../debug/machine_state.js";
 import { escapeControls } from "../text/control_escapes.js";
 import { formatCycles } from "../time/cycles.js";
-import { formatCode, countSourceLines, listPressedKeys, formatSourceLine } from "./state_text.js";
+import { formatDisassembly, countSourceLines, listPressedKeys, formatSourceLine } from "./state_text.js";
 import * as say from "../../words/prompt.js";
 
 /**
@@ -40,7 +41,7 @@ const MAX_DISPLAYS = 4;
  * @param {number} columns
  * @returns {ViewSize | null}
  */
-export function viewSize(rows, columns) {
+export function chooseViewSize(rows, columns) {
   if (!(rows >= MIN_ROWS && columns >= MIN_COLUMNS)) return null;
   const wantedRows = Math.round(rows * 0.6);
   // Text in the last column could make the terminal start a new line.
@@ -74,7 +75,7 @@ export class View {
    * @param {ViewSize} size
    * @param {Highlights} highlights
    */
-  lines({ rows, columns }, { head, nextInstruction, changedValue }) {
+  buildLines({ rows, columns }, { head, nextInstruction, changedValue }) {
     this.readRegisters();
     const isWide = columns >= WIDE_COLUMNS;
     const registerLines = isWide ? this.formatRegistersBeside(changedValue) : this.formatRegistersBelow(columns, changedValue);
@@ -86,7 +87,7 @@ export class View {
       const shownText = line.startsWith(">") ? nextInstruction(text) : text;
       return isWide && registerLines[index] ? `${shownText}${" ".repeat(width - text.length)}  ${registerLines[index]}` : shownText;
     });
-    return [head(this.formatHeadLine(columns)), ...bodyLines, ...linesBelow, "-".repeat(columns)].slice(0, rows);
+    return [head(this.formatHeaderLine(columns)), ...bodyLines, ...linesBelow, "-".repeat(columns)].slice(0, rows);
   }
 
   /** Reads the registers. If the cycle count has changed since the last call, first stores their last values as `previousValues`. */
@@ -106,7 +107,7 @@ export class View {
    * Returns the first line: the program name, the program counter and the simulated time.
    * @param {number} columns
    */
-  formatHeadLine(columns) {
+  formatHeaderLine(columns) {
     const { session, launchResult } = this.prompt;
     const name = launchResult.program.split("/").pop() || "ROM";
     return cutText(`${name}  ${session.counterText}  ${formatCycles(session.debugger.session.count.total)}`, columns).padEnd(columns);
@@ -118,7 +119,7 @@ export class View {
    */
   listSourceLines(height) {
     const { session } = this.prompt;
-    if (session.line === 0) return formatCode(session, session.address, height).split("\n");
+    if (session.line === 0) return formatDisassembly(session, session.address, height).split("\n");
     const count = countSourceLines(session);
     const first = Math.max(1, Math.min(session.line - Math.floor(height / 2), count - height + 1));
     return indices(height).map((index) => (first + index <= count ? formatSourceLine(session, first + index) : "~"));
@@ -160,9 +161,9 @@ export class View {
   formatRegistersBelow(columns, highlight) {
     const formatValues = (/** @type {string[]} */ names) => names.map((name) => this.formatValue(name, highlight)).join(" ");
     const pairs = indices(8).map((index) => `P${index}`);
-    const line = ["acc", "cy", "test", "dcl", "SRC"];
-    if (columns >= 60) return [formatValues(line), formatValues(pairs)];
-    return [formatValues(line), formatValues(pairs.slice(0, 4)), formatValues(pairs.slice(4))];
+    const singleNames = ["acc", "cy", "test", "dcl", "SRC"];
+    if (columns >= 60) return [formatValues(singleNames), formatValues(pairs)];
+    return [formatValues(singleNames), formatValues(pairs.slice(0, 4)), formatValues(pairs.slice(4))];
   }
 
   /**

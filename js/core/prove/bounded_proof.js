@@ -7,9 +7,9 @@
 
 import { parseSearchTexts } from "../explore/sliced_search.js";
 import { formatNumber } from "../explore/report.js";
-import { isConfirmed } from "../testing/confirmation.js";
+import { confirmsCounterexample } from "../testing/confirmation.js";
 import { PropertyJudge } from "./property_judge.js";
-import { MAX_SETS, listBounds, questionText, readAnswer } from "./question.js";
+import { MAX_SETS, listBounds, formatQuestion, readAnswer } from "./question.js";
 import * as say from "../../words/prove.js";
 
 /**
@@ -83,7 +83,7 @@ class ProverQueries {
    * @param {import("./question.js").QuestionLimits} limits
    */
   askWithin(question, limits) {
-    const line = this.engine.prove(questionText(this.texts, question, limits));
+    const line = this.engine.prove(formatQuestion(this.texts, question, limits));
     const answer = readAnswer(line);
     if (!answer) throw new Error(say.proverEnded(line));
     return answer;
@@ -101,8 +101,8 @@ class ProverQueries {
 }
 
 /**
- * Parses the texts. Returns the object that decides the properties one after the other; null if a text has an error, in which case the
- * errors are in `errors`.
+ * Parses the texts. Returns the object that decides the properties one after the other. If a text has an error, returns null instead, with
+ * the errors in `errors`.
  * @param {Engine} engine
  * @param {ExploredTexts} texts
  * @param {number} maxStates the maximum number of states per question
@@ -116,7 +116,7 @@ export function beginProving(engine, texts, maxStates, calls) {
   const judge = new PropertyJudge(parsedTexts.subject, parsedTexts.campaign, {
     ask: (question) => queries.ask(question),
     askBySets: (question) => queries.askBySets(question),
-    confirm: async ({ isTest, text }, isGoal) => !isTest || isConfirmed(engine, texts, text, isGoal, calls.yieldToMessages),
+    confirm: async ({ isTest, text }, isGoal) => !isTest || confirmsCounterexample(engine, texts, text, isGoal, calls.yieldToMessages),
     explainNoAnswer: (answer) => queries.explainNoAnswer(answer),
     yieldToMessages: calls.yieldToMessages,
   });
@@ -124,7 +124,7 @@ export function beginProving(engine, texts, maxStates, calls) {
 }
 
 /**
- * Returns a property and its verdict in the form in which they are sent to the page.
+ * Returns a property and its verdict as they are sent to the page.
  * @param {JudgedProperty} judged
  * @returns {PropertyVerdict}
  */

@@ -23,7 +23,7 @@ import { ADDRESS_COUNT, PAGE_BYTES } from "../bench/rom_bytes.js";
 
 /** The index of each cell of the processor's state in the prover's `counter` list. */
 export const COUNTER_CELLS = { acc: 0, cy: 1, dcl: 2, owed: 3, page: 4, word: 5, src: 12 };
-const NIBBLES = 16;
+const NIBBLE_VALUE_COUNT = 16;
 
 /** @type {(list: string, index: number, low: number, high: number, part?: string) => Comparison} returns the line that compares a cell with
  *    a range; `part` is `whole` or the bit, such as `line0` */
@@ -66,7 +66,7 @@ function createBitField(name, list, index, part = "whole") {
 function createCounterField() {
   return {
     name: "pc", count: ADDRESS_COUNT, texts: (number) => [hex(number, 3)],
-    between: (low, high) => indices(NIBBLES).flatMap((page) => {
+    between: (low, high) => indices(NIBBLE_VALUE_COUNT).flatMap((page) => {
       const [first, last] = [Math.max(low, page * PAGE_BYTES), Math.min(high, page * PAGE_BYTES + PAGE_BYTES - 1)];
       if (first > last) return [];
       const { page: pageCell, word: wordCell } = COUNTER_CELLS;
@@ -84,9 +84,9 @@ function createCounterField() {
  */
 function createRomField(name, { chip, port }) {
   const inputMask = [...port].reduce((sum, mark, at) => sum + (mark === "i" ? 2 ** (3 - at) : 0), 0);
-  const possibleLevels = indices(NIBBLES).filter((levels) => (levels & ~inputMask) === 0);
+  const possibleLevels = indices(NIBBLE_VALUE_COUNT).filter((levels) => (levels & ~inputMask) === 0);
   return {
-    name, count: NIBBLES,
+    name, count: NIBBLE_VALUE_COUNT,
     texts: (number) => ((number & inputMask) === 0 ? possibleLevels.map((levels) => hex(number | levels, 1)) : []),
     between: (low, high) => [[formatComparison("romport", Number(chip), low, high)]],
   };
@@ -99,9 +99,9 @@ function createRomField(name, { chip, port }) {
  */
 function findRegisterField(place) {
   const [, register] = /^r(\d+)$/.exec(place) || [];
-  if (register) return createCellField(place, "register", Number(register), NIBBLES);
+  if (register) return createCellField(place, "register", Number(register), NIBBLE_VALUE_COUNT);
   switch (place) {
-    case "acc": return createCellField(place, "counter", COUNTER_CELLS.acc, NIBBLES);
+    case "acc": return createCellField(place, "counter", COUNTER_CELLS.acc, NIBBLE_VALUE_COUNT);
     case "cy": return createCellField(place, "counter", COUNTER_CELLS.cy, 2);
     case "dcl": return createCellField(place, "counter", COUNTER_CELLS.dcl, 8);
     case "src": return createCellField(place, "counter", COUNTER_CELLS.src, PAGE_BYTES, 2);
@@ -117,9 +117,11 @@ function findRegisterField(place) {
  */
 function findMemoryField(place) {
   const [, bank, byte] = /^ram\.(\d)\.0x(\w\w)$/.exec(place) || [];
-  if (bank) return createCellField(place, "character", Number(bank) * PAGE_BYTES + parseInt(byte, 16), NIBBLES);
+  if (bank) return createCellField(place, "character", Number(bank) * PAGE_BYTES + parseInt(byte, 16), NIBBLE_VALUE_COUNT);
   const [, statusBank, high, status] = /^st\.(\d)\.(\d+)\.(\d)$/.exec(place) || [];
-  return statusBank ? createCellField(place, "status", (Number(statusBank) * NIBBLES + Number(high)) * 4 + Number(status), NIBBLES) : null;
+  if (!statusBank) return null;
+  const index = (Number(statusBank) * NIBBLE_VALUE_COUNT + Number(high)) * 4 + Number(status);
+  return createCellField(place, "status", index, NIBBLE_VALUE_COUNT);
 }
 
 /**
@@ -155,7 +157,7 @@ export function findField(place, board) {
   const rom = chip && board.roms.find((candidate) => Number(candidate.chip) === Number(chip));
   if (rom) return createRomField(place, rom);
   const [, bank, ram] = /^ram(\d)\.(\d)$/.exec(place) || [];
-  return bank ? createCellField(place, "ramport", Number(bank) * 4 + Number(ram), NIBBLES) : null;
+  return bank ? createCellField(place, "ramport", Number(bank) * 4 + Number(ram), NIBBLE_VALUE_COUNT) : null;
 }
 
 /** The field that is 1 if the second cycle of an instruction is pending. */

@@ -1,5 +1,5 @@
-// Chooses the moments at which inputs change, so that a program reads given levels. Changes are not too close to each other, and presses
-// are not too long.
+// Chooses the moments at which inputs change, so that a program reads given levels. Keeps a minimum time between changes and a maximum
+// length of presses.
 
 /**
  * @typedef {import("../explore/search_inputs.js").Input} Input
@@ -9,12 +9,12 @@
  * and `last` are the first and the last moment at which they can change. A moment is a number of cycles since power-on.
  * @typedef {{ released: number[], pressed: number[], first: number, last: number }} Change
  *
- * A press that ends: the index of the change at which a key goes down, -1 if it is down at power-on, and the change at which it goes up.
+ * A completed press: the index of the change at which a key goes down (-1 if it is down at power-on), and of the one at which it goes up.
  * @typedef {{ start: number, end: number }} Press
  */
 
 /**
- * Returns all presses that end.
+ * Returns all completed presses: those with a release in `changes`.
  * @param {Change[]} changes
  * @param {Input[]} inputs
  * @returns {Press[]}
@@ -30,13 +30,13 @@ function listPresses(changes, inputs) {
 }
 
 /**
- * Returns the moments of changes, at least `minWait` cycles apart, so that no press that ends is longer than `maxPressTime`. Returns the
+ * Returns moments for the changes, at least `minWait` cycles apart, so that no completed press is longer than `maxPressTime`. Returns the
  * latest such moments, or null if there are none.
  *
- * Each limit says that one moment is at most another one plus a constant. So the method of Bellman and Ford decides whether there are such
- * moments. It begins with the last moment of each change, and repeatedly lowers the moments that exceed a limit. Each moment stays at or
- * above the same moment in all solutions, so the result is the latest solution. It also makes the presses that do not end as short as
- * possible. If there is a solution, no moment needs to be lowered after as many passes as there are changes.
+ * Each limit says that one moment is at most another one plus a constant. The algorithm of Bellman and Ford therefore decides whether there
+ * are such moments. It begins with the latest permitted moment of each change, and repeatedly lowers the moments that exceed a limit. No
+ * moment becomes lower than in any solution, so the result is the latest solution. The presses that are not completed are therefore as
+ * short as possible. If there is a solution, the algorithm needs at most as many passes as there are changes.
  * @param {Change[]} changes in the order in which they happen
  * @param {Input[]} inputs
  * @param {number} minWait
@@ -65,9 +65,9 @@ export function findLatestMoments(changes, inputs, minWait, maxPressTime) {
 export function createSteps(changes, moments) {
   let time = 0;
   return changes.flatMap(({ released, pressed }, at) => {
-    const moves = [...released.map((input) => ({ kind: /** @type {const} */ ("up"), input })),
+    const inputChanges = [...released.map((input) => ({ kind: /** @type {const} */ ("up"), input })),
       ...pressed.map((input) => ({ kind: /** @type {const} */ ("down"), input }))];
-    return moves.map((move) => {
+    return inputChanges.map((move) => {
       const wait = moments[at] - time;
       time = moments[at];
       return { wait, ...move };

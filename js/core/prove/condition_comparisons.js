@@ -84,8 +84,8 @@ class Evaluation {
   }
 
   /**
-   * Returns an object that behaves like a string with one character for each output line, such as the value of `lamps`. The object reads a
-   * line only when the character of the line is used.
+   * Returns an object that behaves like a string with one character for each output line, such as the value of `lamps`. It reads an output
+   * line only when the character of this line is used.
    * @param {string[]} lines the names of the output lines
    * @param {[string, string]} marks the characters for 0 and 1
    */

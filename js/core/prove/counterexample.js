@@ -21,15 +21,15 @@ import { listInputs, replayReads } from "./input_replay.js";
  *
  * A counterexample. `steps`: the number of changes of inputs. `cycles`: the time of the violation. `isAllowed`: true if the properties text
  * allows these changes. `text`: a test, or bench lines if a pressed key has no name (`isTest` is then false). `linesBefore`: the bench
- * lines up to the instruction that violates the property.
+ * lines that lead to the instruction that violates the property.
  * @typedef {{ steps: number, cycles: number, isAllowed: boolean, isTest: boolean, text: string, linesBefore: string }} Counterexample
  */
 
 /** The maximum number of cycles that the bench may run to minimise a counterexample. */
-const MINIMISING_CYCLES = 10e6;
+const MAX_CYCLES_TO_MINIMISE = 10e6;
 /**
- * A counterexample to a property with labels is minimised only if it takes at most this number of cycles. Minimising a longer
- * counterexample would be slow.
+ * A counterexample to a property with labels is minimised only if its length is at most this number of cycles, because minimising a longer
+ * one would take too long.
  */
 const MAX_MINIMISED_CYCLES = 1e6;
 /** The property forms that depend on all events since power-on. A violation is found only if the walk is watched from its start. */
@@ -50,9 +50,9 @@ function createFreeCampaign(campaign, property, inputs) {
 }
 
 /**
- * Separates changes of inputs: returns steps in which two changes are at least `minWait` cycles apart. At least one cycle comes before the
- * first change, as runs on the bench require. To do so, moves changes to earlier cycles. Returns null if there are not enough cycles
- * before them.
+ * Separates input changes: returns steps in which successive changes are at least `minWait` cycles apart. At least one cycle comes before
+ * the first change, because a run takes at least one cycle. To separate changes, moves them to earlier cycles. Returns null if there are
+ * not enough earlier cycles.
  * @param {WalkStep[]} steps
  * @param {number} minWait
  */
@@ -144,7 +144,7 @@ class Replay {
     this.needsFullWalk = FORMS_WITH_MEMORY.has(form) || guards.length > 0;
     /** The minimum number of cycles between two changes; 0 if inputs can change in the same cycle. */
     this.shortestAllowedWait = campaign.hasWait && campaign.minWait > 1 ? campaign.minWait : 0;
-    /** The maximum length of a press in cycles. A longer one is not allowed, or does not break the property. */
+    /** The maximum length of a press in cycles. A longer press is forbidden by the properties text, or would not violate the property. */
     this.maxPressTime = Math.min(campaign.maxHoldTime, form === "no press" ? limit - 1 : Infinity);
   }
 
@@ -183,7 +183,7 @@ class Replay {
    */
   findViolationOnWalk(steps, endTime) {
     const remainingCycles = steps.reduce((remaining, { wait }) => remaining - wait, endTime);
-    // In one more cycle, the instruction at the label of the property starts.
+    // The additional cycle starts the instruction at the label of the property.
     const walkSteps = [...steps.flatMap(splitLongWait), ...createWaits(remainingCycles + 1)];
     const time = this.findViolationTime(this.subject.file, walkSteps);
     return time < 0 ? null : { property: 0, steps: listStepsBefore(steps, time), time };
@@ -191,7 +191,7 @@ class Replay {
 
   /**
    * Returns the time of the first violation in a walk, in cycles from its start; -1 if there is none. Watches the walk step by step,
-   * because a long walk needs too many bench lines.
+   * because the bench lines of a long walk would not fit into one call.
    * @param {Uint8Array} startFile the session file at the start
    * @param {WalkStep[]} steps
    */
@@ -212,8 +212,8 @@ class Replay {
   }
 
   /**
-   * Minimises a violation if this is possible. If the properties text allows the violation, or allows it with its changes further apart, it
-   * must also allow the minimised one. Resolves to the minimised or to the original violation.
+   * Minimises a violation if possible. Resolves to the minimised violation, or else to the original one. If the properties text allows the
+   * original input changes, or would allow them with longer waits between them, it also allows the minimised ones.
    * @param {Violation} violation
    * @param {() => Promise<void>} yieldToMessages
    */
@@ -225,24 +225,25 @@ class Replay {
     const allowedSteps = separateChanges(violation.steps, minWait);
     if (allowedSteps && this.isAllowed({ ...violation, steps: allowedSteps })) {
       const campaign = { ...freeCampaign, maxKeysDown, maxHoldTime, minReleaseTime, minWait };
-      const minimised = await this.minimiseIn(campaign, { ...violation, steps: allowedSteps }, yieldToMessages);
+      const minimised = await this.minimiseWithin(campaign, { ...violation, steps: allowedSteps }, yieldToMessages);
       if (minimised && this.isAllowed(minimised)) return minimised;
     }
     if (this.isAllowed(violation)) return violation;
     const steps = separateChanges(violation.steps, freeCampaign.minWait);
-    return steps && await this.minimiseIn(freeCampaign, { ...violation, steps }, yieldToMessages) || violation;
+    return steps && await this.minimiseWithin(freeCampaign, { ...violation, steps }, yieldToMessages) || violation;
   }
 
   /**
-   * Resolves to the minimised violation that a campaign allows; null if its steps do not violate the property.
+   * Minimises a violation within the limits of a campaign. Resolves to the minimised violation; null if the steps of the original violation
+   * do not violate the property.
    * @param {Campaign} campaign
    * @param {Violation} violation
    * @param {() => Promise<void>} yieldToMessages
    */
-  minimiseIn(campaign, violation, yieldToMessages) {
+  minimiseWithin(campaign, violation, yieldToMessages) {
     const { subject } = this;
     const start = this.createStart(subject.file);
-    return new Minimiser(subject, campaign, start, violation, MINIMISING_CYCLES, yieldToMessages).minimise();
+    return new Minimiser(subject, campaign, start, violation, MAX_CYCLES_TO_MINIMISE, yieldToMessages).minimise();
   }
 
   /**
@@ -251,9 +252,9 @@ class Replay {
    */
   isAllowed({ steps, time }) {
     const { allowedCampaign, freeCampaign, shortestAllowedWait } = this;
-    const inputIndexes = freeCampaign.inputs.map(({ downLine }) => (
+    const inputIndices = freeCampaign.inputs.map(({ downLine }) => (
       allowedCampaign.inputs.findIndex((input) => input.downLine === downLine)));
-    const allowedSteps = steps.map((step) => ({ ...step, input: step.kind === "none" ? -1 : inputIndexes[step.input] }));
+    const allowedSteps = steps.map((step) => ({ ...step, input: step.kind === "none" ? -1 : inputIndices[step.input] }));
     const remainingCycles = allowedSteps.reduce((remaining, { wait }) => remaining - wait, time);
     const isChecked = time > allowedCampaign.checkStart || allowedCampaign.checkStart === 0;
     return isChecked && allowedSteps.every(({ kind, input }) => kind === "none" || input >= 0)
@@ -277,7 +278,7 @@ class Replay {
   }
 
   /**
-   * Returns the bench lines up to the instruction that violates the property. If an input changes between the two cycles of this
+   * Returns the bench lines that lead to the instruction that violates the property. If an input changes between the two cycles of this
    * instruction, the lines end before its second cycle.
    * @param {Violation} violation
    */
@@ -293,8 +294,7 @@ class Replay {
 }
 
 /**
- * Resolves to the minimised counterexample that results if the program reads these inputs; null if the bench does not confirm the
- * violation.
+ * Resolves to the minimised counterexample in which the program reads given inputs; null if the bench does not confirm the violation.
  * @param {Subject} subject
  * @param {Campaign} campaign
  * @param {number} property the index of the property in the campaign

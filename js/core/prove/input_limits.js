@@ -2,8 +2,8 @@
 // or 1. A proof with limits is only for the inputs that the lines `press`, `test`, `together`, `wait` and `held` of a properties text
 // allow. The limits never exclude an input that the text allows.
 //
-// The prover considers only inputs that continue within the limits for ever, so each press must end in time. A run that a text allows can
-// break a property during a press. The limits must therefore leave enough time to release the key after that.
+// The prover considers only inputs that can stay within the limits for ever. Each press must therefore end in time, even if the property is
+// violated during the press. The limits must leave enough time for the release.
 
 import { indices } from "../bench/numbers.js";
 import { keyLine, matrixKey } from "../board/key_place.js";
@@ -24,7 +24,7 @@ import * as say from "../../words/prove.js";
  *   InputLimits
  */
 
-/** The maximum number of combinations of input levels with which the prover can count the cycles between two changes. */
+/** The maximum number of combinations of input levels for a question that sets a minimum time between two changes. */
 const MAX_COMBINATIONS = 255;
 /** The highest limit on the time for which a key stays down, in cycles. */
 const MAX_PRESS_TIME = 100000;
@@ -37,8 +37,8 @@ const listMatrixKeys = ({ rows, columns }) => (
   indices(rows).flatMap((row) => indices(columns).map((column) => matrixKey(row, column))));
 
 /**
- * Returns those keys of the matrix that a campaign may press. A front panel can also name keys that the board lacks; the bench does not
- * press them.
+ * Returns the keys of the matrix that a campaign may press. Omits keys that the front panel names but the board lacks, because the bench
+ * cannot press them.
  * @param {Campaign} campaign
  * @param {Board} board
  */
@@ -47,11 +47,11 @@ function listPressableKeys({ inputs }, { rows, columns }) {
 }
 
 /**
- * Returns the maximum number of lines of one port that keys can pull at the same time.
+ * Returns the maximum number of lines that keys can pull at the same time at a single port.
  * @param {MatrixKey[]} keys
  * @param {Board} board
  */
-function countLinesAtOnePort(keys, { matrix }) {
+function findMaxLinesAtOnePort(keys, { matrix }) {
   const lines = new Set(keys.map(({ column }) => (matrix ? matrix.columns[column] : "")));
   const ports = [...lines].map((line) => line.split(".")[0]);
   return Math.max(0, ...ports.map((port) => ports.filter((other) => other === port).length));
@@ -72,22 +72,23 @@ function countCombinations(keyCount, maxKeysDown) {
 }
 
 /**
- * Returns the keys that can be pressed in a proof: without `press` and `test`, all keys, named or not.
+ * Returns the keys that can be pressed in a proof. If the properties text has neither `press` nor `test` lines, these are all keys of the
+ * matrix, named or not.
  * @param {Campaign} campaign
  * @param {Board} board
  */
 const listProofKeys = (campaign, board) => (campaign.inputWords.length > 0 ? listPressableKeys(campaign, board) : listMatrixKeys(board));
 
 /**
- * Returns whether only one key is down at a time in a text, and TEST does not change.
+ * Returns whether the properties text lets at most one key be down at a time, and does not let TEST change.
  * @param {Campaign} campaign
  */
 const pressesSingleKeys = ({ inputs, maxKeysDown }) => Math.min(maxKeysDown, inputs.length) <= 1 && inputs.every(({ isKey }) => isKey);
 
 /**
- * Returns why a proof cannot use the line `wait` of a text, as text; "" if a proof can use it. A line `held` makes a search release keys
- * earlier than the line `wait` allows. This cannot happen if each change presses or releases the only key, and a press can last for the
- * shortest wait.
+ * Returns why a proof cannot use the line `wait` of the properties text, as text; "" if a proof can use it. Because of a line `held`, a key
+ * might have to be released before the shortest wait is over. This cannot happen if only one key is down at a time, and if a press can last
+ * for the shortest wait.
  * @param {Campaign} campaign
  * @param {Board} board
  */
@@ -100,9 +101,9 @@ function explainMissingWait(campaign, board) {
 }
 
 /**
- * Returns the limits that a properties text sets on the inputs, for successive attempts of a proof. First come the limits of `press`,
- * `test` and `together`, then these with the limit of `wait`, and then with that of `held`. Omits limits that a proof cannot use. Without a
- * limit of `wait`, a limit on the number of keys that are down matters only if one read can see more keys.
+ * Returns the limits that a properties text sets on the inputs: one element for each successive attempt of a proof. The first attempt uses
+ * the lines `press`, `test` and `together`, the second also uses `wait`, and the third also uses `held`. Omits attempts whose limits a
+ * proof cannot use. In an attempt without `wait`, the limit of `together` matters only if more keys can be visible in one read.
  * @param {Campaign} campaign
  * @param {Board} board
  * @returns {InputLimits[]}
@@ -113,7 +114,7 @@ export function listInputLimits(campaign, board) {
   if (from) return [];
   const proofKeys = listProofKeys(campaign, board);
   const limitsKeys = proofKeys.length < listMatrixKeys(board).length;
-  const limitsCount = maxKeysDown < countLinesAtOnePort(proofKeys, board);
+  const limitsKeyCount = maxKeysDown < findMaxLinesAtOnePort(proofKeys, board);
   const limitsWait = explainMissingWait(campaign, board) === "";
   const createLimits = (/** @type {boolean} */ usesCount, /** @type {boolean} */ usesWait, /** @type {boolean} */ usesHeld) => ({
     keys: limitsKeys ? proofKeys : null,
@@ -123,19 +124,19 @@ export function listInputLimits(campaign, board) {
     words: [...(limitsKeys ? inputWords : []), ...(usesCount ? [say.togetherLine(maxKeysDown)] : []), ...(usesWait ? [say.WAIT_WORD] : []),
       ...(usesHeld ? [say.HELD_WORD] : [])],
   });
-  const countsWithWait = maxKeysDown < proofKeys.length;
+  const limitsKeyCountWithWait = maxKeysDown < proofKeys.length;
   return [
-    ...(limitsKeys || limitsCount ? [createLimits(limitsCount, false, false)] : []),
-    ...(limitsWait ? [createLimits(countsWithWait, true, false)] : []),
-    ...(limitsWait && proofKeys.length > 0 && maxHoldTime <= MAX_PRESS_TIME ? [createLimits(countsWithWait, true, true)] : []),
+    ...(limitsKeys || limitsKeyCount ? [createLimits(limitsKeyCount, false, false)] : []),
+    ...(limitsWait ? [createLimits(limitsKeyCountWithWait, true, false)] : []),
+    ...(limitsWait && proofKeys.length > 0 && maxHoldTime <= MAX_PRESS_TIME ? [createLimits(limitsKeyCountWithWait, true, true)] : []),
   ];
 }
 
 /**
- * Returns the maximum number of cycles for which a key stays down in a proof of a `no press` property. It allows each run of the text as
- * long as all presses are below the time of the property, and then the release of all keys. This release is at least the shortest wait
- * after the last change. If only one key is down at a time, the last change is its press. Otherwise, the last change can be as late as the
- * cycle before the instant at which the property is broken.
+ * Returns the maximum number of cycles for which a key can stay down in a proof of a `no press` property. This maximum must permit every
+ * run in which all presses are shorter than the time of the property, and the release of all keys after such a run. The release is at least
+ * the shortest wait after the last change. If only one key is down at a time, the last change is its press. Otherwise, the last change can
+ * be as late as the cycle before the violation.
  * @param {Property} property
  * @param {Campaign} campaign
  */
@@ -145,11 +146,11 @@ function findMaxPressTime({ limit }, campaign) {
 }
 
 /**
- * Returns the limits for successive attempts to prove a property. For a `no press` property, the last attempt also limits the time for
- * which a key stays down, unless the attempt before it does so better.
+ * Returns the limits for successive attempts to prove a property. For a `no press` property, adds an attempt with a limit on the time for
+ * which a key stays down, unless the last attempt already has such a limit that is at least as strict.
  * @param {Property} property
  * @param {Campaign} campaign
- * @param {InputLimits[]} inputLimits the limits that the text sets
+ * @param {InputLimits[]} inputLimits the limits that the properties text sets
  * @param {Board} board
  * @returns {InputLimits[]}
  */
@@ -157,9 +158,9 @@ export function listPropertyLimits(property, campaign, inputLimits, board) {
   if (property.form !== "no press" || campaign.from || explainMissingPressLimit(property, campaign, board) !== "") return inputLimits;
   const lastLimits = inputLimits[inputLimits.length - 1];
   const maxPressTime = findMaxPressTime(property, campaign);
-  const isLimitedBetter = lastLimits.maxPressTime !== null && lastLimits.maxPressTime <= maxPressTime;
+  const hasStricterLimit = lastLimits.maxPressTime !== null && lastLimits.maxPressTime <= maxPressTime;
   const words = lastLimits.words.filter((word) => word !== say.HELD_WORD);
-  return isLimitedBetter ? inputLimits : [...inputLimits, { ...lastLimits, maxPressTime, words }];
+  return hasStricterLimit ? inputLimits : [...inputLimits, { ...lastLimits, maxPressTime, words }];
 }
 
 /**
@@ -176,16 +177,16 @@ export function explainMissingPressLimit(property, campaign, board) {
 }
 
 /**
- * Returns the lines of a question that set limits on the inputs; none if `limits` is null. TEST can always change: a proof could only keep
- * it at 0, but without a `test` line, it stays at 1, its level at power-on.
+ * Returns the lines of a question that set limits on the inputs; none if `limits` is null. TEST can always change, even if the properties
+ * text has no `test` line and so keeps TEST at 1, its level at power-on. A question could only keep it at 0.
  * @param {InputLimits | null} limits
  */
 export function formatInputLimits(limits) {
   if (!limits) return [];
   const { keys, maxKeysDown, minWait, maxPressTime } = limits;
-  const countLines = maxKeysDown === null ? [] : [["together", maxKeysDown].join(" ")];
+  const togetherLines = maxKeysDown === null ? [] : [["together", maxKeysDown].join(" ")];
   const waitLines = minWait > 1 ? [["wait", minWait].join(" ")] : [];
   const heldLines = maxPressTime === null ? [] : [["held", maxPressTime].join(" ")];
   const keyLines = keys ? ["only", ...keys.map((key) => keyLine("press", key)), "test"] : [];
-  return [...countLines, ...waitLines, ...heldLines, ...keyLines];
+  return [...togetherLines, ...waitLines, ...heldLines, ...keyLines];
 }

@@ -1,6 +1,6 @@
 // Converts the inputs in a counterexample of the prover to steps that press keys, release keys or set TEST. To do so, this module runs the
-// program on the bench. Before each instruction that reads an input, it sets the keys or TEST so that the program reads the next value, or
-// so that they have the next levels. If there are levels, it then chooses the moments of all changes.
+// program on the bench. Before each instruction that reads inputs, it sets the keys or TEST. A counterexample contains either the values
+// that the program reads, or the levels of all inputs at each read. For levels, this module finally chooses the moments of all changes.
 
 import { readCounter, readRun } from "../bench/answers.js";
 import { indices } from "../bench/numbers.js";
@@ -118,8 +118,8 @@ class InputReplay {
    * @param {number} level
    */
   setTest(level) {
-    const pin = this.inputs.length - 1;
-    this.moveInput(pin, isSameKey(this.inputs[pin].key, pinKey(level)));
+    const pinIndex = this.inputs.length - 1;
+    this.moveInput(pinIndex, isSameKey(this.inputs[pinIndex].key, pinKey(level)));
   }
 
   /**
@@ -169,8 +169,8 @@ class ValueReplay extends InputReplay {
   }
 
   /**
-   * Sets the keys so that the program reads a value at the selected port. For each 1 bit, presses a key in a driven row, if possible an
-   * allowed one. Releases keys before it presses others.
+   * Sets the keys so that the program reads a value at the selected port. For each 1 bit, presses a key in a driven row, preferably a key
+   * that the campaign allows. Releases keys before it presses others.
    * @param {number} value
    */
   setKeys(value) {
@@ -219,14 +219,14 @@ class ValueReplay extends InputReplay {
 }
 
 /**
- * The moment at which a step of a counterexample begins, in cycles since power-on. `code` is the opcode of an instruction that reads an
- * input then, or -1. `levels` are the levels of all inputs: of each key, row by row, and of TEST.
+ * A step of a counterexample. `time` is the moment at which it begins, in cycles since power-on. `code` is the opcode of the instruction
+ * that reads an input at this moment, or -1. `levels` are the levels of all inputs: of each key, row by row, and of TEST.
  * @typedef {{ time: number, code: number, levels: number[] }} LevelStep
  */
 
 /**
- * A replay in which the inputs that are read have given levels at each read. Changes inputs immediately before the read, and records the
- * moments of all steps.
+ * A replay that gives the inputs certain levels at each read. Changes only inputs that the next instruction reads, immediately before the
+ * read. Records all steps with their moments.
  */
 class LevelReplay extends InputReplay {
   /**
@@ -240,21 +240,21 @@ class LevelReplay extends InputReplay {
   }
 
   /**
-   * Sets the keys, or TEST, to levels for the next read. Leaves inputs that this read cannot detect.
+   * Sets the keys, or TEST, to given levels before the next read. Does not change inputs that this read cannot detect.
    * @param {number[]} levels
    */
   setInputs(levels) {
     const step = { time: this.time, code: this.findNextReadCode(), levels };
     this.levelSteps.push(step);
-    const readInputs = indices(this.inputs.length).filter((index) => isRead(step, index === this.inputs.length - 1));
-    for (const index of readInputs) this.moveInput(index, isDownAt(step, this.inputs, index));
+    const inputsToSet = indices(this.inputs.length).filter((index) => isRead(step, index === this.inputs.length - 1));
+    for (const index of inputsToSet) this.moveInput(index, isDownAt(step, this.inputs, index));
   }
 }
 
 /**
- * Returns whether a step reads TEST, or reads the keys.
+ * Returns whether a step reads TEST or, if `isPin` is false, whether it reads the keys.
  * @param {LevelStep} step
- * @param {boolean} isPin true for TEST, false for the keys
+ * @param {boolean} isPin
  */
 const isRead = ({ code }, isPin) => code >= 0 && isPin === readsTest(code);
 
@@ -268,16 +268,18 @@ const isDownAt = ({ levels }, inputs, index) => (
   inputs[index].isKey ? levels[index] === 1 : isSameKey(inputs[index].key, pinKey(levels[index])));
 
 /**
- * The functions that decide whether inputs must have the levels of a step. The fewest changes result if only the inputs that are read must
- * have them. But then a press can be too long, because a release that no read detects is missing. So the next function also demands the
- * levels of keys that are not read, and the last one those of TEST.
+ * Functions that decide whether an input must have its given level in a step, in the order in which they are tried. If only the inputs
+ * that the step reads must have their levels, the replay needs the fewest changes. But then a key can stay down too long, because no read
+ * detects its release. Therefore, the second function also demands the levels of keys that the step does not read, and the third one also
+ * demands that of TEST.
  * @type {((step: LevelStep, isPin: boolean) => boolean)[]}
  */
 const LEVEL_DEMANDS = [isRead, (step, isPin) => !isPin || isRead(step, true), () => true];
 
 /**
- * Returns the changes that give the inputs their levels in all steps in which a function demands them, and the releases of the keys that
- * are down after that. An input can change from the moment after its last demanded level until the next one.
+ * Returns the changes that give the inputs their levels in all steps in which `isDemanded` demands them. Also returns the releases of the
+ * keys that are down after the last step. A change can happen at any moment from `first`, which is after the last step that demands an old
+ * level, to `last`, which is the step that demands the new levels.
  * @param {LevelStep[]} levelSteps
  * @param {Input[]} inputs
  * @param {(step: LevelStep, isPin: boolean) => boolean} isDemanded
@@ -289,11 +291,11 @@ function listChanges(levelSteps, inputs, isDemanded) {
   const firstMoments = inputs.map(() => 1);
   const changes = levelSteps.flatMap((step) => {
     const { time } = step;
-    const demanded = indices(inputs.length).filter((index) => isDemanded(step, index === inputs.length - 1));
-    const pressed = demanded.filter((index) => isDownAt(step, inputs, index) && !downInputs.includes(index));
-    const released = demanded.filter((index) => !isDownAt(step, inputs, index) && downInputs.includes(index));
+    const demandedInputs = indices(inputs.length).filter((index) => isDemanded(step, index === inputs.length - 1));
+    const pressed = demandedInputs.filter((index) => isDownAt(step, inputs, index) && !downInputs.includes(index));
+    const released = demandedInputs.filter((index) => !isDownAt(step, inputs, index) && downInputs.includes(index));
     const first = Math.min(time, Math.max(...[...pressed, ...released].map((index) => firstMoments[index])));
-    for (const index of demanded) firstMoments[index] = time + 1;
+    for (const index of demandedInputs) firstMoments[index] = time + 1;
     downInputs = [...downInputs.filter((index) => !released.includes(index)), ...pressed];
     return pressed.length + released.length === 0 ? [] : [{ released, pressed, first, last: time }];
   });
@@ -303,18 +305,18 @@ function listChanges(levelSteps, inputs, isDemanded) {
 }
 
 /**
- * Returns the steps that give the inputs their levels at all reads, and the steps after them that end presses in time. Keeps `minWait` and
- * `maxPressTime` if there are moments for this; otherwise makes each change immediately before its read. A press need not end if there are
- * no moments for that, because the violation can happen during the press.
+ * Returns the steps that give the inputs their levels at all reads, and later steps that release keys in time. Keeps `minWait` and
+ * `maxPressTime` if possible; otherwise makes each change immediately before the read that demands it. Keys that cannot be released in time
+ * at the end stay down, because the violation can happen during their press.
  * @param {LevelStep[]} levelSteps
  * @param {Input[]} inputs
  * @param {PressLimits} limits
  * @returns {{ steps: WalkStep[], releaseSteps: WalkStep[] }}
  */
 function scheduleChanges(levelSteps, inputs, { minWait, maxPressTime }) {
-  // The levels at power-on are no change, so they matter only if the first cycle reads them.
-  const demandingSteps = levelSteps.filter(({ time, code }) => time > 0 || code >= 0);
-  const changeLists = LEVEL_DEMANDS.map((isDemanded) => listChanges(demandingSteps, inputs, isDemanded));
+  // Levels at power-on do not count as changes. They need not be set unless the first cycle reads them.
+  const requiredSteps = levelSteps.filter(({ time, code }) => time > 0 || code >= 0);
+  const changeLists = LEVEL_DEMANDS.map((isDemanded) => listChanges(requiredSteps, inputs, isDemanded));
   for (const { changes, releases } of changeLists) {
     for (const allChanges of maxPressTime === Infinity ? [changes] : [[...changes, ...releases], changes]) {
       const moments = findLatestMoments(allChanges, inputs, minWait, maxPressTime);
@@ -341,9 +343,10 @@ function runSteps(subject, inputs, steps) {
 }
 
 /**
- * Returns the steps with which the program reads the inputs of a counterexample. `time` is the number of cycles up to the last step, and
+ * Returns the steps that make the program read the inputs of a counterexample. `time` is the number of cycles up to the last step, and
  * `file` is the session file after it. `remainingCycles` is the number of cycles after the last step, in which the violation must happen.
- * `releaseSteps` are steps after the last one that end presses, which no read detects; they can come after the violation.
+ * `releaseSteps` are additional steps after the last one. They release keys in time, and no read detects them; the violation can happen
+ * before them.
  * @param {Subject} subject
  * @param {Input[]} inputs all inputs of the board
  * @param {Reads} reads

@@ -1,5 +1,5 @@
-// A question that combines several questions, so that one search can answer all of them. The question is asked once for all inputs and, if
-// necessary, once with limits on the inputs.
+// A question that combines several questions, so that one search can answer all of them. It is asked once for all inputs and, if necessary,
+// once for each set of limits on the inputs.
 
 import { combineQuestions } from "./question.js";
 
@@ -28,22 +28,22 @@ export class JointQuestion {
    * Returns whether the answer to the combined question also applies to each single question.
    * @param {InputLimits | null} inputLimits
    */
-  isFinal(inputLimits) {
+  hasFinalAnswer(inputLimits) {
     const answer = this.answers.get(inputLimits);
     return answer !== undefined && (this.isSingle || this.finalKinds.has(answer.kind));
   }
 
   /**
-   * Asks the prover one of the questions. Asks the combined question first, unless its answer is known, and asks the single question only
-   * if that answer does not apply to it. With limits on the inputs, skips the combined question unless its answer without limits applied to
-   * every single question. Resolves to the answer.
-   * @param {Question} question
+   * Resolves to the prover's answer to one of the questions. First asks the combined question, unless its answer is already known. If the
+   * answer to the combined question does not apply to each single question, asks the single question. For a question with limits on the
+   * inputs, skips the combined question unless its answer without limits applies to each single question.
+   * @param {Question} question the single question
    */
   async askAbout(question) {
     const { inputLimits } = question;
-    if (inputLimits && !this.isFinal(null)) return this.ask(question);
+    if (inputLimits && !this.hasFinalAnswer(null)) return this.ask(question);
     const answer = this.answers.get(inputLimits) || await this.ask({ ...this.question, inputLimits });
     this.answers.set(inputLimits, answer);
-    return this.isFinal(inputLimits) ? answer : this.ask(question);
+    return this.hasFinalAnswer(inputLimits) ? answer : this.ask(question);
   }
 }

@@ -97,8 +97,8 @@ export function countCyclesToMistake(subject, file, word, cycles) {
       if (!isSecondCyclePending && makesMistake(state)) return checkedCycles;
       checkedCycles += 1;
     }
-    const count = Math.min(CHUNK_CYCLES, Math.min(cycles, MAX_CHECKED_CYCLES) + 1 - checkedCycles);
-    answers = count > 0 ? subject.engine.serve(workFile, "run 1\nstate\n".repeat(count), workFile).answers : [];
+    const cyclesToRun = Math.min(CHUNK_CYCLES, Math.min(cycles, MAX_CHECKED_CYCLES) + 1 - checkedCycles);
+    answers = cyclesToRun > 0 ? subject.engine.serve(workFile, "run 1\nstate\n".repeat(cyclesToRun), workFile).answers : [];
   }
   return -1;
 }

@@ -1,14 +1,14 @@
-// Decides properties one after the other: asks the prover, and derives a verdict from its answers. The properties of the text come first.
-// After them come the common mistakes, for which every program is checked. The first question about a property is for all inputs. If its
-// answer does not decide the property, the next questions are only for inputs that the text allows, the last ones with its shortest wait.
-// Callbacks ask the prover and confirm counterexamples.
+// Decides properties one after the other: asks the prover, and derives a verdict from its answers. The properties of the properties text
+// come first. After them come the common mistakes, for which every program is checked. The first question about a property is for all
+// inputs. If its answer does not decide the property, the next questions are only for inputs that the text allows. The last ones also use
+// the shortest wait in the text. Callbacks ask the prover and confirm counterexamples.
 
 import { formatNumber, formatSteps } from "../explore/report.js";
 import { replayCounterexample } from "./counterexample.js";
 import { explainMissingPressLimit, listInputLimits, listPropertyLimits } from "./input_limits.js";
 import { JointQuestion } from "./joint_question.js";
 import { listMistakes } from "./mistakes.js";
-import { createQuestion, nameOmittedGuards, mistakeQuestion, needsCounting, needsSeparateQuestion } from "./question.js";
+import { createQuestion, describeOmittedGuards, createMistakeQuestion, needsCounting, needsSeparateQuestion } from "./question.js";
 import * as say from "../../words/prove.js";
 
 /**
@@ -34,13 +34,13 @@ import * as say from "../../words/prove.js";
  */
 
 /**
- * The answers to a combined question that also apply to each of its properties, because a search for one property visits the same states in
- * the same order.
+ * The answers to a combined question that also apply to each of its properties, because a search for a single property would visit the same
+ * states in the same order.
  * @type {Set<Answer["kind"]>}
  */
 const FINAL_ANSWERS = new Set(["holds", "more", "full"]);
 /**
- * The answers to the question about all common mistakes that also apply to each of them.
+ * The answers to the question about all common mistakes that also apply to each single mistake.
  * @type {Set<Answer["kind"]>}
  */
 const FINAL_MISTAKE_ANSWERS = new Set(["holds", "more", "full", "lost"]);
@@ -50,22 +50,22 @@ const FINAL_MISTAKE_ANSWERS = new Set(["holds", "more", "full", "lost"]);
  * @param {Property} property
  * @param {number} states the number of states in the proof, or of sets of states
  * @param {boolean} bySets true if the proof uses sets of states
- * @param {string[]} limits the lines of the text with the limits on the inputs that the proof needs
+ * @param {string[]} limits the lines of the properties text that set the limits on the inputs that the proof needs
  * @returns {Verdict}
  */
 const createProvedVerdict = (property, states, bySets, limits) => (
-  { kind: "proved", states, bySets, limits, leftOut: nameOmittedGuards(property) });
+  { kind: "proved", states, bySets, limits, leftOut: describeOmittedGuards(property) });
 
 /**
- * Returns the reason why a property is not decided when the bench does not confirm its counterexample.
+ * Returns the reason why a property stays undecided if the bench does not confirm the prover's counterexample.
  * @param {Property} property
  * @param {Question} question
  * @param {Campaign} campaign
  * @param {Subject} subject
  */
-function explainUnconfirmed(property, { inputLimits }, campaign, { names: { board } }) {
+function explainUnconfirmedCounterexample(property, { inputLimits }, campaign, { names: { board } }) {
   const { form, guards, isGoal, limit } = property;
-  if (guards.length > 0) return say.failsWithoutGuards(nameOmittedGuards(property), isGoal);
+  if (guards.length > 0) return say.failsWithoutGuards(describeOmittedGuards(property), isGoal);
   if (form === "only after") return say.TRUE_BEFORE_KEYS_ARE_READ;
   if (form !== "no press") return say.NOT_CONFIRMED;
   const maxPressTime = inputLimits && inputLimits.maxPressTime;
@@ -74,7 +74,7 @@ function explainUnconfirmed(property, { inputLimits }, campaign, { names: { boar
 }
 
 /**
- * Returns whether a verdict is a proof, or a counterexample that the text allows.
+ * Returns whether a verdict is a proof, or a counterexample with inputs that the properties text allows.
  * @param {Verdict} verdict
  */
 const isFinalVerdict = (verdict) => verdict.kind === "proved" || (verdict.kind === "found" && verdict.counterexample.isAllowed);
@@ -89,21 +89,22 @@ export class PropertyJudge {
     this.subject = subject;
     this.campaign = campaign;
     this.calls = calls;
-    /** @type {{ property: Property, propertyQuestion: PropertyQuestion }[]} the properties of the text, each with its question */
+    /** @type {{ property: Property, propertyQuestion: PropertyQuestion }[]} the properties of the properties text, with their questions */
     this.textProperties = campaign.properties.filter(({ line }) => line > 0)
       .map((property) => ({ property, propertyQuestion: createQuestion(property, campaign, subject) }));
     this.mistakes = listMistakes();
-    /** The limits that the text sets on the inputs, for successive attempts of a proof. */
+    /** The limits that the properties text sets on the inputs, one element for each successive attempt of a proof. */
     this.inputLimits = listInputLimits(campaign, subject.names.board);
     /** The number of properties and common mistakes that have a verdict. */
     this.judgedCount = 0;
     /** The questions about properties that can be combined into one. */
     this.jointQuestion = new JointQuestion(this.textProperties.flatMap(({ property, propertyQuestion: { question } }) => (
       !question || needsSeparateQuestion(property, question) ? [] : [question])), FINAL_ANSWERS, calls.ask);
-    /** @type {Verdict | null} the verdict of a proof by sets of states that there is no common mistake; null if there is no such proof */
+    /** @type {Verdict | null} the verdict if a proof by sets of states shows that the program makes no common mistake; otherwise null */
     this.noMistakeVerdict = null;
     /** The question about all common mistakes. */
-    this.anyMistakeQuestion = new JointQuestion(this.mistakes.map(({ word }) => mistakeQuestion([word])), FINAL_MISTAKE_ANSWERS, calls.ask);
+    this.anyMistakeQuestion = new JointQuestion(
+      this.mistakes.map(({ word }) => createMistakeQuestion([word])), FINAL_MISTAKE_ANSWERS, calls.ask);
   }
 
   /** The number of properties and common mistakes. */
@@ -134,7 +135,7 @@ export class PropertyJudge {
   }
 
   /**
-   * Decides a property of the text. The verdict is `open` if the prover does not support the property.
+   * Decides a property of the properties text. The verdict is `open` if the prover does not support the property.
    * @param {{ property: Property, propertyQuestion: PropertyQuestion }} textProperty
    * @returns {Promise<JudgedProperty>}
    */
@@ -146,8 +147,8 @@ export class PropertyJudge {
   }
 
   /**
-   * Decides whether the program can make a common mistake. First asks the prover about all common mistakes together. If one of them is
-   * possible, asks about this one separately.
+   * Decides whether the program can make a common mistake. First asks the prover about all common mistakes together. If any of them is
+   * possible, asks about the given mistake separately.
    * @param {import("./mistakes.js").Mistake} mistake
    * @returns {Promise<JudgedProperty>}
    */
@@ -158,7 +159,7 @@ export class PropertyJudge {
     }
     if (this.noMistakeVerdict) return { property, verdict: this.noMistakeVerdict };
     const campaign = { ...this.campaign, properties: [property] };
-    const verdict = await this.judge(property, mistakeQuestion([word]), async (question) => (
+    const verdict = await this.judge(property, createMistakeQuestion([word]), async (question) => (
       this.createVerdict(property, question, await anyMistakeQuestion.askAbout(question), campaign, word)));
     return { property, verdict };
   }
@@ -194,8 +195,8 @@ export class PropertyJudge {
   }
 
   /**
-   * Decides a property: for all inputs by a search, then by sets of states, and then for the inputs that the text allows. Each step is done
-   * only if the steps before it leave the property undecided.
+   * Decides a property: for all inputs by a search, then by sets of states, and then for the inputs that the properties text allows. Does
+   * each step only if the earlier steps leave the property undecided.
    * @param {Property} property
    * @param {Question} question the question for all inputs
    * @param {(question: Question) => Promise<Verdict>} search asks the prover to search, and resolves to the verdict
@@ -206,14 +207,14 @@ export class PropertyJudge {
     for (const inputLimits of listPropertyLimits(property, this.campaign, this.inputLimits, this.subject.names.board)) {
       if (isFinalVerdict(verdict)) break;
       const limitedVerdict = await search({ ...question, inputLimits });
-      // If this search decides nothing, a goal that an earlier search reached counts, although the text does not allow its inputs.
+      // If this search is inconclusive, keeps the verdict of an earlier search that reached a goal, even with inputs that the text forbids.
       if (limitedVerdict.kind !== "open" || verdict.kind !== "found") verdict = limitedVerdict;
     }
     return verdict;
   }
 
   /**
-   * Resolves to the verdict on a property that follows from an answer.
+   * Resolves to the verdict that follows from the prover's answer about a property.
    * @param {Property} property
    * @param {Question} question
    * @param {Answer} answer
@@ -228,7 +229,7 @@ export class PropertyJudge {
     const { subject, calls } = this;
     const index = campaign.properties.indexOf(property);
     const counterexample = await replayCounterexample(subject, campaign, index, answer.reads, calls.yieldToMessages, mistake);
-    if (!counterexample) return { kind: "open", reason: explainUnconfirmed(property, question, campaign, subject) };
+    if (!counterexample) return { kind: "open", reason: explainUnconfirmedCounterexample(property, question, campaign, subject) };
     if (!await calls.confirm(counterexample, property.isGoal)) return { kind: "open", reason: say.NOT_CONFIRMED };
     if (counterexample.isAllowed || property.isGoal) return { kind: "found", counterexample };
     return { kind: "open", reason: say.onlyExcludedInputs(formatSteps(counterexample.steps)) };

@@ -57,9 +57,9 @@ import * as say from "../../words/prove.js";
  * The limits of a question:
  * - `maxStates`: the maximum number of states; `memory`: the maximum memory for them in MB (0 to use all memory);
  * - `sets`: the maximum number of sets of states; with 0, the prover searches single states;
- * - `pause`: a number of cycles; the prover counts another state when the program has read no input for this long.
+ * - `pause`: a number of cycles; the prover counts an additional state whenever the program has read no input for this long.
  *
- * A search runs at most `maxStates` times `pause` cycles. A proof by sets of states is not a search: the prover computes for each address
+ * A search simulates at most `maxStates` * `pause` cycles. A proof by sets of states is not a search: the prover computes for each address
  * the values that each register can have.
  * @typedef {{ maxStates: number, memory?: number, sets?: number, pause?: number }} QuestionLimits
  */
@@ -68,8 +68,8 @@ import * as say from "../../words/prove.js";
 export const DEFAULT_PAUSE = 1000000;
 /** The maximum number of sets of states in a proof by sets. */
 export const MAX_SETS = 100000;
-/** The maximum number of states in the first try of a question. Later tries have higher limits. */
-const FIRST_BOUND = 10000;
+/** The maximum number of states in the first attempt to answer a question. Later attempts have higher limits. */
+const INITIAL_BOUND = 10000;
 /** The highest time limit that a stopwatch can have, in cycles. */
 export const MAX_STOPWATCH_CYCLES = 16777214;
 /** The maximum number of presses in a property. */
@@ -80,30 +80,30 @@ const POWER_ON_ADDRESS = 0;
 const EMPTY_QUESTION = { forbidden: [], mistakes: [], stopwatch: null, presses: null, inputLimits: null };
 
 /**
- * Returns increasing limits on the number of states, for repeated tries of a question. Each limit is twice the previous one, except the
- * last limit, which is `maxBound`.
+ * Returns increasing limits on the number of states, for repeated attempts to answer a question. Each limit is twice the previous one,
+ * except the last limit, which is `maxBound`.
  * @param {number} maxBound
- * @param {number} [firstBound]
+ * @param {number} [initialBound]
  */
-export function listBounds(maxBound, firstBound = FIRST_BOUND) {
+export function listBounds(maxBound, initialBound = INITIAL_BOUND) {
   const bounds = [];
-  for (let bound = firstBound; bound < maxBound; bound *= 2) bounds.push(bound);
+  for (let bound = initialBound; bound < maxBound; bound *= 2) bounds.push(bound);
   return [...bounds, maxBound];
 }
 
 /**
- * Creates the question whether a condition can ever become true.
+ * Creates the question that asks whether a condition can ever become true.
  * @param {Comparisons[]} forbidden the condition
  * @returns {Question}
  */
-export const neverQuestion = (forbidden) => ({ ...EMPTY_QUESTION, forbidden });
+export const createNeverQuestion = (forbidden) => ({ ...EMPTY_QUESTION, forbidden });
 
 /**
- * Creates the question whether the program can make certain common mistakes.
+ * Creates the question that asks whether the program can make certain common mistakes.
  * @param {string[]} mistakes the words for the mistakes
  * @returns {Question}
  */
-export const mistakeQuestion = (mistakes) => ({ ...EMPTY_QUESTION, mistakes });
+export const createMistakeQuestion = (mistakes) => ({ ...EMPTY_QUESTION, mistakes });
 
 /**
  * Returns whether the prover must count cycles or presses to answer a question.
@@ -135,19 +135,19 @@ export function combineQuestions(questions) {
  * Returns `lists`; if `lists` is empty, returns a list with one conjunction that is never true.
  * @param {Comparisons[]} lists
  */
-const orImpossibleCondition = (lists) => (lists.length > 0 ? lists : [IMPOSSIBLE_COMPARISONS]);
+const replaceEmptyCondition = (lists) => (lists.length > 0 ? lists : [IMPOSSIBLE_COMPARISONS]);
 
 /**
- * Creates the question whether a stopwatch can exceed its limit. Throws UnsupportedQuestion if the limit is too high.
+ * Creates the question that asks whether a stopwatch can exceed its limit. Throws UnsupportedQuestion if the limit is too high.
  * @param {Comparisons[]} startCondition
  * @param {Comparisons[]} endCondition
  * @param {number} limit
  * @returns {Question}
  */
-function createTimeQuestion(startCondition, endCondition, limit) {
+function createStopwatchQuestion(startCondition, endCondition, limit) {
   if (limit > MAX_STOPWATCH_CYCLES) throw new UnsupportedQuestion(say.timeTooLong(formatNumber(MAX_STOPWATCH_CYCLES)));
   const stopwatch = {
-    startCondition: orImpossibleCondition(startCondition), endCondition: orImpossibleCondition(endCondition), maxCycles: limit,
+    startCondition: replaceEmptyCondition(startCondition), endCondition: replaceEmptyCondition(endCondition), maxCycles: limit,
   };
   return { ...EMPTY_QUESTION, stopwatch };
 }
@@ -164,8 +164,8 @@ function findMatrixKey(face, name) {
 }
 
 /**
- * Creates the question whether a condition becomes true only after certain presses. Throws UnsupportedQuestion if the prover cannot count
- * these presses. The condition is evaluated as if no second cycle were pending.
+ * Creates the question that asks whether a condition becomes true only after certain presses. Throws UnsupportedQuestion if the prover
+ * cannot count these presses. The condition is evaluated as if no second cycle were pending.
  * @param {Property} property
  * @param {Subject} subject
  * @returns {Question}
@@ -176,16 +176,16 @@ function createPressQuestion({ condition, address, keys }, { names: { board, fac
   if (!condition && (isJin(codes[address]) || isReturn(codes[address]))) throw new UnsupportedQuestion(say.LABEL_REPEATS);
   const openCondition = condition ? listComparisons(condition, true, board, true) : [addressComparisons(address)];
   const matrixKeys = keys.map((name) => findMatrixKey(face, name));
-  return { ...EMPTY_QUESTION, presses: { openCondition: orImpossibleCondition(openCondition), keys: matrixKeys } };
+  return { ...EMPTY_QUESTION, presses: { openCondition: replaceEmptyCondition(openCondition), keys: matrixKeys } };
 }
 
 /**
- * Creates the question whether the condition of a property can become true, or whether the program can reach its label.
+ * Creates the question that asks whether the condition of a property can become true, or whether the program can reach its label.
  * @param {Property} property
  * @param {Board} board
  */
-function createNeverMetQuestion({ condition, address }, board) {
-  return neverQuestion(condition ? listComparisons(condition, true, board) : [addressComparisons(address)]);
+function createNeverReachedQuestion({ condition, address }, board) {
+  return createNeverQuestion(condition ? listComparisons(condition, true, board) : [addressComparisons(address)]);
 }
 
 /**
@@ -194,20 +194,20 @@ function createNeverMetQuestion({ condition, address }, board) {
  * @type {Record<string, (property: Property & { condition: Condition }, board: Board, subject: Subject) => Question>}
  */
 const QUESTIONS_BY_FORM = {
-  never: createNeverMetQuestion,
-  always: ({ condition }, board) => neverQuestion(listComparisons(condition, false, board)),
+  never: createNeverReachedQuestion,
+  always: ({ condition }, board) => createNeverQuestion(listComparisons(condition, false, board)),
   at: ({ condition, address }, board) => (
-    neverQuestion(listComparisons(condition, false, board).map((comparisons) => [...addressComparisons(address), ...comparisons]))),
+    createNeverQuestion(listComparisons(condition, false, board).map((comparisons) => [...addressComparisons(address), ...comparisons]))),
   "only after": (property, _board, subject) => createPressQuestion(property, subject),
-  reach: createNeverMetQuestion,
-  "reach at": ({ address }) => neverQuestion([addressComparisons(address)]),
+  reach: createNeverReachedQuestion,
+  "reach at": ({ address }) => createNeverQuestion([addressComparisons(address)]),
   "never for": ({ condition, limit }, board) => (
-    createTimeQuestion(listComparisons(condition, true, board, true), listComparisons(condition, false, board, true), limit)),
-  // The program counter is 000 at power-on, so the stopwatch starts there. If address 000 is reached again, the stopwatch already runs.
+    createStopwatchQuestion(listComparisons(condition, true, board, true), listComparisons(condition, false, board, true), limit)),
+  // The program counter is 000 at power-on, so the stopwatch starts there. A later arrival at 000 does not restart it.
   every: ({ address, limit }) => (
-    createTimeQuestion([addressComparisons(POWER_ON_ADDRESS), addressComparisons(address)], [addressComparisons(address)], limit)),
-  within: ({ start, address, limit }) => createTimeQuestion([addressComparisons(start)], [addressComparisons(address)], limit),
-  "no press": ({ address }) => neverQuestion([addressComparisons(address)]),
+    createStopwatchQuestion([addressComparisons(POWER_ON_ADDRESS), addressComparisons(address)], [addressComparisons(address)], limit)),
+  within: ({ start, address, limit }) => createStopwatchQuestion([addressComparisons(start)], [addressComparisons(address)], limit),
+  "no press": ({ address }) => createNeverQuestion([addressComparisons(address)]),
 };
 
 /**
@@ -233,7 +233,7 @@ export function createQuestion(property, { from }, subject) {
  * Returns the first words of the guards that the question about a property omits, as text; "" if there are none.
  * @param {Property} property
  */
-export const nameOmittedGuards = ({ guards }) => say.guardsNamed(new Set(guards.map(({ kind }) => kind)));
+export const describeOmittedGuards = ({ guards }) => say.guardsNamed(new Set(guards.map(({ kind }) => kind)));
 
 /**
  * Returns the lines for a condition. The lines of each conjunction follow a line that contains only `word`.
@@ -254,7 +254,7 @@ const formatKeyPress = (key) => ["up", "down"].map((level) => [level, formatKey(
  * @param {Question} question
  * @param {QuestionLimits} limits
  */
-export function questionText({ board, program }, { forbidden, mistakes, stopwatch, presses, inputLimits }, limits) {
+export function formatQuestion({ board, program }, { forbidden, mistakes, stopwatch, presses, inputLimits }, limits) {
   const { maxStates, memory = 0, sets = 0, pause = DEFAULT_PAUSE } = limits;
   const optionalLimits = Object.entries({ memory, sets }).filter(([, number]) => number > 0);
   const limitLines = [["most", maxStates], ...optionalLimits, ["pause", pause]].map((words) => words.join(" "));

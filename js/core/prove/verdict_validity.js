@@ -33,8 +33,8 @@ function selectSettings(lines, verdict) {
   const settings = lines.filter(isSetting);
   if (verdict.kind !== "proved") return settings.join("\n");
   const limitedSettings = verdict.limits.includes(WAIT_WORD) ? WAITING_PROOF_SETTINGS : LIMITED_PROOF_SETTINGS;
-  const pattern = verdict.limits.length > 0 ? limitedSettings : PROOF_SETTINGS;
-  return settings.filter((line) => pattern.test(line)).join("\n");
+  const settingPattern = verdict.limits.length > 0 ? limitedSettings : PROOF_SETTINGS;
+  return settings.filter((line) => settingPattern.test(line)).join("\n");
 }
 
 /**

@@ -2,7 +2,7 @@
 
 import { formatQuantity } from "../bench/numbers.js";
 import { formatNumber, formatSteps } from "../explore/report.js";
-import { TAP_HEAD, tapDescription, yamlString } from "../testing/tap.js";
+import { TAP_HEADER, formatTapDescription, formatYamlString } from "../testing/tap.js";
 import * as say from "../../words/prove.js";
 
 /**
@@ -10,9 +10,9 @@ import * as say from "../../words/prove.js";
  * @typedef {import("./counterexample.js").Counterexample} Counterexample
  *
  * The verdict on a property:
- * - `proved`: `states` is the number of states in the proof, or of sets of states if `bySets` is true. `limits` are the lines of the text
- *   with the limits on the inputs that the proof needs, or [] if the proof is for all inputs. `leftOut` names the guards that the proof
- *   omits.
+ * - `proved`: `states` is the number of states in the proof, or of sets of states if `bySets` is true. `limits` are the lines of the
+ *   properties text that set the limits on the inputs that the proof needs, or [] if the proof is for all inputs. `leftOut` names the
+ *   guards that the proof omits.
  * - `found`: the prover found a counterexample or, for a goal, a sequence of steps that reaches the goal.
  * - `open`: the property is not decided; `reason` says why.
  * @typedef {{ kind: "proved", states: number, bySets: boolean, limits: string[], leftOut: string }} ProvedVerdict
@@ -37,7 +37,7 @@ export function formatStateCount({ states, bySets }) {
 }
 
 /** @type {(judgedProperty: JudgedProperty) => string} returns the verdict as text, for the end of the TAP line */
-function formatRemark({ property: { isGoal }, verdict }) {
+function formatVerdict({ property: { isGoal }, verdict }) {
   if (verdict.kind === "open") return say.notDecided(verdict.reason);
   if (verdict.kind === "proved") return (isGoal ? say.neverReachedVerdict : say.provedVerdict)(formatStateCount(verdict), verdict);
   return isGoal ? say.reachedBy(formatSteps(verdict.counterexample.steps)) : say.brokenBy(formatSteps(verdict.counterexample.steps));
@@ -52,12 +52,12 @@ function formatRemark({ property: { isGoal }, verdict }) {
 function formatTapLines(judgedProperty, index, file) {
   const { property, verdict } = judgedProperty;
   const status = hasExpectedResult(judgedProperty) ? "ok" : "not ok";
-  const lines = [`${status} ${index + 1} - ${tapDescription(property.text)} # ${formatRemark(judgedProperty)}`];
+  const lines = [`${status} ${index + 1} - ${formatTapDescription(property.text)} # ${formatVerdict(judgedProperty)}`];
   if (verdict.kind !== "found") return lines;
   const { isTest, text, cycles, steps } = verdict.counterexample;
-  lines.push("  ---", `  message: ${yamlString(say.foundBy(formatSteps(steps), formatNumber(cycles), property.isGoal))}`);
+  lines.push("  ---", `  message: ${formatYamlString(say.foundBy(formatSteps(steps), formatNumber(cycles), property.isGoal))}`);
   // A common mistake, for which every program is checked, has no line in the properties file.
-  if (property.line > 0) lines.push(`  at: ${yamlString(`${file}:${property.line}`)}`);
+  if (property.line > 0) lines.push(`  at: ${formatYamlString(`${file}:${property.line}`)}`);
   lines.push(`  ${isTest ? "test" : "session"}: |`);
   return [...lines, ...text.trimEnd().split("\n").map((line) => `    ${line}`), "  ..."];
 }
@@ -66,7 +66,7 @@ function formatTapLines(judgedProperty, index, file) {
  * Returns the first lines of TAP output: the header, and the plan with the number of tests.
  * @param {number} count the number of properties
  */
-export const tapHead = (count) => `${TAP_HEAD}\n1..${count}\n`;
+export const formatTapHeader = (count) => `${TAP_HEADER}\n1..${count}\n`;
 
 /**
  * Returns the TAP output for a property.
@@ -80,7 +80,7 @@ export const formatJudgedTap = (judgedProperty, index, file) => `${formatTapLine
  * Returns the exit status: 1 if a property can be violated or a goal cannot be reached, otherwise 3 if a verdict is open, otherwise 0.
  * @param {JudgedProperty[]} results
  */
-export function exitStatus(results) {
+export function findExitStatus(results) {
   if (results.some((judgedProperty) => judgedProperty.verdict.kind !== "open" && !hasExpectedResult(judgedProperty))) return 1;
   return results.some(({ verdict }) => verdict.kind === "open") ? 3 : 0;
 }

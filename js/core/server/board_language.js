@@ -8,7 +8,7 @@ import { completeBoard } from "../text/board_completion.js";
 import { FOLD_PATTERNS } from "../text/folding.js";
 import { findCommentStart } from "../text/sendable_text.js";
 import { helpForBoard } from "../text/text_help.js";
-import { tomlWords } from "../text/toml_words.js";
+import { splitTomlWords } from "../text/toml_words.js";
 import { BoardReferences } from "./board_references.js";
 import { escapeMarkdown } from "./markdown.js";
 import { REQUEST_FAILED, ProtocolError, rangeInLine } from "./lsp_protocol.js";
@@ -140,7 +140,7 @@ export class BoardLanguage {
     const headers = new Set(readBoardText(text).entries.map(({ line }) => line));
     /** @type {ColouredWord[]} */
     const comments = lines.map((lineText, line) => ({ line, from: findCommentStart(lineText, "#"), to: lineText.length, type: "comment" }));
-    const tokens = tomlWords(lines);
+    const tokens = splitTomlWords(lines);
     return [...comments, ...tokens.flatMap(({ kind, text: word, line, from, to }, index) => {
       if (kind !== "bare" && kind !== "string") return [];
       const previousWord = tokens[index - 1] ? tokens[index - 1].text : "";

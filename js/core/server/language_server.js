@@ -1,7 +1,7 @@
 // The language server for programs, boards, tests, properties and project files. It stores the open texts, handles requests about these
 // texts, and reports their errors after each edit.
 
-import { boardTables } from "../text/text_help.js";
+import { readBoardTables } from "../text/text_help.js";
 import { ErrorMessages } from "../bench/error_messages.js";
 import { BoardLanguage } from "./board_language.js";
 import { readClient } from "./capabilities.js";
@@ -58,7 +58,7 @@ export class LanguageServer {
     const readText = (/** @type {string} */ uri, /** @type {string} */ folder) => this.readText(uri, folder);
     const dependenciesOf = (/** @type {string} */ uri) => this.findDependencies(uri);
     this.program = new ProgramLanguage(bench, manual, refusalMessage, (uri) => this.findBoardText(uri), host.pause);
-    this.board = new BoardLanguage(bench, boardTables(manual), refusalMessage);
+    this.board = new BoardLanguage(bench, readBoardTables(manual), refusalMessage);
     this.tests = new TestLanguage(engine, manual, dependenciesOf);
     this.properties = new PropertyLanguage(engine, manual, dependenciesOf, readText);
     this.project = new ProjectLanguage(readText);

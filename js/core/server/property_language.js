@@ -2,9 +2,9 @@
 
 import { readCampaign } from "../explore/campaign.js";
 import { createSubject } from "../explore/subject.js";
-import { COLOURS } from "../text/test_colours.js";
+import { LINE_COLOURERS } from "../text/test_colours.js";
 import { FOLD_PATTERNS } from "../text/folding.js";
-import { completeProperty, helpForProperty, propertyForms } from "../text/property_words.js";
+import { completeProperty, helpForProperty, readPropertyForms } from "../text/property_words.js";
 import { DependentLanguage, locateError } from "./dependent_language.js";
 import { parentFolder, uriInFolder } from "./text_kinds.js";
 import { rangeInLine } from "./lsp_protocol.js";
@@ -36,7 +36,7 @@ export class PropertyLanguage extends DependentLanguage {
   constructor(engine, manual, findDependencies, readText) {
     super(engine, findDependencies);
     this.foldPatterns = { ...FOLD_PATTERNS.tests, head: /(?!)/ };
-    this.forms = propertyForms(manual);
+    this.forms = readPropertyForms(manual);
     this.readText = readText;
   }
 
@@ -113,7 +113,7 @@ export class PropertyLanguage extends DependentLanguage {
    * @param {OpenText} openText
    */
   semanticTokens({ lines }) {
-    return colouredWords(lines, COLOURS.properties);
+    return colouredWords(lines, LINE_COLOURERS.properties);
   }
 
   /**

@@ -1,9 +1,9 @@
 // Handlers for an editor's requests about a test file. The parser of test files is testing/test_text.js.
 
 import { readSources } from "../testing/test_text.js";
-import { COLOURS } from "../text/test_colours.js";
+import { LINE_COLOURERS } from "../text/test_colours.js";
 import { FOLD_PATTERNS } from "../text/folding.js";
-import { completeTest, helpForTest, testForms } from "../text/test_words.js";
+import { completeTest, helpForTest, readTestForms } from "../text/test_words.js";
 import { DependentLanguage, locateError } from "./dependent_language.js";
 import { rangeInLine } from "./lsp_protocol.js";
 import { colouredWords } from "./token_codes.js";
@@ -48,7 +48,7 @@ export class TestLanguage extends DependentLanguage {
   constructor(engine, manual, findDependencies) {
     super(engine, findDependencies);
     this.foldPatterns = FOLD_PATTERNS.tests;
-    this.forms = testForms(manual);
+    this.forms = readTestForms(manual);
   }
 
   /**
@@ -117,7 +117,7 @@ export class TestLanguage extends DependentLanguage {
    * @param {OpenText} openText
    */
   semanticTokens({ lines }) {
-    return colouredWords(lines, COLOURS.tests);
+    return colouredWords(lines, LINE_COLOURERS.tests);
   }
 
   /**

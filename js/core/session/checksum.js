@@ -11,11 +11,11 @@ const REMAINDERS = Uint32Array.from({ length: 256 }, (_, value) => {
 
 /**
  * Returns the CRC remainder after one more byte.
- * @param {number} sum the CRC remainder before the byte
+ * @param {number} remainder the CRC remainder before the byte
  * @param {number} byte
  */
-function addByte(sum, byte) {
-  return (sum << 8) ^ REMAINDERS[((sum >>> 24) ^ byte) & 255];
+function addByte(remainder, byte) {
+  return (remainder << 8) ^ REMAINDERS[((remainder >>> 24) ^ byte) & 255];
 }
 
 /**
@@ -23,8 +23,8 @@ function addByte(sum, byte) {
  * @param {Uint8Array} bytes
  */
 export function checksum(bytes) {
-  let sum = 0;
-  for (let index = 0; index < bytes.length; index++) sum = addByte(sum, bytes[index]);
-  for (let remaining = bytes.length; remaining > 0; remaining = Math.floor(remaining / 256)) sum = addByte(sum, remaining & 255);
-  return ~sum >>> 0;
+  let remainder = 0;
+  for (let index = 0; index < bytes.length; index++) remainder = addByte(remainder, bytes[index]);
+  for (let length = bytes.length; length > 0; length = Math.floor(length / 256)) remainder = addByte(remainder, length & 255);
+  return ~remainder >>> 0;
 }

@@ -1,5 +1,5 @@
-// Draws the picture of an example for the gallery: the front panel that the board text describes. The program does not run for the picture.
-// Therefore the picture shows the first drawn lamp of each colour as on, and sample digits on a display.
+// Draws the picture of an example for the gallery: the front panel that the board text describes. Because the program does not run, the
+// picture shows the first drawn lamp of each colour as on, and sample digits on a display.
 
 import { partLineRanges } from "../bench/part_lines.js";
 import { Face } from "../board/face.js";
@@ -133,7 +133,7 @@ class Drawing {
  * @param {string} boardText
  * @returns {GalleryPicture}
  */
-export function galleryPicture(boardText) {
+export function drawGalleryPicture(boardText) {
   const drawing = new Drawing(boardText);
   drawing.drawGroups();
   drawing.drawGrid(drawing.face.grid.filter(({ lamp }) => lamp < drawing.lampCount));

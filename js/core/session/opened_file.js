@@ -25,14 +25,14 @@ export class UnusableFile extends Error {}
 
 /** The first bytes of a session file. */
 const SESSION_MAGIC = "MCS4BEN1";
-const IMAGE_FILES = /\.(bin|rom)$/i;
-const HEX_FILES = /\.(hex|ihx|ihex)$/i;
-const BOARD_FILES = /\.toml$/i;
-const TEST_FILES = /\.test$/i;
-const PROPERTY_FILES = /\.props$/i;
-const PROGRAM_FILES = /\.(asm|s|src|a4|4004)$/i;
+const IMAGE_FILE_NAME = /\.(bin|rom)$/i;
+const HEX_FILE_NAME = /\.(hex|ihx|ihex)$/i;
+const BOARD_FILE_NAME = /\.toml$/i;
+const TEST_FILE_NAME = /\.test$/i;
+const PROPERTY_FILE_NAME = /\.props$/i;
+const PROGRAM_FILE_NAME = /\.(asm|s|src|a4|4004)$/i;
 /** Matches the names of text files whose kind is not clear from the name: names without an extension, `.txt` and `.text`. */
-const TEXT_FILES = /(^[^.]*|\.(txt|text))$/i;
+const TEXT_FILE_NAME = /(^[^.]*|\.(txt|text))$/i;
 
 /**
  * Returns the error for a file that the bench cannot use.
@@ -76,18 +76,18 @@ function readTextsInLines(script) {
 }
 
 /**
- * Determines the kind of a text from the file name, or else from the text itself. Returns the text under this kind. For bench lines,
- * returns the texts in them.
+ * Determines the kind of a text from the file name, or else from the text itself. Returns the text in the property for this kind. If the
+ * text contains bench lines, returns the board and the program in them, and the other lines.
  * @param {string} name
  * @param {string} text
  * @returns {FileTexts}
  */
 function readTexts(name, text) {
   const noTexts = { board: null, program: null, tests: null, properties: null, lines: "" };
-  if (BOARD_FILES.test(name)) return { ...noTexts, board: text };
-  if (TEST_FILES.test(name)) return { ...noTexts, tests: text };
-  if (PROPERTY_FILES.test(name)) return { ...noTexts, properties: text };
-  if (PROGRAM_FILES.test(name)) return { ...noTexts, program: text };
+  if (BOARD_FILE_NAME.test(name)) return { ...noTexts, board: text };
+  if (TEST_FILE_NAME.test(name)) return { ...noTexts, tests: text };
+  if (PROPERTY_FILE_NAME.test(name)) return { ...noTexts, properties: text };
+  if (PROGRAM_FILE_NAME.test(name)) return { ...noTexts, program: text };
   if (/^[ \t]*(wire|asm)[ \t]*\r?$/m.test(text)) return readTextsInLines(text);
   if (/^([ \t]*([#;].*)?\r?\n)*[ \t]*test[ \t]+[^01\s]/.test(text)) return { ...noTexts, tests: text };
   if (/^[ \t]*\[\[?(rom|ram|chain|keys|lamp)\]\]?/m.test(text)) return { ...noTexts, board: text };
@@ -102,11 +102,11 @@ function readTexts(name, text) {
  */
 function readTextFile(name, text) {
   if (name === PROJECT_FILE) throw new UnusableFile(say.PROJECT_FILE_ALONE);
-  const kinds = [HEX_FILES, BOARD_FILES, PROGRAM_FILES, TEST_FILES, PROPERTY_FILES, TEXT_FILES];
+  const kinds = [HEX_FILE_NAME, BOARD_FILE_NAME, PROGRAM_FILE_NAME, TEST_FILE_NAME, PROPERTY_FILE_NAME, TEXT_FILE_NAME];
   if (!kinds.some((pattern) => pattern.test(name)) && !/^\s*(:|S)[0-9A-F]{9}/i.test(text)) {
     throw createUnusableFileError(say.UNKNOWN_TEXT_KIND);
   }
-  if (HEX_FILES.test(name) || /^\s*:[0-9A-F]{10}/i.test(text)) return { kind: "image", bytes: readHex(text) };
+  if (HEX_FILE_NAME.test(name) || /^\s*:[0-9A-F]{10}/i.test(text)) return { kind: "image", bytes: readHex(text) };
   if (/^\s*S[0-9][0-9A-F]{8}/.test(text)) return { kind: "image", bytes: readSRecords(text) };
   const texts = readTexts(name, text);
   for (const storedText of [texts.board, texts.program, texts.tests, texts.properties]) {
@@ -127,7 +127,7 @@ export function readOpenedFile(name, bytes) {
   if (isProject(bytes)) return { kind: "project" };
   const magic = new TextDecoder("latin1").decode(bytes.subarray(0, SESSION_MAGIC.length));
   if (magic === SESSION_MAGIC || /\.mcs$/i.test(name)) return { kind: "session" };
-  if (IMAGE_FILES.test(name)) return { kind: "image", bytes: readBytes(bytes) };
+  if (IMAGE_FILE_NAME.test(name)) return { kind: "image", bytes: readBytes(bytes) };
   const text = decodeText(bytes);
   if (text !== null && text.trim() !== "") return readTextFile(name, text);
   throw createUnusableFileError(text === null ? say.NOT_A_TEXT : say.EMPTY);

@@ -1,5 +1,5 @@
-// Reads and writes project files. A project file is a text file that contains the name of a project, the texts in the editors, and a
-// session file. The manual ("A project file") describes its lines. project_parts.js writes the same contents as files in a folder.
+// Reads and writes project files (`.mcsp`). A project file is a text file that contains the name of a project, the texts in the editors,
+// and a session file. The manual ("A project file") describes its lines. project_parts.js writes the same contents as files in a folder.
 
 import { checksum } from "./checksum.js";
 import { shortenName } from "./names.js";
@@ -194,8 +194,8 @@ function checkEnvelope(text) {
   if (!text.endsWith(`\n${LAST_LINE}\n`)) throw new InvalidProject(say.projectCutOff(LAST_LINE));
   const match = /^[^\n]*\ncksum (\d+)\n/.exec(text);
   if (!match) return;
-  const sum = checksum(new TextEncoder().encode(text.slice(match[0].length)));
-  if (sum !== Number(match[1])) {
+  const actualChecksum = checksum(new TextEncoder().encode(text.slice(match[0].length)));
+  if (actualChecksum !== Number(match[1])) {
     throw new InvalidProject(say.OTHER_CHECKSUM);
   }
 }
@@ -205,7 +205,7 @@ function checkEnvelope(text) {
  * of the texts that do not end with a line feed. Throws InvalidProject if a line is invalid.
  * @param {ProjectLineReader} lines
  */
-function readHead(lines) {
+function readLinesBeforeTexts(lines) {
   let name = "";
   const unendedWords = new Set();
   /** @type {SavedBreakpoint[]} */
@@ -226,7 +226,7 @@ function readHead(lines) {
 }
 
 /**
- * Reads the next text of a project, and returns it. Throws InvalidProject if the next line is not `word`.
+ * Reads the text that starts at the next line, and returns it. Throws InvalidProject if this line is not `word`.
  * @param {ProjectLineReader} lines
  * @param {Word} word
  * @param {Set<string>} unendedWords the words of the texts that do not end with a line feed
@@ -244,7 +244,7 @@ function readText(lines, word, unendedWords) {
  * @returns {TextsWithBreakpoints}
  */
 export function readTexts(lines, acceptsLongTexts = false) {
-  const { name, unendedWords, breakpoints, watched } = readHead(lines);
+  const { name, unendedWords, breakpoints, watched } = readLinesBeforeTexts(lines);
   const [boardText, programText] = [readText(lines, "wire", unendedWords), readText(lines, "asm", unendedWords)];
   const [testText, propertiesText] = (/** @type {Word[]} */ (["test", "properties"])).map((word) => (
     lines.nextLine === word ? readText(lines, word, unendedWords) : ""));
@@ -260,7 +260,7 @@ export function readTexts(lines, acceptsLongTexts = false) {
  * @param {ProjectLineReader} lines
  * @param {number} size the size of every session file in bytes
  */
-function readFile(lines, size) {
+function readSessionFile(lines, size) {
   const firstLineNumber = lines.index + 2;
   const file = new Uint8Array(size);
   let end = 0;
@@ -292,7 +292,7 @@ export function readProject(bytes, size, acceptsLongTexts = false) {
   lines.takeLine();
   if (CHECKSUM_LINE.test(lines.nextLine)) lines.takeLine();
   const texts = readTexts(lines, acceptsLongTexts);
-  const file = readFile(lines, size);
+  const file = readSessionFile(lines, size);
   if (lines.nextLine !== LAST_LINE) throw lines.createLineError(say.END_OF_FILE);
   lines.takeLine();
   if (lines.index !== lines.lines.length - 1) throw lines.createLineError(say.END_OF_FILE);

@@ -12,7 +12,7 @@ import * as say from "../../words/session.js";
  * @typedef {object} RomCallbacks
  * @property {(lines: string) => Promise<string[]>} ask Resolves to the bench's answers to queries.
  * @property {(lines: string) => Promise<string | null>} execute Executes bench lines that change the session. Resolves to the first answer.
- *   If this fails, reports the error and resolves to null.
+ *   If a line fails, reports the error and resolves to null.
  * @property {() => Promise<void>} stop Pauses the machine. Resolves when the machine is paused.
  */
 
@@ -26,7 +26,7 @@ export class RomFiles {
   }
 
   /** Resolves to the numbers of the ROMs on the board. */
-  async readChips() {
+  async readRomNumbers() {
     return readBoard(await this.callbacks.ask("board\n")).roms.map(({ chip }) => chip);
   }
 
@@ -37,8 +37,8 @@ export class RomFiles {
    * @param {Int16Array} bytes the bytes by address, NO_BYTE for an address without a byte
    */
   async load(name, bytes) {
-    const chips = await this.readChips();
-    const missingAddress = bytes.findIndex((byte, index) => byte !== NO_BYTE && !chips.includes(Math.floor(index / PAGE_BYTES)));
+    const romNumbers = await this.readRomNumbers();
+    const missingAddress = bytes.findIndex((byte, index) => byte !== NO_BYTE && !romNumbers.includes(Math.floor(index / PAGE_BYTES)));
     if (missingAddress >= 0) {
       const chip = Math.floor(missingAddress / PAGE_BYTES);
       throw new MissingRom(say.lacksRom(chip, hex(missingAddress, 3)));
@@ -54,19 +54,19 @@ export class RomFiles {
    * Resolves to the bytes of all ROMs on the board, by address. An address without a ROM has NO_BYTE, even if `list` reports a byte there.
    */
   async readBytes() {
-    const chips = await this.readChips();
-    const allBytes = parseRomBytes(await this.callbacks.ask(listQueries(PAGE_NUMBERS.filter((page) => chips.includes(page)))));
-    return allBytes.map((byte, index) => (chips.includes(Math.floor(index / PAGE_BYTES)) ? byte : NO_BYTE));
+    const romNumbers = await this.readRomNumbers();
+    const allBytes = parseRomBytes(await this.callbacks.ask(listQueries(PAGE_NUMBERS.filter((page) => romNumbers.includes(page)))));
+    return allBytes.map((byte, index) => (romNumbers.includes(Math.floor(index / PAGE_BYTES)) ? byte : NO_BYTE));
   }
 
   /** Resolves to the ROM contents in Intel HEX format; to "" if the board has no ROM. */
   async readHex() {
-    return (await this.readChips()).length === 0 ? "" : writeHex(await this.readBytes());
+    return (await this.readRomNumbers()).length === 0 ? "" : writeHex(await this.readBytes());
   }
 
   /** Resolves to the bytes from address 000 to the end of the last ROM on the board, with 0 for missing ROMs. */
   async readImage() {
-    const end = (Math.max(-1, ...(await this.readChips())) + 1) * PAGE_BYTES;
+    const end = (Math.max(-1, ...(await this.readRomNumbers())) + 1) * PAGE_BYTES;
     return Uint8Array.from((await this.readBytes()).subarray(0, end), (byte) => Math.max(0, byte));
   }
 }

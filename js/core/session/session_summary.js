@@ -8,8 +8,8 @@ import * as say from "../../words/session.js";
 /** @typedef {import("../bench/answers.js").Board} Board */
 
 /**
- * Returns the first sentence of the comment at the start of a board or program text; "" if there is none. Comment lines that describe the
- * front panel, and lines after them, do not count.
+ * Returns the first sentence of the comment at the start of a board or program text; "" if there is none. The comment ends before the first
+ * line that describes the front panel.
  * @param {string} text
  * @param {string} mark the character that starts a comment
  */

@@ -11,7 +11,7 @@ import { runTests } from "./test_suite.js";
  * @param {boolean} isGoal true if the property is a goal (`reach`)
  * @param {() => Promise<void>} yieldToMessages resolves after the event loop has handled waiting messages
  */
-export async function isConfirmed(engine, { boardText, programText }, test, isGoal, yieldToMessages) {
+export async function confirmsCounterexample(engine, { boardText, programText }, test, isGoal, yieldToMessages) {
   const { errors, outcomes } = await runTests(engine, { boardText, programText, testText: test }, async () => {
     await yieldToMessages();
     return true;

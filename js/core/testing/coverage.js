@@ -44,14 +44,14 @@ function listCoveredLines({ codes, startCounts, jumpCounts }, map) {
 }
 
 /**
- * Returns the subroutines that the JMS instructions in `lines` call, in ascending address order. Omits subroutines without a label.
+ * Returns the labelled subroutines that the JMS instructions in `lines` call, in ascending address order.
  * @param {ExecutionRecorder} recorder
  * @param {SourceMap} map
  * @param {LineCoverage[]} lines
  */
 function findSubroutines({ codes, startCounts }, map, lines) {
-  const calls = lines.map(({ line }) => map.addresses[line]).filter((address) => isCall(codes[address]));
-  const targets = [...new Set(calls.map((address) => jumpTarget(codes, address)))].sort((one, other) => one - other);
+  const callAddresses = lines.map(({ line }) => map.addresses[line]).filter((address) => isCall(codes[address]));
+  const targets = [...new Set(callAddresses.map((address) => jumpTarget(codes, address)))].sort((one, other) => one - other);
   return targets.filter((address) => map.labels.has(address)).map((address) => {
     const [label] = map.labelsAt(address);
     return { label, line: map.lineOfLabel(label), count: startCounts[address] };

@@ -17,7 +17,7 @@ const COUNT_WIDTH = 10;
 const DIRECTIONS_WIDTH = 13;
 
 /** @type {(jump: LineCoverage) => boolean} returns whether a conditional jump ran and always took the same direction */
-const isOneDirection = ({ isJump, count, jumpCount }) => isJump && count > 0 && (jumpCount === 0 || jumpCount === count);
+const isOneDirectionJump = ({ isJump, count, jumpCount }) => isJump && count > 0 && (jumpCount === 0 || jumpCount === count);
 
 /**
  * Returns the report row for a source line.
@@ -40,7 +40,7 @@ export function coverageText(coverage, { text, linesBefore }) {
   const rows = text.replace(/\n$/, "").split("\n").map((source, index) => formatRow(source, lineCoverage.get(index + 1)));
   const rangeTexts = coverage.unexecutedRanges.map(({ from, to }) => (
     from === to ? `${from + linesBefore}` : say.formatRange(from + linesBefore, to + linesBefore)));
-  const oneDirectionTexts = coverage.lines.filter(isOneDirection).map(({ line, jumpCount }) => (
+  const oneDirectionTexts = coverage.lines.filter(isOneDirectionJump).map(({ line, jumpCount }) => (
     say.describeDirection(line + linesBefore, jumpCount > 0)));
   const summaryLines = [
     "", formatCoverageSummary(coverage),

@@ -18,8 +18,8 @@ import * as say from "../../words/testing.js";
 const MAX_INSTRUCTIONS = 12;
 
 /**
- * Returns where the list starts: the index of the first listed action (`firstAction`), and the number of its first
- * cycles to skip (`skippedCycles`).
+ * Returns where the list starts: the index of the first listed action (`firstAction`), and the number of cycles at the start of this action
+ * that the list omits (`skippedCycles`).
  * @param {TestAction[]} actions
  */
 function findListedPart(actions) {
@@ -34,13 +34,13 @@ function findListedPart(actions) {
 }
 
 /**
- * Returns trace lines for the last instructions and commands of a test, followed by a line for the next instruction; an empty list if the
- * test has done nothing.
+ * Returns trace lines for the last instructions and commands of a test, followed by a line for the next instruction. Returns an empty list
+ * if the test has executed nothing.
  * @param {TestSession} session
  * @param {{ board: Board, map: SourceMap }} names
  * @returns {string[]}
  */
-export function lastInstructions(session, { board, map }) {
+export function traceLastInstructions(session, { board, map }) {
   const { engine, storedState } = session;
   const { laterActions } = storedState;
   if (laterActions.length === 0) return [];
@@ -51,10 +51,10 @@ export function lastInstructions(session, { board, map }) {
   engine.serve(file, laterActions.slice(0, firstAction).map(formatActionLines).join("") + skippedRunLines, file);
   let elapsed = storedState.elapsed + laterActions.slice(0, firstAction).reduce((sum, { cycles }) => sum + cycles, skippedCycles);
   const trace = new TraceLines(engine, board, new InstructionTexts({ map, source: null }));
-  const lines = trace.listSecondCycle(file, elapsed);
+  const lines = trace.traceSecondCycle(file, elapsed);
   laterActions.slice(firstAction).forEach(({ line, cycles }, index) => {
     const actionCycles = index === 0 ? cycles - skippedCycles : cycles;
-    if (line === "run") lines.push(...trace.runLines(file, actionCycles, elapsed));
+    if (line === "run") lines.push(...trace.traceRun(file, actionCycles, elapsed));
     else lines.push(`          ${line}`);
     engine.serve(file, line === "run" ? runLines(actionCycles) : `${line}\n`, file);
     elapsed += actionCycles;

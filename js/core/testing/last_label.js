@@ -1,5 +1,5 @@
-// Finds the last label that a test reached, and when. Repeats the whole test in pieces, and counts how often each instruction ran in each
-// piece.
+// Finds the last label that a test reached, and when the test reached it. To do so, repeats the whole test in pieces, and counts how often
+// each instruction ran in each piece.
 
 import { MAX_RUN_CYCLES } from "../engine/key_queue.js";
 import { ForecastAnswers, parseTraceLine } from "../engine/forecast_answers.js";
@@ -30,12 +30,12 @@ function* splitRuns(actions) {
 }
 
 /**
- * Returns the last instruction that the test executed at one of `addresses`; null if it executed no such instruction.
+ * Returns the last executed instruction of the test at any of `addresses`; null if the test executed no such instruction.
  * @param {TestSession} session
  * @param {Set<number>} addresses
  * @returns {PassedInstruction | null}
  */
-export function findLastPassed({ engine, initialFile, actions }, addresses) {
+export function findLastPassedInstruction({ engine, initialFile, actions }, addresses) {
   const file = initialFile.slice();
   const stateBefore = initialFile.slice();
   let [runCycles, elapsed, elapsedBefore] = [0, 0, 0];
@@ -59,20 +59,20 @@ export function findLastPassed({ engine, initialFile, actions }, addresses) {
 }
 
 /**
- * Describes the last label that the session reached, for the message about a condition that did not become true in time. If the condition
- * is an address, the text also says when the session last reached this address.
+ * Describes the last label that the session reached, for the error message if a condition did not become true in time. For a condition
+ * that is an address, the text also says when the session last reached this address.
  * @param {TestSession} session
  * @param {SourceMap} map
  * @param {Condition} condition
  */
 export function describeLastLabel(session, map, { address, text }) {
   const labels = [...map.names.values()].filter(({ isLabel }) => isLabel);
-  const passedLabel = findLastPassed(session, new Set(labels.map(({ value }) => value)));
+  const passedLabel = findLastPassedInstruction(session, new Set(labels.map(({ value }) => value)));
   const formatAge = (/** @type {PassedInstruction} */ { cycles }) => say.cyclesAgo(session.elapsed - cycles);
   const namedLabel = passedLabel && labels.find(({ value }) => value === passedLabel.address);
   const labelText = passedLabel && namedLabel ? say.lastLabel(namedLabel.name, formatAge(passedLabel)) : "";
   if (address < 0) return labelText;
-  const passedAddress = findLastPassed(session, new Set([address]));
-  const passText = passedAddress ? say.lastPassedAgo(formatAge(passedAddress)) : say.NOT_PASSED;
-  return say.lastLabelAndCondition(labelText, text.startsWith("@") ? text : `pc ${address}`, passText);
+  const passedAddress = findLastPassedInstruction(session, new Set([address]));
+  const arrivalText = passedAddress ? say.lastPassedAgo(formatAge(passedAddress)) : say.NOT_PASSED;
+  return say.lastLabelAndCondition(labelText, text.startsWith("@") ? text : `pc ${address}`, arrivalText);
 }

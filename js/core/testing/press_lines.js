@@ -10,8 +10,8 @@ import { listNamedKeys } from "./test_text.js";
  * The times in cycles for which each key stays down (`down`) and then up (`up`).
  * @typedef {{ down: number, up: number }} Pace
  *
- * The result of `pressLines`. If all names are keys, `lines` are the bench lines, and the last line queries the lamps. `unknownName` is
- * then null. Otherwise, `lines` is empty, and `unknownName` is the first name that is not a key.
+ * The result of `createPressLines`. If all names are keys, `lines` are the bench lines, of which the last queries the lamps, and
+ * `unknownName` is null. Otherwise, `lines` is empty, and `unknownName` is the first name that is not a key.
  * @typedef {{ lines: string[], unknownName: string | null }} PressLines
  */
 
@@ -26,7 +26,7 @@ export const DEFAULT_PACE = { down: TOOL_KEY_DOWN_CYCLES, up: TOOL_KEY_UP_CYCLES
  * @param {Pace} pace
  * @returns {PressLines}
  */
-export function pressLines(face, text, { down, up }) {
+export function createPressLines(face, text, { down, up }) {
   const keys = listNamedKeys(face);
   const names = text.split(/[ \t\n]+/).filter((word) => word !== "").flatMap((word) => (keys.has(word) ? [word] : [...word]));
   const unknownName = names.find((name) => !keys.has(name));

@@ -28,8 +28,8 @@ export class Printout {
   }
 
   /**
-   * Reads the answers to `queries`, which the bench gave before the run.
-   * @param {ForecastAnswers} answers
+   * Adds the codes that are printed in a run.
+   * @param {ForecastAnswers} answers the answers of the bench to `queries` before the run
    * @param {number} elapsed the cycles from the start of the test to the run
    */
   readAnswers(answers, elapsed) {

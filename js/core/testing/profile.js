@@ -11,7 +11,7 @@
  * @typedef {{ label: string, address: number, ownCycles: number, calls: CallCounts | null }} ProfileRow
  *
  * A profile. `total` is the total number of cycles. `rows` has a row for each label with cycles, and `keys` has an entry for each pressed
- * key. `earlierInstructionCycles` counts the cycles that tests spent on instructions started before the test.
+ * key. `earlierInstructionCycles` counts the cycles of instructions that had started before the test in which they ended.
  * @typedef {{ total: number, rows: ProfileRow[], earlierInstructionCycles: number, keys: (KeyTimes & { key: string })[] }} Profile
  */
 

@@ -39,8 +39,8 @@ function formatLabelRow({ label, address, ownCycles, calls }, total) {
  * @param {Profile["keys"][number]} times
  */
 function formatKeyRow({ key, presses, answered, first, last }) {
-  const times = [first, last].map((cycles) => ` ${formatCell(cycles, 10)}, ${formatCell(formatMilliseconds(cycles), 12)}`).join("");
-  return `${key.padEnd(LABEL_WIDTH)} ${formatCell(presses, 9)} ${formatCell(answered, 9)}${answered > 0 ? times : ""}`;
+  const timeColumns = [first, last].map((cycles) => ` ${formatCell(cycles, 10)}, ${formatCell(formatMilliseconds(cycles), 12)}`).join("");
+  return `${key.padEnd(LABEL_WIDTH)} ${formatCell(presses, 9)} ${formatCell(answered, 9)}${answered > 0 ? timeColumns : ""}`;
 }
 
 /**
@@ -49,14 +49,14 @@ function formatKeyRow({ key, presses, answered, first, last }) {
  */
 export function profileText({ total, rows, earlierInstructionCycles, keys }) {
   const [label, address, ownCycles, percent, calls, cyclesWithCalls, longestCall] = say.PROFILE_HEAD;
-  const head = [label.padEnd(LABEL_WIDTH), address.padEnd(4), formatCell(ownCycles, 10), formatCell(percent, 6), formatCell(calls, 9),
-    formatCell(cyclesWithCalls, 10), formatCell(longestCall, 10)].join(" ");
+  const labelTableHeader = [label.padEnd(LABEL_WIDTH), address.padEnd(4), formatCell(ownCycles, 10), formatCell(percent, 6),
+    formatCell(calls, 9), formatCell(cyclesWithCalls, 10), formatCell(longestCall, 10)].join(" ");
   const [key, presses, answered, first, last] = say.KEYS_HEAD;
-  const keysHead = [key.padEnd(LABEL_WIDTH), formatCell(presses, 9), formatCell(answered, 9), formatCell(first, 24),
+  const keyTableHeader = [key.padEnd(LABEL_WIDTH), formatCell(presses, 9), formatCell(answered, 9), formatCell(first, 24),
     formatCell(last, 24)].join(" ");
   return `${[
-    say.cyclesInTime(total, formatMilliseconds(total)), "", head, ...rows.map((row) => formatLabelRow(row, total)),
+    say.cyclesInTime(total, formatMilliseconds(total)), "", labelTableHeader, ...rows.map((row) => formatLabelRow(row, total)),
     ...(earlierInstructionCycles > 0 ? [`${say.BEGUN_BEFORE.padEnd(LOCATION_WIDTH)} ${formatShare(earlierInstructionCycles, total)}`] : []),
-    ...(keys.length > 0 ? ["", keysHead, ...keys.map(formatKeyRow)] : []),
+    ...(keys.length > 0 ? ["", keyTableHeader, ...keys.map(formatKeyRow)] : []),
   ].join("\n")}\n`;
 }

@@ -1,5 +1,5 @@
-// Recorders of the instructions, calls and key presses in a test. An ExecutionRecorder counts how often each instruction starts and jumps,
-// and its cycles. It also measures each call, and the time from a key press to a lamp change. The numbers come from the queries `count` and
+// Recorders of the instructions, calls and key presses in a test. An ExecutionRecorder counts the starts, the jumps and the cycles of each
+// instruction. It also measures each call, and the time from a key press to a lamp change. The numbers come from the queries `count` and
 // `trace`, which predict a run before it is executed. The subclasses record less, for tools that print no profile.
 
 import { ADDRESS_COUNT } from "../bench/rom_bytes.js";
@@ -34,7 +34,7 @@ export class ExecutionRecorder {
     this.startCounts = new Float64Array(ADDRESS_COUNT);
     this.jumpCounts = new Float64Array(ADDRESS_COUNT);
     this.cycleCounts = new Float64Array(ADDRESS_COUNT);
-    /** The cycles that tests spent on instructions that had started before the test. */
+    /** The cycles of instructions that had started before the test in which they ended. */
     this.earlierInstructionCycles = 0;
     /** The total cycles of the tests that have ended. */
     this.total = 0;
@@ -68,13 +68,13 @@ export class ExecutionRecorder {
   }
 
   /**
-   * Records a run from the answers to `queries`, which the bench gave before the run.
-   * @param {ForecastAnswers} answers
+   * Records a run.
+   * @param {ForecastAnswers} answers the answers of the bench to `queries` before the run
    * @param {number} elapsed the cycles from the start of the test to the run
-   * @param {() => ForecastAnswers} askAll returns a trace of all instructions in the run
+   * @param {() => ForecastAnswers} askAll returns the answer with a trace of all instructions in the run
    */
   recordRun(answers, elapsed, askAll) {
-    const callAndReturnCount = this.count(answers.takeCounts());
+    const callAndReturnCount = this.addCounts(answers.takeCounts());
     const lines = answers.takeTrace().lines;
     if (this.lastPress.key !== "") this.trackLampChanges(answers.takeTrace().lines, elapsed);
     // The short trace omits a JMS or BBL that does not change the return addresses. If a line is missing, a full trace is used instead.
@@ -85,7 +85,7 @@ export class ExecutionRecorder {
    * Counts the instructions in a run. Returns the number of calls and returns (JMS and BBL) in the run.
    * @param {InstructionCount[]} counts
    */
-  count(counts) {
+  addCounts(counts) {
     let callAndReturnCount = 0;
     for (const { address, startCount, jumpCount } of counts) {
       const code = this.codes[address];
@@ -110,8 +110,8 @@ export class ExecutionRecorder {
   }
 
   /**
-   * Tracks the calls and returns in trace lines. The call stack has three entries, so a fourth nested call overwrites the return address of
-   * the first call.
+   * Tracks the calls and returns in trace lines. The return stack has three entries, so a fourth nested call overwrites the return address
+   * of the first one.
    * @param {string[]} lines
    * @param {number} elapsed the cycles from the start of the test to the run
    */
@@ -127,8 +127,8 @@ export class ExecutionRecorder {
   }
 
   /**
-   * Ends the innermost call and adds its cycles to the counts of its routine. Ignores a recursive call, because the outer call of the same
-   * routine includes its cycles. If the test ends during the JMS, the call has 0 cycles.
+   * Ends the innermost call and adds its cycles to the counts of its routine. Ignores a recursive call, because the cycles of the outer
+   * call of the same routine include those of the recursive one. If the test ends during the JMS, the call has 0 cycles.
    * @param {number} time the time at which the call ends, in cycles
    */
   endInnermostCall(time) {
@@ -217,7 +217,7 @@ export class LineRecorder extends ExecutionRecorder {
    * @param {ForecastAnswers} answers
    */
   recordRun(answers) {
-    this.count(answers.takeCounts());
+    this.addCounts(answers.takeCounts());
   }
 }
 

@@ -37,12 +37,12 @@ async function findConditions(engine, { file, names: { face, board }, codes }, p
 }
 
 /**
- * Resolves to the sample test for a board and its program. If the texts have errors, or if the test fails with each condition, the test
- * only runs some cycles.
+ * Resolves to the sample test for a board and its program. If the texts have errors, or if the test would fail with any condition, the
+ * sample test only runs some cycles.
  * @param {Engine} engine
  * @param {Texts} texts
  */
-export async function sampleTest(engine, texts) {
+export async function createSampleTest(engine, texts) {
   const { prepared } = prepareTests(engine, texts);
   if (!prepared) return say.SAMPLE_OF_CYCLES;
   const [key = null] = listNamedKeys(prepared.names.face).values();

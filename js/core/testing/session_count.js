@@ -20,7 +20,7 @@ import { TestSession } from "./test_session.js";
  * all cycles ran).
  * @typedef {{ coverage: Coverage, profile: Profile, elapsed: number, stop: string }} SessionCounts
  *
- * The result of `countSession`. If the program has errors (`errors`), or if a byte in ROM differs from the program (`difference`), the
+ * The result of `measureSession`. If the program has errors (`errors`), or if a byte in ROM differs from the program (`difference`), the
  * session does not run, and `counts` is null.
  * @typedef {{ errors: ProjectTextError[], difference: ByteDifference | null, counts: SessionCounts | null }} SessionCountResult
  */
@@ -34,7 +34,7 @@ import { TestSession } from "./test_session.js";
  * @param {typeof ExecutionRecorder} [RecorderClass] the class of the recorder
  * @returns {Promise<SessionCountResult>}
  */
-export async function countSession(engine, state, programText, cycles, RecorderClass = ExecutionRecorder) {
+export async function measureSession(engine, state, programText, cycles, RecorderClass = ExecutionRecorder) {
   const startState = copyWithoutStops(engine, state);
   const codes = romCodes(engine, startState);
   const { errors, difference, map } = compareWithRom(engine, codes, programText);

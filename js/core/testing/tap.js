@@ -5,13 +5,13 @@ import * as say from "../../words/testing.js";
 /** @typedef {import("./test_run.js").Failure} Failure */
 /** @typedef {import("./test_run.js").Outcome} Outcome */
 
-export const TAP_HEAD = "TAP version 13";
+export const TAP_HEADER = "TAP version 13";
 
 /**
  * Formats text as a YAML string.
  * @param {string} text
  */
-export function yamlString(text) {
+export function formatYamlString(text) {
   return `"${text.replace(/\\/g, "\\\\").replace(/"/g, '\\"')}"`;
 }
 
@@ -19,7 +19,7 @@ export function yamlString(text) {
  * Returns the description of a test. Escapes `#`, which would start a TAP directive.
  * @param {string} name
  */
-export function tapDescription(name) {
+export function formatTapDescription(name) {
   return name.replace(/\\/g, "\\\\").replace(/#/g, "\\#");
 }
 
@@ -32,9 +32,11 @@ const stepLocation = ({ source, line }) => `${source}:${line}`;
  */
 function formatDiagnosis(failure) {
   const { text, words, file, cycles, lamps, registers, trace } = failure;
-  const lines = [say.tapMessage(yamlString(words)), say.tapLocation(yamlString(stepLocation(failure))), say.tapLine(yamlString(text))];
+  const lines = [
+    say.tapMessage(formatYamlString(words)), say.tapLocation(formatYamlString(stepLocation(failure))), say.tapLine(formatYamlString(text)),
+  ];
   if (file) {
-    lines.push(say.tapCycles(cycles), say.tapLamps(yamlString(lamps)), say.tapRegisters(yamlString(registers)));
+    lines.push(say.tapCycles(cycles), say.tapLamps(formatYamlString(lamps)), say.tapRegisters(formatYamlString(registers)));
     if (trace.length > 0) lines.push(say.TAP_TRACE, ...trace.map((line) => `  ${line}`));
   }
   return ["---", ...lines, "..."].map((line) => `  ${line}`);
@@ -46,24 +48,24 @@ function formatDiagnosis(failure) {
  * @param {number} number the number of the test, from 1
  * @param {number} total
  */
-export function testTap({ name, failure }, number, total) {
-  const head = number === 1 ? [TAP_HEAD, `1..${total}`] : [];
-  const result = `${failure ? "not ok" : "ok"} ${number} - ${tapDescription(name)}`;
-  return `${[...head, result, ...(failure ? formatDiagnosis(failure) : [])].join("\n")}\n`;
+export function formatTestTap({ name, failure }, number, total) {
+  const headerLines = number === 1 ? [TAP_HEADER, `1..${total}`] : [];
+  const result = `${failure ? "not ok" : "ok"} ${number} - ${formatTapDescription(name)}`;
+  return `${[...headerLines, result, ...(failure ? formatDiagnosis(failure) : [])].join("\n")}\n`;
 }
 
 /**
  * Returns the results of all tests in TAP.
  * @param {Outcome[]} outcomes
  */
-export function testsTap(outcomes) {
-  return outcomes.map((outcome, index) => testTap(outcome, index + 1, outcomes.length)).join("");
+export function formatTestsTap(outcomes) {
+  return outcomes.map((outcome, index) => formatTestTap(outcome, index + 1, outcomes.length)).join("");
 }
 
 /**
  * Returns a TAP comment with the location and error of a failed test, for users who watch the output; "" if the test passed.
  * @param {Outcome} outcome
  */
-export function failureLine({ name, failure }) {
+export function formatFailureLine({ name, failure }) {
   return failure ? `# ${stepLocation(failure)}: ${name}: ${failure.words}\n` : "";
 }

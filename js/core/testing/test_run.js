@@ -6,7 +6,7 @@ import { MAX_RUN_CYCLES } from "../engine/key_queue.js";
 import { ForecastAnswers, parseTraceLine, rowValues } from "../engine/forecast_answers.js";
 import { instructionCycles } from "../engine/rom_codes.js";
 import { TOOL_KEY_DOWN_CYCLES, TOOL_KEY_UP_CYCLES } from "../time/mcs4_time.js";
-import { lastInstructions } from "./last_instructions.js";
+import { traceLastInstructions } from "./last_instructions.js";
 import { describeLastLabel } from "./last_label.js";
 import { Printout } from "./printout.js";
 import { TestSession } from "./test_session.js";
@@ -36,7 +36,7 @@ import * as say from "../../words/testing.js";
  */
 
 /** The interval between two checks of the perceived display or of the printout, in cycles. */
-const CHECK_INTERVAL = 1000;
+const CHECK_INTERVAL_CYCLES = 1000;
 
 /**
  * Returns the location of a step, as the members `source`, `line` and `text` of a Failure.
@@ -70,7 +70,7 @@ export class TestRun {
     this.keyUpCycles = TOOL_KEY_UP_CYCLES;
     /** True if a test can change ROM. A test that starts at a saved state then reads the bytes in ROM again. */
     this.changesRom = true;
-    /** @type {(session: TestSession) => void} called with the session of each test at its end */
+    /** @type {(session: TestSession) => void} called at the end of each test, with its session */
     this.onEnd = () => {};
   }
 
@@ -93,7 +93,7 @@ export class TestRun {
     this.recorder.codes = this.prepared.codes;
     const printout = this.printer && new Printout(this.printer, startState.codes);
     const session = new TestSession(this.engine, startState.file, this.recorder, this.yieldToMessages, printout);
-    // The test that saved the state may have changed ROM.
+    // The test that saved the state can have changed ROM.
     if (from !== "" && this.changesRom) session.readCodes();
     this.keyDownCycles = TOOL_KEY_DOWN_CYCLES;
     this.keyUpCycles = TOOL_KEY_UP_CYCLES;
@@ -156,7 +156,7 @@ export class TestRun {
     return {
       cycles: session.elapsed, lamps: parseItems(stateValue(state, "lamps")).join(""), file: session.file.slice(),
       registers: `${registers} ret ${parseItems(stateValue(state, "ret")).join(" ")}`,
-      trace: lastInstructions(session, this.prepared.names),
+      trace: traceLastInstructions(session, this.prepared.names),
     };
   }
 
@@ -203,7 +203,7 @@ export class TestRun {
   }
 
   /**
-   * Describes where a session stopped because the next byte is not an instruction.
+   * Describes a stop before a byte that is not an instruction.
    * @param {TestSession} session
    */
   describeStop({ counter }) {
@@ -226,7 +226,7 @@ export class TestRun {
    * @param {ChosenKey} chosen
    * @returns {{ key: Key | undefined, message: string }}
    */
-  chooseKey(session, { word, place, probe, keys }) {
+  findSelectedKey(session, { word, place, probe, keys }) {
     const value = parseInt(rowValues(new ForecastAnswers(session.ask(`trace 1 ${probe}\n`)).takeTrace().row)[0], 16);
     const valueText = say.valuePrefix(place, value);
     if (keys.length > 0) return { key: keys[value], message: say.tooFewKeysMessage(valueText, word, formatQuantity(keys.length, "key")) };
@@ -245,18 +245,18 @@ export class TestRun {
    */
   async operateKeys(session, keys, kind) {
     for (const chosenKey of keys) {
-      const { key, message } = "word" in chosenKey ? this.chooseKey(session, chosenKey) : { key: chosenKey, message: "" };
+      const { key, message } = "word" in chosenKey ? this.findSelectedKey(session, chosenKey) : { key: chosenKey, message: "" };
       if (!key) return message;
       const { name, press, release } = key;
       if (kind !== "release") {
         session.executeCommand(press);
         this.recorder.recordPress(name, session.elapsed);
       }
-      const downMessage = kind === "keys" ? await this.runCycles(session, this.keyDownCycles) : "";
-      if (downMessage !== "") return downMessage;
+      const errorWhileDown = kind === "keys" ? await this.runCycles(session, this.keyDownCycles) : "";
+      if (errorWhileDown !== "") return errorWhileDown;
       if (kind !== "press") session.executeCommand(release);
-      const upMessage = kind === "keys" ? await this.runCycles(session, this.keyUpCycles) : "";
-      if (upMessage !== "") return upMessage;
+      const errorWhileUp = kind === "keys" ? await this.runCycles(session, this.keyUpCycles) : "";
+      if (errorWhileUp !== "") return errorWhileUp;
     }
     return "";
   }
@@ -308,7 +308,7 @@ export class TestRun {
     const { needs } = condition;
     if (needs.includes("lampForecast") || needs.includes("printed")) return this.runWithPeriodicChecks(session, condition, end);
     let stop = "end";
-    // A trace reports neither TEST nor `owed`. TEST does not change during a run, and the first cycle ends a pending instruction, so a
+    // A trace reports neither TEST nor `owed`. TEST does not change during a run, and `owed` is 0 after the first cycle. Therefore, a
     // condition without traced places is checked after one cycle.
     let pieceCycles = condition.places.length > 0 ? 1000 : 1;
     const extraValues = { ...session.readCondition(condition).extraValues, owed: "0" };
@@ -332,7 +332,7 @@ export class TestRun {
   async runWithPeriodicChecks(session, condition, end) {
     let stop = "end";
     while (session.elapsed < end && stop === "end") {
-      stop = await session.run(Math.min(CHECK_INTERVAL, end - session.elapsed));
+      stop = await session.run(Math.min(CHECK_INTERVAL_CYCLES, end - session.elapsed));
       if (session.checkAtInstructionEnd(condition).holds) break;
     }
     return stop;

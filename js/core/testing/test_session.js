@@ -22,7 +22,7 @@ import { ForecastAnswers, parseTraceLine, rowValues } from "../engine/forecast_a
  * @typedef {{ file: Uint8Array, elapsed: number, laterActions: TestAction[] }} StoredState
  */
 
-/** The number of cycles, at the end of a test, whose instructions can be listed. */
+/** The number of cycles at the end of a test for which a failure can list the instructions. */
 export const LISTABLE_CYCLES = 26;
 
 export class TestSession {
@@ -55,7 +55,7 @@ export class TestSession {
     this.spareBuffer = new Uint8Array(file.length);
     this.counter = 0;
     this.owed = "0";
-    this.readRegistersFrom(this.ask("regs\n")[0]);
+    this.storeRegisters(this.ask("regs\n")[0]);
     recorder.begin();
     this.beginsInSecondCycle = this.owed === "1";
   }
@@ -74,10 +74,10 @@ export class TestSession {
   }
 
   /**
-   * Stores the program counter, and whether an instruction still has a pending second cycle.
+   * Stores the program counter, and whether a second cycle is pending, from an answer of the bench.
    * @param {string} regs the answer to `regs`
    */
-  readRegistersFrom(regs) {
+  storeRegisters(regs) {
     const { counter, owed } = readCounter(regs);
     this.counter = parseInt(counter, 16);
     this.owed = owed;
@@ -91,7 +91,7 @@ export class TestSession {
     if (line === "reset" && this.owed === "1") this.subtractLastCycle();
     const [answer, regs] = this.engine.serve(this.file, `${line}\nregs\n`, this.file).answers;
     if (!answer.startsWith("ok ")) throw new Error(`the bench answered ${answer} to: ${line}`);
-    this.readRegistersFrom(regs);
+    this.storeRegisters(regs);
     this.storedState.laterActions.push({ line, cycles: 0 });
     this.actions.push({ line, cycles: 0 });
   }
@@ -135,7 +135,7 @@ export class TestSession {
       recorder.earlierInstructionCycles += 1;
     }
     [this.file, this.previousFile] = [previousFile, file];
-    this.readRegistersFrom(answers.take());
+    this.storeRegisters(answers.take());
     this.lastRunCycles = run.cycles;
     if (run.cycles >= LISTABLE_CYCLES) {
       const { file: previousBuffer } = this.storedState;
@@ -158,7 +158,7 @@ export class TestSession {
     else if (cycles > 0) this.actions.push({ line: "run", cycles });
   }
 
-  /** Subtracts the second cycle of the last instruction from the recorded cycles, because this cycle will not run. */
+  /** Subtracts one cycle from the recorded cycles of the last instruction, because its second cycle will not run. */
   subtractLastCycle() {
     if (this.lastRunCycles === 0 || !this.recorder.recordsTimes) return;
     const runLine = this.lastRunCycles > 1 ? `run ${this.lastRunCycles - 1}\n` : "";
@@ -168,15 +168,15 @@ export class TestSession {
   }
 
   /**
-   * Returns the values of the places that a condition reads (`values`), and the other values that it needs (`extraValues`).
+   * Returns the values of the places that a condition reads (`values`), and the other values that the condition needs (`extraValues`).
    * @param {Condition} condition
    * @returns {{ values: string[], extraValues: ExtraValues }}
    */
   readCondition({ places, needs }) {
     const lampForecast = needs.includes("lampForecast") ? this.ask(LAMPS_FORECAST_QUERY) : [];
     const needsKeys = needs.includes("keys");
-    const trace = places.length > 0 ? `trace 1 ${places.join(" ")}\n` : "";
-    const answers = new ForecastAnswers(this.ask(`${trace}regs\n${needsKeys ? "state\n" : ""}`));
+    const traceQuery = places.length > 0 ? `trace 1 ${places.join(" ")}\n` : "";
+    const answers = new ForecastAnswers(this.ask(`${traceQuery}regs\n${needsKeys ? "state\n" : ""}`));
     const values = places.length > 0 ? rowValues(answers.takeTrace().row) : [];
     const { owed, test } = readRegisters(answers.take());
     const keys = needsKeys ? stateValue(answers.take(), "keys") : "";
@@ -194,8 +194,8 @@ export class TestSession {
   }
 
   /**
-   * Checks, like `check`, a condition that must also be true at the end of the instruction, when `owed` is 0. All other effects of an
-   * instruction happen in its first cycle.
+   * Checks a condition like `check`, but the condition must also be true at the end of the instruction, when `owed` is 0. All other effects
+   * of an instruction happen in its first cycle.
    * @param {Condition} condition
    */
   checkAtInstructionEnd(condition) {

@@ -27,7 +27,7 @@ import { readSources } from "./test_text.js";
  * The options of a test run:
  * - `RecorderClass`: the class of the recorder. A subclass of ExecutionRecorder records less, so the profile or the coverage can be empty;
  * - `handleOutcome`: called with each outcome when its test ends;
- * - `handleTestEnd`: called with the session of each test at its end;
+ * - `handleTestEnd`: called at the end of each test, with its session;
  * - `selectedTest`: the test to run, after the tests that save its start state. Without this option, all tests run.
  * @typedef {{ RecorderClass?: typeof ExecutionRecorder, handleOutcome?: (outcome: Outcome, number: number, total: number) => void,
  *   handleTestEnd?: (session: import("./test_session.js").TestSession) => void,
@@ -38,7 +38,7 @@ import { readSources } from "./test_text.js";
  */
 
 /** The minimum time between two calls of `shouldContinue`, in milliseconds. */
-const YIELD_INTERVAL = 40;
+const YIELD_INTERVAL_MS = 40;
 
 /**
  * Parses the texts of a board, a program and its tests. Returns the prepared session and the tests, or the errors.
@@ -76,11 +76,11 @@ function findSavingTest(tests, { textNumber, from }) {
 }
 
 /**
- * Returns the wanted test, preceded by the tests that must run first to save its start state.
+ * Returns the wanted tests, each preceded by the tests that must run first to save its start state.
  * @param {Test[]} tests
  * @param {(test: Test) => boolean} isWanted
  */
-function addPrerequisites(tests, isWanted) {
+function selectWithPrerequisites(tests, isWanted) {
   /** @type {Set<Test>} */
   const selectedTests = new Set();
   for (let test = tests.find(isWanted); test && !selectedTests.has(test); test = findSavingTest(tests, test)) selectedTests.add(test);
@@ -108,14 +108,14 @@ export async function runTests(engine, texts, shouldContinue, options = {}) {
   const { sources = [] } = texts;
   const isSelected = selectedTest
     && ((/** @type {Test} */ { name, textNumber }) => name === selectedTest.name && sources[textNumber - 1].name === selectedTest.source);
-  const tests = isSelected ? addPrerequisites(allTests, isSelected) : allTests;
+  const tests = isSelected ? selectWithPrerequisites(allTests, isSelected) : allTests;
   if (!prepared) return { errors, outcomes: [], coverage: null, profile: null };
   const recorder = new RecorderClass(prepared.codes);
   /** @type {Outcome[]} */
   const outcomes = [];
   let lastYield = performance.now();
   const yieldToMessages = async () => {
-    if (performance.now() - lastYield < YIELD_INTERVAL) return;
+    if (performance.now() - lastYield < YIELD_INTERVAL_MS) return;
     if (!(await shouldContinue(outcomes.length, tests.length))) throw new CancelledError();
     lastYield = performance.now();
   };

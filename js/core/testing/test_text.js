@@ -46,7 +46,7 @@ import * as say from "../../words/testing.js";
 
 /** The maximum count in a `repeat` line, and the maximum number of lines that a test executes, including all repetitions. */
 const MAX_REPETITIONS = 100000;
-const MAX_LINES = 1000000;
+const MAX_EXECUTED_LINES = 1000000;
 
 /** The error for an invalid line, with the column at which the error starts. */
 class InvalidLineError extends Error {
@@ -203,7 +203,7 @@ class TestReader {
     const words = text.split(/[ \t]+/);
     if (words[0] === "test" || words[0] === "steps") {
       this.beginPart();
-      if (words[0] === "steps") this.beginShared(words, line);
+      if (words[0] === "steps") this.beginSharedSteps(words, line);
       else this.beginTest(text.replace(/^test[ \t]*/, ""), line);
     } else if (!this.hasBegun) {
       fail(say.beginsWithTest(text.slice(0, 60)));
@@ -238,7 +238,7 @@ class TestReader {
    * @param {string[]} words
    * @param {number} line
    */
-  beginShared(words, line) {
+  beginSharedSteps(words, line) {
     const name = words.length === 2 ? words[1] : "";
     const previousSteps = this.sharedSteps.get(name);
     this.steps = [];
@@ -270,14 +270,15 @@ class TestReader {
   }
 
   /**
-   * Adds lines to the number of executed lines, multiplied by the counts of the open repetitions. Fails if the number becomes too large.
+   * Adds lines to the number of executed lines. Counts each line as often as the open repetitions repeat it. Fails if the number becomes
+   * too large.
    * @param {number} addedCount the number of lines in the text
    */
-  addLines(addedCount) {
+  countExecutedLines(addedCount) {
     const previousCount = this.lineCount;
     this.lineCount += this.openRepeats.reduce((product, { times }) => product * times, addedCount);
     if (this.currentShared) this.currentShared.lineCount = this.lineCount;
-    if (previousCount <= MAX_LINES && this.lineCount > MAX_LINES) fail(say.TOO_MANY_LINES);
+    if (previousCount <= MAX_EXECUTED_LINES && this.lineCount > MAX_EXECUTED_LINES) fail(say.TOO_MANY_LINES);
   }
 
   /**
@@ -291,17 +292,17 @@ class TestReader {
     const step = { source: this.source, line, text, action: { kind: "mark" } };
     this.steps.push(step);
     if (words[0] === "repeat") {
-      const isCount = words.length === 2 && /^\d{1,6}$/.test(words[1]) && Number(words[1]) >= 1 && Number(words[1]) <= MAX_REPETITIONS;
-      const times = isCount ? Number(words[1]) : 1;
+      const isValidCount = words.length === 2 && /^\d{1,6}$/.test(words[1]) && Number(words[1]) >= 1 && Number(words[1]) <= MAX_REPETITIONS;
+      const times = isValidCount ? Number(words[1]) : 1;
       const outer = this.steps;
       this.steps = [];
       step.action = { kind: "repeat", times, steps: this.steps };
       this.openRepeats.push({ line, times, outer });
-      if (!isCount) fail(say.REPEAT_SYNTAX);
+      if (!isValidCount) fail(say.REPEAT_SYNTAX);
     } else if (words[0] === "do") {
       step.action = this.readDo(words);
     } else {
-      this.addLines(1);
+      this.countExecutedLines(1);
       step.action = this.readAction(words, text);
     }
   }
@@ -322,7 +323,7 @@ class TestReader {
       const explanation = say.knownSteps(usableNames.join(" "), name);
       return fail(say.noStepsMessage(name, explanation));
     }
-    this.addLines(shared.lineCount);
+    this.countExecutedLines(shared.lineCount);
     return { kind: "do", name, steps: shared.steps };
   }
 
@@ -335,7 +336,7 @@ class TestReader {
   readAction(words, text) {
     const [kind, ...operands] = words;
     const startColumn = kind.length;
-    if (kind === "from" || kind === "save") return this.readState(kind, operands);
+    if (kind === "from" || kind === "save") return this.readStateAction(kind, operands);
     if (kind === "press" || kind === "release" || kind === "keys") return this.readKeys(kind, operands);
     if (kind === "pace") return parsePace(operands);
     if (kind === "run") return { kind, cycles: parseExactDuration(operands) || fail(say.RUN_SYNTAX) };
@@ -347,12 +348,13 @@ class TestReader {
   }
 
   /**
-   * Parses `from` or `save`. Fails if the line is not allowed here, or if the state does not exist or exists already.
+   * Parses `from` or `save`. Fails if the line is not allowed here, if the state of `from` does not exist, or if that of `save` already
+   * exists.
    * @param {"from" | "save"} kind
    * @param {string[]} words
    * @returns {Action}
    */
-  readState(kind, words) {
+  readStateAction(kind, words) {
     const [stateName] = words;
     if (words.length !== 1) fail(say.stateSyntax(kind));
     if (kind === "save" && this.openRepeats.length > 0) fail(say.SAVED_ONCE);
@@ -382,8 +384,8 @@ class TestReader {
     const keys = words.flatMap((word) => {
       const key = this.keys.get(word) || this.parseChosenKey(word);
       if (key) return [key];
-      if (kind !== "keys") return [this.failForKey(word, word)];
-      return [...word].map((letter) => this.keys.get(letter) || this.failForKey(letter, word));
+      if (kind !== "keys") return [this.failForUnknownKey(word, word)];
+      return [...word].map((letter) => this.keys.get(letter) || this.failForUnknownKey(letter, word));
     });
     return { kind, keys };
   }
@@ -401,7 +403,7 @@ class TestReader {
     const knownPlace = parsePlace(place);
     const placeName = knownPlace ? knownPlace.name : place.toLowerCase();
     if (!/^(acc|cy|dcl|r\d+|(ram|st)\..+)$/.test(placeName) || list === "") return fail(say.CHOICE_SYNTAX);
-    const keys = list === undefined ? [] : list.split(",").map((name) => this.keys.get(name) || this.failForKey(name, name));
+    const keys = list === undefined ? [] : list.split(",").map((name) => this.keys.get(name) || this.failForUnknownKey(name, name));
     const { expression, error } = compileExpression(place, this.names);
     const { places: [probe] } = expression || fail(error);
     return { word, place: placeName, probe, keys };
@@ -413,10 +415,10 @@ class TestReader {
    * @param {string} word the word that contains the name
    * @returns {never}
    */
-  failForKey(name, word) {
+  failForUnknownKey(name, word) {
     const keyNames = [...this.keys.keys()].join(" ");
-    const what = word.length > name.length ? say.nameNorWord(name, word) : name;
-    return fail(say.noKeyMessage(what, keyNames));
+    const unknownNames = word.length > name.length ? say.nameNorWord(name, word) : name;
+    return fail(say.noKeyMessage(unknownNames, keyNames));
   }
 
   /**

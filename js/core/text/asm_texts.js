@@ -56,11 +56,11 @@ function createClearingTexts(addresses) {
   return groupIntoRanges(addresses).map(({ from, count }) => formatStatements(from, Array(count).fill(0), MAX_ZEROS_IN_LINE));
 }
 
-/** The number of characters that each text keeps free for statements that store one byte in each ROM. */
+/** The number of characters that each text keeps free for the result of `formatRomStatements`. */
 const RESERVED_LENGTH = PAGE_NUMBERS.length * formatStatements(0, [255], 1).length;
 
 /**
- * Returns statements that store the last byte of each ROM that only the other texts use.
+ * Returns statements that store one byte, the last one, in each ROM to which only the other texts store bytes.
  * @param {Int16Array} bytes the bytes by address; a negative number means no byte
  * @param {Set<number>} pages the ROMs to which this text stores bytes
  */
@@ -76,8 +76,8 @@ function formatRomStatements(bytes, pages) {
 }
 
 /**
- * Returns the `asm` texts that store bytes in ROM. If several texts are needed, each text stores at least one byte in every ROM that is
- * used. Therefore, if the board lacks one of these ROMs, the bench rejects all texts and not only some.
+ * Returns the `asm` texts that store bytes in ROM. If several texts are needed, each text stores at least one byte in every ROM that any of
+ * them uses. Therefore, if the board lacks one of these ROMs, the bench rejects all texts and not only some.
  * @param {Int16Array} bytes the bytes by address; a negative number means no byte
  * @returns {string[]}
  */
@@ -125,7 +125,7 @@ export function createProgramTexts(program, addresses) {
  * @param {Leftovers} leftovers
  * @param {string} counter the program counter, as text
  */
-export function describeAssembled({ size, remainingAddresses: remaining }, counter) {
+export function describeAssembledProgram({ size, remainingAddresses: remaining }, counter) {
   const first = remaining.length > 0 ? `0x${hex(remaining[0], 3)}` : "";
   const remainingNote = say.bytesRemainingMessage(formatQuantity(remaining.length, "byte"), remaining.length === 1, first);
   return say.bytesAssembledMessage(formatQuantity(size, "byte"), remaining.length > 0 ? ` ${remainingNote}` : "", counter);

@@ -30,7 +30,7 @@ export const MAX_NAME_LENGTH = 16;
  * @param {number} to
  * @returns {Word | null}
  */
-function trimWord(line, from, to) {
+function extractWord(line, from, to) {
   const text = line.slice(from, to);
   const trimmed = text.trim();
   if (trimmed === "") return null;
@@ -51,7 +51,7 @@ function splitOperands(line, from, to) {
   for (let index = from; index <= to;) {
     const comma = line.indexOf(",", index);
     const end = comma < 0 || comma > to ? to : comma;
-    words.push(trimWord(line, index, end) || { text: "", from: end, to: end });
+    words.push(extractWord(line, index, end) || { text: "", from: end, to: end });
     index = end + 1;
   }
   return words;
@@ -86,12 +86,12 @@ function splitLine(line) {
   const mark = line.indexOf(";");
   const comment = mark < 0 ? line.length : mark;
   const colon = /^[^:=,]*?:/.exec(line.slice(0, comment));
-  const label = colon ? trimWord(line, 0, colon[0].length - 1) : null;
+  const label = colon ? extractWord(line, 0, colon[0].length - 1) : null;
   const from = colon ? colon[0].length : 0;
   const equalsIndex = line.slice(0, comment).indexOf("=", from);
   if (equalsIndex >= 0) {
-    const value = trimWord(line, equalsIndex + 1, comment);
-    return { label: label || trimWord(line, from, equalsIndex), defines: true, head: null, operands: value ? [value] : [], comment };
+    const value = extractWord(line, equalsIndex + 1, comment);
+    return { label: label || extractWord(line, from, equalsIndex), defines: true, head: null, operands: value ? [value] : [], comment };
   }
   const match = /^\s*([^\s,]+)/.exec(line.slice(from, comment));
   if (!match) return { label, defines: false, head: null, operands: [], comment };

@@ -18,7 +18,7 @@ import * as say from "../../words/text.js";
  * Matches an unfinished value at the end of the text before the caret. The groups are its key, its opening quote ("" if there is none),
  * and the characters typed so far. The value can be in an open array.
  */
-const VALUE = /(\w+)\s*=\s*(?:\[(?:[^\][\]"]|"[^"\n]*")*)?("?)([\w.]*)$/;
+const UNFINISHED_VALUE = /(\w+)\s*=\s*(?:\[(?:[^\][\]"]|"[^"\n]*")*)?("?)([\w.]*)$/;
 
 /**
  * Returns the description of a signal line in the list of completions.
@@ -94,12 +94,12 @@ class BoardParts {
  * Returns the completions of a value.
  * @param {string} text the line that contains the caret
  * @param {number} column
- * @param {RegExpExecArray} value the match of VALUE
+ * @param {RegExpExecArray} valueMatch the match of UNFINISHED_VALUE
  * @param {{ list: CompletionItem[], isQuoted: boolean }} values
  * @returns {Completion}
  */
-function completeValue(text, column, value, { list, isQuoted }) {
-  const isQuoteOpen = value[2] !== "";
+function completeValue(text, column, valueMatch, { list, isQuoted }) {
+  const isQuoteOpen = valueMatch[2] !== "";
   if (isQuoteOpen && !isQuoted) return { from: column, to: column, list: [] };
   const closingQuote = isQuoted && text[column] !== "\"" ? "\"" : "";
   const openingQuote = isQuoted && !isQuoteOpen ? "\"" : "";
@@ -122,11 +122,11 @@ export function completeBoard(lines, line, column, tables) {
   if (/^\s*\[+\w*$/.test(textBefore)) return filterCompletions(text, column, toCompletions([...tables.keys()]));
   const table = tableAt(lines, line);
   const parts = new BoardParts(lines.map((lineText, number) => (number === line ? "" : lineText)).join("\n"));
-  // The array that contains the caret can start up to nine lines above.
+  // Finds an array around the caret only if the array starts at most nine lines above.
   const linesBefore = lines.slice(Math.max(0, line - 9), line).map((lineText) => lineText.slice(0, findCommentStart(lineText, "#")));
-  const value = VALUE.exec([...linesBefore, textBefore].join("\n").slice(-MAX_CHARACTERS_BEFORE_CARET));
-  const isInValue = value && (textBefore.includes(value[1]) || value[0].includes("["));
-  if (value && isInValue) return completeValue(text, column, value, parts.listValues(table, value[1]));
+  const valueMatch = UNFINISHED_VALUE.exec([...linesBefore, textBefore].join("\n").slice(-MAX_CHARACTERS_BEFORE_CARET));
+  const isInValue = valueMatch && (textBefore.includes(valueMatch[1]) || valueMatch[0].includes("["));
+  if (valueMatch && isInValue) return completeValue(text, column, valueMatch, parts.listValues(table, valueMatch[1]));
   const keys = tables.get(table) || new Map();
   const words = [...keys].map(([name, values]) => ({ text: name, description: values }));
   return text.trim() === "" ? { from: 0, to: column, list: [...words, ...parts.listTemplates()] } : filterCompletions(text, column, words);

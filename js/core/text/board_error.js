@@ -1,5 +1,5 @@
-// Describes the error that the bench reports for a board text. The bench names a table and a key. This module finds the position of the
-// table and the key with the parser of board texts. The valid values of each key come from the manual.
+// Describes the error that the bench reports for a board text. The bench names a table and a key. To find their positions, this module uses
+// the parser of board texts. The valid values of each key come from the manual.
 
 import { PART_KEYS, SIGNAL_LINE_NAMES, MAX_PARTS, MAX_COLUMNS, BITS_PER_CHIP, VALUE_RANGES, signalLines } from "../bench/board_form.js";
 import { findSimilarWords, formatSuggestion } from "./similar_words.js";
@@ -24,10 +24,10 @@ const NOT_TOML = 20;
 const UNKNOWN_KEY = 21;
 const MISSING_KEY = 22;
 const BAD_VALUE = 23;
-const DUPLICATE = 24;
+const DUPLICATE_PART = 24;
 const MISSING_LINE = 25;
 const WRONG_DIRECTION = 26;
-const TOO_MANY = 27;
+const TOO_MANY_PARTS = 27;
 /** The keys whose values are names of signal lines. */
 const LINE_KEYS = ["clock", "data", "line", "columns"];
 
@@ -94,9 +94,11 @@ class BoardErrorText {
     const syntaxError = this.text.errors.find((candidate) => candidate.line === line);
     if (syntaxError) return syntaxError;
     for (const keys of [this.text.keys, ...this.text.entries.map((entry) => entry.keys)]) {
-      const secondKey = keys.find((key) => key.line === line);
-      const first = keys.find(({ name }) => secondKey && name === secondKey.name);
-      if (secondKey && first && first !== secondKey) return createErrorAt(number, secondKey, say.alreadyThere(secondKey.name, first.line));
+      const repeatedKey = keys.find((key) => key.line === line);
+      const first = keys.find(({ name }) => repeatedKey && name === repeatedKey.name);
+      if (repeatedKey && first && first !== repeatedKey) {
+        return createErrorAt(number, repeatedKey, say.alreadyThere(repeatedKey.name, first.line));
+      }
     }
     return this.createWholeLineError(this.messageFor(number));
   }
@@ -126,10 +128,10 @@ class BoardErrorText {
     const { number, section, key: name } = this.error;
     if (number === MISSING_KEY) return say.lacksKeys(section, name);
     if (number === BAD_VALUE) return this.explainValues(value);
-    if (number === TOO_MANY && name === "") return say.tooManyTablesMessage(MAX_PARTS[section], section);
-    if (number === TOO_MANY) return say.tooManyColumnsMessage(MAX_COLUMNS);
+    if (number === TOO_MANY_PARTS && name === "") return say.tooManyTablesMessage(MAX_PARTS[section], section);
+    if (number === TOO_MANY_PARTS) return say.tooManyColumnsMessage(MAX_COLUMNS);
     if (!entry || !key || !value) return this.messageFor(number);
-    if (number === DUPLICATE) return say.alreadyThere(`${name} ${value.inner}`, this.findFirstLine(entry, key));
+    if (number === DUPLICATE_PART) return say.alreadyThere(`${name} ${value.inner}`, this.findDuplicateLine(entry, key));
     if (number === MISSING_LINE) return name === "rows" ? this.explainRows(entry) : this.explainMissingLine(String(value.inner));
     const { kind = "" } = this.lines.get(String(value.inner)) || {};
     return name === "columns" ? say.needsInput(String(value.inner)) : say.needsOutput(name, String(value.inner), kind === "bit");
@@ -143,8 +145,8 @@ class BoardErrorText {
     const { section, index, key } = this.error;
     const values = (this.tables.get(section) || new Map()).get(key);
     const inner = value ? value.inner : null;
-    const isLine = LINE_KEYS.includes(key) && typeof inner !== "object" && (key !== "columns" || value !== this.findWrongPart().key?.value);
-    if (isLine) return say.noLineNameMessage(String(inner));
+    const isSingleValue = typeof inner !== "object" && (key !== "columns" || value !== this.findWrongPart().key?.value);
+    if (LINE_KEYS.includes(key) && isSingleValue) return say.noLineNameMessage(String(inner));
     const isQuotedNumber = typeof inner === "string" && /^\d+$/.test(inner);
     if (isQuotedNumber && `${section}.${key}` in VALUE_RANGES) return say.needsNoQuotesMessage(key, inner);
     if (key) return values ? say.keyMustBe(key, values) : this.messageFor(BAD_VALUE);
@@ -186,7 +188,7 @@ class BoardErrorText {
    * @param {Entry | null} entry the table with the error
    * @param {Key} key
    */
-  findFirstLine(entry, key) {
+  findDuplicateLine(entry, key) {
     const first = this.entries.find((candidate) => candidate !== entry
       && candidate.keys.some(({ name, value }) => name === key.name && value.inner === key.value.inner));
     return first ? first.line : 1;

@@ -2,7 +2,7 @@
 // continues on the next line. Only the bench decides whether a board text is valid. This parser helps to explain why the bench rejects it.
 
 import { VALUE_RANGES } from "../bench/board_form.js";
-import { tomlWords } from "./toml_words.js";
+import { splitTomlWords } from "./toml_words.js";
 import * as say from "../../words/text.js";
 
 /**
@@ -52,7 +52,7 @@ class TomlSyntaxError extends Error {
 export class BoardReader {
   /** @param {string} text */
   constructor(text) {
-    this.words = tomlWords(text.split("\n"));
+    this.words = splitTomlWords(text.split("\n"));
     /** The index of the next word to read. */
     this.index = 0;
     /** @type {Entry[]} */
@@ -75,7 +75,7 @@ export class BoardReader {
   }
 
   /** @returns {End} the end of the last word that was read */
-  get lastEnd() {
+  get lastWordEnd() {
     const { line, to } = this.words[this.index - 1];
     return { line, to };
   }
@@ -198,8 +198,8 @@ export class BoardReader {
   readValue(key) {
     const { kind, text, line, from, to, error } = this.word;
     const range = { line, from, to };
-    if (this.isMark("[")) return { inner: this.readNested(() => this.readArray(key)), ...range, end: this.lastEnd };
-    if (this.isMark("{")) return { inner: this.readNested(() => this.readTable()), ...range, end: this.lastEnd };
+    if (this.isMark("[")) return { inner: this.readNested(() => this.readArray(key)), ...range, end: this.lastWordEnd };
+    if (this.isMark("{")) return { inner: this.readNested(() => this.readTable()), ...range, end: this.lastWordEnd };
     if (kind === "end") throw new TomlSyntaxError(this.word, say.valueMissing(key));
     if (kind === "punctuation" || kind === "bad") throw new TomlSyntaxError(this.word, error || say.noValueMessage(text));
     const inner = this.parseScalar(kind, text);
@@ -275,7 +275,7 @@ export class BoardReader {
       else if (!this.isMark("}")) throw new TomlSyntaxError(this.word, this.word.error || say.KEY_COMMA_MISSING);
     }
     this.index += 1;
-    return { table: "", line, from, to, keys, end: this.lastEnd };
+    return { table: "", line, from, to, keys, end: this.lastWordEnd };
   }
 }
 

@@ -40,8 +40,8 @@ export function toCompletions(words) {
 export function filterCompletions(line, column, words, typedPattern = /\w*$/) {
   const match = typedPattern.exec(line.slice(0, column));
   const typedText = match ? match[0] : "";
-  const lowerText = typedText.toLowerCase();
-  const matchingWords = words.filter(({ text }) => text.toLowerCase().startsWith(lowerText) && text !== typedText)
+  const lowerCaseText = typedText.toLowerCase();
+  const matchingWords = words.filter(({ text }) => text.toLowerCase().startsWith(lowerCaseText) && text !== typedText)
     .slice(0, MAX_COMPLETIONS);
   return { from: column - typedText.length, to: column, list: matchingWords };
 }

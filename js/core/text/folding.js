@@ -34,27 +34,27 @@ function isComment(text, { mark }) {
 }
 
 /**
- * Returns whether the head in a line starts an outer range. A head does so after a blank line or a comment. In a text without nested
- * ranges, each head starts an outer range.
+ * Returns whether the head in a line starts an outer range: a range that is not nested in another one. A head after a blank line or a
+ * comment starts an outer range. In a text without nested ranges, each head does.
  * @param {LineAt} lineAt
  * @param {number} line
  * @param {FoldPatterns} patterns
  */
-function isOuter(lineAt, line, patterns) {
+function startsOuterRange(lineAt, line, patterns) {
   const previousLine = line === 0 ? undefined : lineAt(line - 1);
   return !patterns.isNested || isBlank(previousLine) || isComment(previousLine, patterns);
 }
 
 /**
- * Returns whether the current range ends before a line.
+ * Returns whether the current foldable range ends before a line.
  * @param {LineAt} lineAt
  * @param {number} line
  * @param {FoldPatterns} patterns
- * @param {boolean} isOuterPart true if the current range is an outer range
+ * @param {boolean} isOuterRange true if the current range is an outer range
  */
-function endsBefore(lineAt, line, patterns, isOuterPart) {
+function isRangeEnd(lineAt, line, patterns, isOuterRange) {
   const text = lineAt(line) || "";
-  if (patterns.head.test(text)) return !isOuterPart || isOuter(lineAt, line, patterns);
+  if (patterns.head.test(text)) return !isOuterRange || startsOuterRange(lineAt, line, patterns);
   // An unindented comment after a blank line belongs to the next range, so the current range ends here.
   return text.startsWith(patterns.mark) && isBlank(lineAt(line - 1));
 }
@@ -74,8 +74,8 @@ export function findFoldEnd(lineAt, line, patterns) {
     return end;
   }
   if (!patterns.head.test(text)) return line;
-  const isOuterPart = isOuter(lineAt, line, patterns);
-  while (lineAt(end + 1) !== undefined && !endsBefore(lineAt, end + 1, patterns, isOuterPart)) end += 1;
+  const isOuterRange = startsOuterRange(lineAt, line, patterns);
+  while (lineAt(end + 1) !== undefined && !isRangeEnd(lineAt, end + 1, patterns, isOuterRange)) end += 1;
   while (isBlank(lineAt(end))) end -= 1;
   return end;
 }

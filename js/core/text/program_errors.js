@@ -66,14 +66,14 @@ export async function findProgramErrors(program, instructions, messageFor, queri
   const isTooLong = sendingErrors.some(({ number }) => number === TEXT_TOO_LONG);
   if (isTooLong) return { errors: sendingErrors, isComplete: false, generalRefusal: null };
   const lines = toAsciiComments(program, ";").split("\n");
-  const unsentLines = new Set(sendingErrors.map(({ line }) => line));
-  const sentProgram = lines.map((line, index) => (unsentLines.has(index + 1) ? "" : sentLine(line, ";"))).join("\n");
-  const rejectedLines = await queries.findLineErrors(sentProgram);
+  const unsendableLines = new Set(sendingErrors.map(({ line }) => line));
+  const sendableProgram = lines.map((line, index) => (unsendableLines.has(index + 1) ? "" : sentLine(line, ";"))).join("\n");
+  const rejectedLines = await queries.findLineErrors(sendableProgram);
   /** @type {KnownWords} */
   const knownWords = { instructions, names: findDefinedNames(lines) };
   const lineErrors = rejectedLines.map((error) => createLineError(lines, error, knownWords, messageFor));
   const errors = [...sendingErrors, ...lineErrors].sort((one, other) => one.line - other.line || one.from - other.from);
-  const generalRefusal = errors.length === 0 ? await queries.findRefusal(sentProgram) : null;
+  const generalRefusal = errors.length === 0 ? await queries.findRefusal(sendableProgram) : null;
   return { errors, isComplete: rejectedLines.length < MAX_ERRORS, generalRefusal };
 }
 
@@ -101,7 +101,7 @@ export function findMissingRoms(lines, map, roms) {
 
 /**
  * Returns whether a text is probably not a program: it has lines with code, and each of these lines has an error. If the list of errors is
- * incomplete, only the lines up to the last error count.
+ * incomplete, ignores the lines after the last error.
  * @param {string} program
  * @param {TextErrors} textErrors the errors in the text
  */

@@ -52,9 +52,9 @@ function findColumnAfter(text, column, { tabSize }) {
  */
 function formatGap(from, to, { tabSize, insertSpaces }) {
   if (insertSpaces || to - from < 2) return " ".repeat(to - from);
-  const lastStop = Math.floor(to / tabSize);
-  const tabCount = Math.max(0, lastStop - Math.floor(from / tabSize));
-  return "\t".repeat(tabCount) + " ".repeat(to - (tabCount > 0 ? lastStop * tabSize : from));
+  const lastTabStop = Math.floor(to / tabSize);
+  const tabCount = Math.max(0, lastTabStop - Math.floor(from / tabSize));
+  return "\t".repeat(tabCount) + " ".repeat(to - (tabCount > 0 ? lastTabStop * tabSize : from));
 }
 
 /**

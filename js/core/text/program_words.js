@@ -150,7 +150,7 @@ export function parseOperandKinds(form) {
  * @param {KnownWords} knownWords
  * @returns {WordError}
  */
-function findHeadError({ label, operands }, head, { instructions }) {
+function findFirstWordError({ label, operands }, head, { instructions }) {
   const upperCaseWord = head.text.toUpperCase();
   if (upperCaseWord === "WPM") return { word: head, message: say.NO_WPM };
   const definition = operands.length === 1 && NAME.test(head.text) && /^(?:EQU|SET)\s+(.*)$/i.exec(operands[0].text);
@@ -164,9 +164,9 @@ function findHeadError({ label, operands }, head, { instructions }) {
   }
   const hasNoOperands = isName && operands.length === 0;
   const similarWords = replacement ? [] : findSimilarWords(upperCaseWord, [...instructions.keys(), ...DIRECTIVES]);
-  const question = replacement ? `; ${replacement}?` : formatSuggestion(similarWords);
-  const message = say.noInstructionMessage(head.text, question || (hasNoOperands ? say.labelSyntax(head.text) : ""));
-  const quickFixTexts = hasNoOperands && !question ? [`${head.text}:`] : similarWords;
+  const questionText = replacement ? `; ${replacement}?` : formatSuggestion(similarWords);
+  const message = say.noInstructionMessage(head.text, questionText || (hasNoOperands ? say.labelSyntax(head.text) : ""));
+  const quickFixTexts = hasNoOperands && !questionText ? [`${head.text}:`] : similarWords;
   if (!replacement) return createError(head, message, quickFixTexts);
   const instructionTexts = replacement.split(" or ").filter((alternative) => /^[A-Z]+( \d+,?)?$/.test(alternative));
   return createError(head, message, instructionTexts.map(formatReplacement));
@@ -228,7 +228,7 @@ function findFormError(parts, knownWords) {
   const upperCaseWord = head.text.toUpperCase();
   if (DIRECTIVES.includes(upperCaseWord)) return findDirectiveError(head, operands, knownWords);
   const instruction = knownWords.instructions.get(upperCaseWord);
-  if (!instruction) return findHeadError(parts, head, knownWords);
+  if (!instruction) return findFirstWordError(parts, head, knownWords);
   const kinds = parseOperandKinds(instruction.form);
   if (kinds.length === 0) return { word: operands[0] || head, message: say.takesNothing(upperCaseWord) };
   for (let index = 0; index < Math.min(kinds.length, operands.length); index++) {
@@ -252,10 +252,10 @@ function findValueError({ head, operands, defines, label }, { instructions }) {
   const upperCaseWord = head.text.toUpperCase();
   const instruction = instructions.get(upperCaseWord);
   const kinds = instruction ? parseOperandKinds(instruction.form) : operands.map(() => (upperCaseWord === "ORG" ? "t" : "b"));
-  const values = operands.map((word, index) => ({ word, kind: OPERAND_KINDS[kinds[index] || "b"] }))
+  const valueOperands = operands.map((word, index) => ({ word, kind: OPERAND_KINDS[kinds[index] || "b"] }))
     .filter(({ kind }) => kind.maxValue > 0);
-  const tooLargeOperand = values.find(({ word, kind }) => NUMBER.test(word.text) && Number(word.text) > kind.maxValue);
-  const namedOperand = values.find(({ word }) => NAME.test(word.text));
+  const tooLargeOperand = valueOperands.find(({ word, kind }) => NUMBER.test(word.text) && Number(word.text) > kind.maxValue);
+  const namedOperand = valueOperands.find(({ word }) => NAME.test(word.text));
   const wrongOperand = tooLargeOperand || namedOperand;
   if (!wrongOperand) return null;
   const description = upperCaseWord === "ORG" ? say.ORG_ADDRESS : wrongOperand.kind.description;

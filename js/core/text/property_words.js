@@ -22,7 +22,7 @@ const SECTIONS = [say.INPUTS_TITLE, say.PROPERTIES_TITLE];
 /** Matches the first word of a line in which a condition follows that word. */
 const CONDITION_START = /^(never|always|reach)$/;
 /** The first words of the conditions that are allowed in tests but not in properties. */
-const TEST_WORDS = new Set(["cycles", "printed", "test", "key"]);
+const TEST_ONLY_WORDS = new Set(["cycles", "printed", "test", "key"]);
 /** The words that can follow a condition. */
 const WORDS_AFTER_CONDITION = ["for", "only after"];
 /**
@@ -40,16 +40,16 @@ const WORD_AFTER_TIME = "reaches";
  * @param {ManualSection[]} manual
  * @returns {PropertyForms}
  */
-export function propertyForms(manual) {
+export function readPropertyForms(manual) {
   const lines = SECTIONS.flatMap((title) => formsByTable(manual, title).flat());
-  return { lines, conditions: readConditionForms(manual).filter(({ word }) => !TEST_WORDS.has(word)) };
+  return { lines, conditions: readConditionForms(manual).filter(({ word }) => !TEST_ONLY_WORDS.has(word)) };
 }
 
 /**
  * Returns an initial properties text for a board.
  * @param {TestNames} names
  */
-export function createFirstProperties({ keys, lamps }) {
+export function createInitialProperties({ keys, lamps }) {
   const [lamp = "0"] = lamps;
   const firstLines = `${say.FIRST_PROPERTIES}${keys.length === 0 ? "test\n" : ""}`;
   return `${firstLines}wait 1 ms to 20 ms\nnote lamps\n\nreach lamp ${lamp} on\nreach lamp ${lamp} off\n`;
@@ -66,7 +66,7 @@ function findCondition(words) {
 }
 
 /**
- * Returns the possible next words in a line that starts with a label.
+ * Returns the words that can come next in a line that starts with a label.
  * @param {string[]} words the words of the line so far
  */
 function listWordsAfterLabel([, secondWord, ...laterWords]) {
@@ -75,8 +75,8 @@ function listWordsAfterLabel([, secondWord, ...laterWords]) {
 }
 
 /**
- * Returns the possible next words in a line that starts with `no`.
- * @param {string[]} words the words of the line after `no`, so far
+ * Returns the words that can come next in a line that starts with `no`.
+ * @param {string[]} words the words after `no` so far
  * @param {CompletionItem[]} labels
  */
 function listWordsAfterNo(words, labels) {
@@ -87,9 +87,9 @@ function listWordsAfterNo(words, labels) {
 }
 
 /**
- * Returns the possible next words in a line.
+ * Returns the words with which the user can complete the last word of a line.
  * @param {string[]} previousWords the words before the unfinished word
- * @param {string} unfinishedWord the unfinished word
+ * @param {string} unfinishedWord
  * @param {TestNames} names
  * @param {PropertyForms} forms
  * @returns {CompletionItem[]}

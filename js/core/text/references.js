@@ -1,4 +1,4 @@
-// Finds the references to a name in a program: its definition and its uses. Also checks whether a name can be changed to a new one.
+// Finds the references to a name in a program: its definition and its uses. Also checks whether a definition can get a new name.
 
 import { DIRECTIVES, MAX_NAME_LENGTH, NAME, PAIR, REGISTER, findDefinedNames, splitStatement, wordAt } from "./assembly.js";
 import * as say from "../../words/text.js";
@@ -41,8 +41,8 @@ export function findReferences(lines, name) {
 export function nameAt(lines, line, column) {
   const text = lines[line] || "";
   const word = wordAt(text, column);
-  const isName = word !== null && findReferencesInLine(text, line + 1, word.text).some(({ from }) => from === word.from);
-  return isName && findDefinedNames(lines).has(word.text) ? word.text : "";
+  const isProgramName = word !== null && findReferencesInLine(text, line + 1, word.text).some(({ from }) => from === word.from);
+  return isProgramName && findDefinedNames(lines).has(word.text) ? word.text : "";
 }
 
 /**
@@ -55,17 +55,18 @@ export function findDefinition(lines, name) {
 }
 
 /**
- * Returns the reason why a name cannot be changed to a new one; "" if it can.
+ * Returns the reason why a definition cannot get a new name; "" if it can.
  * @param {string[]} lines
  * @param {string} name the current name
  * @param {string} newName
  * @param {(word: string) => boolean} isInstruction returns whether an upper-case word is an instruction
  */
 export function findRenamingError(lines, name, newName, isInstruction) {
-  const upper = newName.toUpperCase();
+  const upperCaseName = newName.toUpperCase();
   if (!NAME.test(newName)) return say.NAME_RULE;
   if (newName.length > MAX_NAME_LENGTH) return say.newNameTooLongMessage(MAX_NAME_LENGTH, newName.length);
-  if (isInstruction(upper) || upper === "WPM" || DIRECTIVES.includes(upper)) return say.nameIsInstructionMessage(newName);
+  const isReserved = isInstruction(upperCaseName) || upperCaseName === "WPM" || DIRECTIVES.includes(upperCaseName);
+  if (isReserved) return say.nameIsInstructionMessage(newName);
   if (REGISTER.test(newName) || PAIR.test(newName)) return say.nameIsRegisterMessage(newName);
   const line = findDefinedNames(lines).get(newName);
   return newName !== name && line ? say.alreadyDefinedMessage(newName, line) : "";

@@ -67,7 +67,7 @@ export class Routines {
   }
 
   /**
-   * Returns the lines of the statements that can be executed after a statement in its routine. -1 means the end of the text.
+   * Returns the lines of the statements of a routine that can be executed directly after a statement; -1 stands for the end of the text.
    * @param {number} line the line of the statement
    */
   findSuccessors(line) {

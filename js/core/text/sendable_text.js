@@ -86,8 +86,8 @@ export function trimBlanks(text) {
 }
 
 /**
- * Returns a line in the form that is sent. Code that is only a dot gets a leading blank, because a line with only a dot ends the text. A
- * line that is itself only a dot stays as it is; `findSendingErrors` reports it.
+ * Returns a line as it is sent to the bench, without its comment. Code that is only a dot gets a leading blank, because a line with only a
+ * dot ends the text. A line that is only a dot stays unchanged; `findSendingErrors` reports it.
  * @param {string} line
  * @param {CommentMark} mark
  */
@@ -120,8 +120,8 @@ export function toAsciiComments(text, mark) {
 }
 
 /**
- * Returns a text in the form that is sent. A board text with a multi-line string keeps its blanks and comments, because they can be part of
- * the string.
+ * Returns a text as it is sent to the bench. A board text with a multi-line string keeps its blanks and comments, because they can be part
+ * of the string.
  * @param {string} text
  * @param {CommentMark} mark
  */
@@ -148,7 +148,7 @@ function describeCharacter(character) {
 /**
  * Returns the error in a line that cannot be sent; null if the line can be sent.
  * @param {string} line the line, with the same columns as in the original text
- * @param {string} lineToSend the line in the form that is sent
+ * @param {string} lineToSend the line as it is sent to the bench
  * @param {number} lineNumber
  * @returns {TextError | null}
  */
@@ -169,7 +169,7 @@ function findSendingErrorInLine(line, lineToSend, lineNumber) {
  * Returns whether a fast check shows that all lines of a text can be sent. If not, each line needs the slower check of
  * `findSendingErrorInLine`.
  * @param {string} text
- * @param {string[]} sentLines the lines in the form that is sent
+ * @param {string[]} sentLines the lines as they are sent to the bench
  */
 function passesFastCheck(text, sentLines) {
   return !/[^\t\n\r -~]/.test(text) && sentLines.every((line) => line.length <= MAX_LINE_LENGTH && line !== ".");

@@ -10,7 +10,7 @@ import { KEYWORDS } from "../conditions/parser.js";
 /**
  * The description of a language:
  * - `first` matches the keywords that can start a line; `otherKeywords` contains the keywords that can follow;
- * - `nameKeyword` is the first word of a line whose rest is a name; "" for none;
+ * - `nameKeyword` is the first word of a line that continues with a name; "" for none;
  * - `uncommentedStart` matches the first words of lines in which no comment can follow;
  * - `startsWithCondition` is true if a line can start with a condition.
  */
@@ -77,7 +77,7 @@ function colourLine(line, language) {
 }
 
 /** The functions that return the styled ranges of a line, by kind of text. */
-export const COLOURS = {
+export const LINE_COLOURERS = {
   tests: (/** @type {string} */ line) => colourLine(line, TEST_LANGUAGE),
   properties: (/** @type {string} */ line) => colourLine(line, PROPERTY_LANGUAGE),
 };

@@ -53,7 +53,7 @@ export function readConditionForms(manual) {
  * @param {ManualSection[]} manual
  * @returns {TestForms}
  */
-export function testForms(manual) {
+export function readTestForms(manual) {
   const [steps] = formsByTable(manual, say.LINES_OF_TEST);
   return { steps: steps || [], conditions: readConditionForms(manual) };
 }
@@ -69,9 +69,9 @@ export function listFirstWords(forms) {
 }
 
 /**
- * Returns the possible next words in a line.
+ * Returns the words with which the user can complete the last word of a line.
  * @param {string[]} previousWords the words before the unfinished word
- * @param {string} unfinishedWord the unfinished word
+ * @param {string} unfinishedWord
  * @param {TestNames} names
  * @param {TestForms} forms
  * @returns {CompletionItem[]}
@@ -89,7 +89,7 @@ function listNextWords(previousWords, unfinishedWord, { keys, lamps, labels }, f
 const CONJUNCTIONS = new Set(["and", "or", "&&", "||"]);
 
 /**
- * Returns the possible next words in a condition.
+ * Returns the words that can come next in a condition.
  * @param {string[]} previousWords the words of the condition so far
  * @param {TestNames} names
  * @param {Form[]} conditions the forms of conditions
@@ -112,7 +112,8 @@ export function listNextConditionWords(previousWords, { keys, lamps, labels }, c
  * Returns the completions of the unfinished word before the caret.
  * @param {string} line
  * @param {number} column the column of the caret
- * @param {(previousWords: string[], unfinishedWord: string) => CompletionItem[]} findWords returns the possible next words
+ * @param {(previousWords: string[], unfinishedWord: string) => CompletionItem[]} findWords returns the words that can complete the
+ *   unfinished word
  * @returns {Completion}
  */
 export function completeWord(line, column, findWords) {

@@ -29,10 +29,10 @@ import { toAsciiComments, findSendingErrors, sentText } from "./sendable_text.js
 const LAST_TEXT_REFUSAL = 42;
 
 /**
- * Returns a refusal if its cause is an error in a board or program text; otherwise null.
+ * Returns the refusal if its cause is an error in a board or program text; otherwise null.
  * @param {Refusal | null} refusal
  */
-export function textRefusalOrNull(refusal) {
+export function toTextRefusal(refusal) {
   return refusal && refusal.number <= LAST_TEXT_REFUSAL ? refusal : null;
 }
 

@@ -61,10 +61,10 @@ export function helpForProgram(lines, line, column, instructions, meaningOf) {
   const word = wordAt(text, column);
   const { comment } = splitStatement(text);
   if (!word || word.from >= comment) return "";
-  const upper = word.text.toUpperCase();
-  const instruction = instructions.get(upper);
+  const upperCaseWord = word.text.toUpperCase();
+  const instruction = instructions.get(upperCaseWord);
   if (instruction) return describeInstruction(instruction);
-  if (describeDirective(upper)) return describeDirective(upper);
+  if (describeDirective(upperCaseWord)) return describeDirective(upperCaseWord);
   if (REGISTER.test(word.text) || PAIR.test(word.text)) return describeRegister(word.text);
   const meaning = meaningOf(word.text);
   if (meaning) return meaning;
@@ -77,7 +77,7 @@ export function helpForProgram(lines, line, column, instructions, meaningOf) {
  * @param {ManualSection[]} manual
  * @returns {Map<string, Map<string, string>>}
  */
-export function boardTables(manual) {
+export function readBoardTables(manual) {
   /** @type {Map<string, Map<string, string>>} */
   const tables = new Map();
   let keys = new Map();
@@ -92,16 +92,16 @@ export function boardTables(manual) {
 }
 
 /**
- * Returns the name of the table that contains a line of a board text; "" before the first table. An open bracket after `columns =` does not
- * start a table.
+ * Returns the name of the table that contains a line of a board text; "" before the first table. The opening bracket after `columns =`
+ * starts an array and not a table.
  * @param {string[]} lines
  * @param {number} line the line number from 0
  */
 export function tableAt(lines, line) {
   for (let lineIndex = line; lineIndex >= 0; lineIndex--) {
     const text = lines[lineIndex];
-    const header = /^\s*\[+\s*([\w-]+)\s*\]+/.exec(text) || /^\s*(?!columns\b)([\w-]+)\s*=\s*(\[\s*$|\[?\s*\{)/.exec(text);
-    if (header) return header[1];
+    const headerMatch = /^\s*\[+\s*([\w-]+)\s*\]+/.exec(text) || /^\s*(?!columns\b)([\w-]+)\s*=\s*(\[\s*$|\[?\s*\{)/.exec(text);
+    if (headerMatch) return headerMatch[1];
   }
   return "";
 }

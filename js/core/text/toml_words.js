@@ -45,7 +45,7 @@ function parseWord(text, line, from) {
  * @param {string[]} lines
  * @returns {TomlWord[]}
  */
-export function tomlWords(lines) {
+export function splitTomlWords(lines) {
   /** @type {TomlWord[]} */
   const words = [];
   lines.forEach((rawLine, index) => {

@@ -1,5 +1,5 @@
-// Counts the cycles of a session: since the last reset, since the last stop, and between two marks. Also formats a number of cycles with
-// the time that a real 4004 takes for it.
+// Counts the cycles of a session: since the last reset, since the last stop, and between two marks. Also formats a number of cycles,
+// together with its duration on a real 4004.
 
 import { formatQuantity } from "../bench/numbers.js";
 import { CYCLE_US } from "./mcs4_time.js";
@@ -39,12 +39,12 @@ export class Cycles {
     this.reset = reset;
     this.from = from;
     this.marks = marks;
-    /** True if the session is paused. The next cycles are then the start of another run. */
+    /** True if the session is paused. The next cycles then start another run. */
     this.isPaused = true;
   }
 
   /**
-   * Stores the cycle counts that the bench reports. If the total has changed while the session was paused, a new run has started.
+   * Stores the cycle counts that the bench reports. If the session was paused and the total has changed, a new run has started.
    * @param {{ total: number, reset: number }} counts the number of cycles so far, and this number at the last reset
    */
   update({ total, reset }) {
@@ -61,7 +61,7 @@ export class Cycles {
     this.isPaused = true;
   }
 
-  /** Sets the first or the second mark. A third mark replaces both. */
+  /** Adds a mark at the current cycle. If two marks are already set, removes them first. */
   addMark() {
     this.marks = this.marks.length === 1 ? [...this.marks, this.total] : [this.total];
   }

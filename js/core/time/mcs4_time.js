@@ -15,13 +15,13 @@ export const FRAME_CYCLES = 1543;
 
 /** The time constant of human vision: after this time, the eye perceives 63 % (1 - 1/e) of a change in brightness. */
 export const EYE_PERSISTENCE_MS = 30;
-export const EYE_CYCLES = 2778;
+export const EYE_PERSISTENCE_CYCLES = 2778;
 
 /** The minimum time for which a key on the page is down (43 ms), and then up (22 ms). */
 export const KEY_DOWN_CYCLES = 4000;
 export const KEY_UP_CYCLES = 2000;
 /**
- * The time for which a key in tests and tools is down (43 ms), and then up (173 ms). These times are long enough for a program that polls
+ * The times for which tests and tools hold a key down (43 ms), and then leave it up (173 ms). They are long enough for a program that polls
  * its keys.
  */
 export const TOOL_KEY_DOWN_CYCLES = 4000;

@@ -12,7 +12,7 @@ export const MIN_GAP_MS = 1000;
 
 export class RealTime {
   /**
-   * Starts at a time at which no cycles are due.
+   * Starts with no cycles due.
    * @param {number} now the frame clock in milliseconds
    * @param {number} wall the wall clock in milliseconds; it continues while the computer sleeps
    */
@@ -32,7 +32,7 @@ export class RealTime {
   }
 
   /**
-   * Restarts at a time at which no cycles are due. Forgets cycles that were simulated early.
+   * Restarts with no cycles due. Forgets cycles that were simulated early.
    * @param {number} now
    * @param {number} wall
    */

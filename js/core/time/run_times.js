@@ -15,7 +15,7 @@ import * as say from "../../words/time.js";
 
 const REFUSAL = /^no \d/;
 /** Matches an answer to `regs` or `state`, and captures the program counter. */
-const COUNTER = /^(?:acc|state seq) .*?\bpc ([0-9A-F]+)/;
+const COUNTER_ANSWER = /^(?:acc|state seq) .*?\bpc ([0-9A-F]+)/;
 
 /**
  * Returns a number of cycles with its time in microseconds.
@@ -27,15 +27,15 @@ function formatRunTime(cycles) {
 }
 
 /**
- * Returns the durations of the runs in a range of answers, and where the runs stopped. The result has an error message if an answer in the
- * range rejects a line, if the range contains no run, or if there are fewer than `lastAnswer` answers.
+ * Returns the duration of each run in a range of answers, and where or why the run stopped. The result has an error message if an answer
+ * in the range rejects a line, if the range contains no run, or if there are fewer than `lastAnswer` answers.
  * @param {string[]} answers
  * @param {number} firstAnswer the number of the first answer to use, from 1
  * @param {number} lastAnswer the number of the last answer to use, or 0 to use all answers up to the end of the list
- * @param {PlaceDescriber | null} describePlace null to say why each run stopped instead of where
+ * @param {PlaceDescriber | null} describePlace describes where a run stopped; null to report why it stopped instead
  * @returns {RunTimes}
  */
-export function runTimes(answers, firstAnswer, lastAnswer, describePlace) {
+export function listRunTimes(answers, firstAnswer, lastAnswer, describePlace) {
   const createErrorResult = (/** @type {string} */ message) => ({ runs: [], sum: "", message });
   let cycles = 0;
   /** @type {{ time: string, stop: string, place: string }[]} */
@@ -53,7 +53,7 @@ export function runTimes(answers, firstAnswer, lastAnswer, describePlace) {
         lacksPlace = true;
       }
     }
-    const [, counter = ""] = (lacksPlace && describePlace && COUNTER.exec(answer)) || [];
+    const [, counter = ""] = (lacksPlace && describePlace && COUNTER_ANSWER.exec(answer)) || [];
     if (counter !== "" && describePlace) {
       runs[runs.length - 1].place = describePlace(counter);
       lacksPlace = false;

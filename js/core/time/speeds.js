@@ -43,13 +43,13 @@ export function findSpeed(id) {
  * Returns whether a speed is low enough for the user to follow the marker at the current source line.
  * @param {Speed} speed
  */
-export function canFollowLine({ slowdown, isByInstruction }) {
+export function canUserFollowLine({ slowdown, isByInstruction }) {
   return isByInstruction || slowdown >= 100;
 }
 
 /**
- * Returns whether a click on a key toggles the key, as it does while the session is paused. This is necessary at a speed at which the
- * program could not detect a short press.
+ * Returns whether a click on a key toggles the key, as it does while the session is paused. At such a low speed, a click would otherwise be
+ * too short for the program to detect.
  * @param {Speed} speed
  */
 export function togglesKeys({ slowdown, isByInstruction }) {

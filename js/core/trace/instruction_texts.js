@@ -103,12 +103,13 @@ export class InstructionTexts {
   formatInstruction(address, listingLine) {
     const { codes, names } = this;
     const isWrapped = address === LAST_ADDRESS && instructionWords(codes[address]) === 2;
-    const completeLine = isWrapped ? formatWrapped(codes[address], codes[0]) : listingLine;
-    if (!names) return { label: "", text: `${completeLine.padEnd(this.width)}  ` };
-    const text = this.replaceWithSource(this.replaceTarget(completeLine), address);
+    const fullListingLine = isWrapped ? formatWrapped(codes[address], codes[0]) : listingLine;
+    if (!names) return { label: "", text: `${fullListingLine.padEnd(this.width)}  ` };
+    const text = this.replaceWithSource(this.replaceTarget(fullListingLine), address);
     const [label = ""] = names.map.labelsAt(address);
-    const isInSource = names.source && names.map.beginsInstruction(address) && names.map.lineOfLabel(label) === names.map.lineOf(address);
-    return { label: label === "" || isInSource ? "" : `          ${label}:\n`, text: `${text.padEnd(this.width)}  ` };
+    const isLabelInSourceLine = names.source && names.map.beginsInstruction(address)
+      && names.map.lineOfLabel(label) === names.map.lineOf(address);
+    return { label: label === "" || isLabelInSourceLine ? "" : `          ${label}:\n`, text: `${text.padEnd(this.width)}  ` };
   }
 
   /**

@@ -1,4 +1,4 @@
-// Traces a session from its current state. Runs a copy of the state in pieces.
+// Traces a session from its current state. Runs a copy of the session in pieces.
 
 import { readBoard, readRun } from "../bench/answers.js";
 import { MAX_RUN_CYCLES } from "../engine/key_queue.js";
@@ -19,13 +19,13 @@ import * as say from "../../words/trace.js";
 /** The length of the first piece, and of all other pieces, in cycles. The first piece is short, so that the first lines appear soon. */
 const FIRST_PIECE_CYCLES = 500;
 const PIECE_CYCLES = 10000;
-/** The word in a `run` answer that means that all cycles ran. */
+/** The word in a `run` answer if all cycles ran. */
 const RAN_TO_END = "end";
 
 /**
  * Runs a session from a state. Resolves to the number of cycles that ran, and the reason for the stop (`end` if all cycles ran).
  * @param {EngineHost} engine
- * @param {State} state the state, which becomes the state after the run
+ * @param {State} state the state at the start, which the run changes
  * @param {number} cycles the maximum number of cycles
  * @param {YieldToMessages} yieldToMessages
  */
@@ -87,7 +87,7 @@ export class SessionTrace {
 
   /**
    * Yields lists with the trace lines of a range of cycles. If the session stops, the last line is the instruction at the stop.
-   * @param {State} state the state at the start of the range, which becomes the state at its end
+   * @param {State} state the state at the start of the range, which the runs change to the state at the end of the range
    * @param {{ from: number, to: number, end: string }} range the range, in cycles after the start state; `end` is the reason for the stop
    *   at the end of the range
    * @param {TraceNames | null} names
@@ -96,10 +96,10 @@ export class SessionTrace {
     const { engine, board } = this;
     const trace = new TraceLines(engine, board, new InstructionTexts(names));
     let stop = { elapsed: from, end };
-    yield trace.listSecondCycle(state, from);
+    yield trace.traceSecondCycle(state, from);
     for (let piece = FIRST_PIECE_CYCLES; stop.elapsed < to && stop.end === end; piece = PIECE_CYCLES) {
       const count = Math.min(piece, to - stop.elapsed);
-      yield trace.runLines(state, count, stop.elapsed);
+      yield trace.traceRun(state, count, stop.elapsed);
       const run = await runState(engine, state, count, this.yieldToMessages);
       const pieceEnd = stop.elapsed + run.cycles;
       stop = { elapsed: pieceEnd, end: pieceEnd < to ? run.end : end };

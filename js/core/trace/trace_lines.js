@@ -6,7 +6,7 @@ import { stateValue } from "../bench/state_line.js";
 import { instructionCycles } from "../engine/rom_codes.js";
 import { ForecastAnswers, parseTraceLine, rowValues } from "../engine/forecast_answers.js";
 import { indices } from "../bench/numbers.js";
-import { tracePlaces } from "./trace_places.js";
+import { listTracePlaces } from "./trace_places.js";
 import * as say from "../../words/trace.js";
 
 /**
@@ -43,7 +43,7 @@ function formatRegisterChanges(row, previousRow) {
 }
 
 /**
- * Stores the values of a row in a group. Returns the changes as text.
+ * Stores the values of a row as the current values of a group. Returns the changes as text.
  * @param {Group} group
  * @param {string | undefined} row the row; undefined if no value changes
  */
@@ -73,12 +73,12 @@ export class TraceLines {
   }
 
   /**
-   * Returns a list with the line for the second cycle of an instruction that started before the trace; an empty list if no second cycle is
-   * pending.
+   * Returns a list with the line for a pending second cycle, whose instruction started before the trace; an empty list if no second cycle
+   * is pending.
    * @param {State} state
    * @param {number} elapsed the number of cycles before the line
    */
-  listSecondCycle(state, elapsed) {
+  traceSecondCycle(state, elapsed) {
     const [answer] = this.engine.ask(state, "state\n").answers;
     if (stateValue(answer, "owed") !== "1") return [];
     return [`${this.texts.formatPlainLine(elapsed, say.SECOND_CYCLE)}acc ${stateValue(answer, "acc")} cy ${stateValue(answer, "cy")}`];
@@ -91,13 +91,13 @@ export class TraceLines {
    * @param {number} cycles the length of the run in cycles, at most the maximum of the bench
    * @param {number} elapsed the number of cycles before the run
    */
-  runLines(state, cycles, elapsed) {
+  traceRun(state, cycles, elapsed) {
     const { engine, texts, board } = this;
     const countAnswers = new ForecastAnswers(engine.ask(state, `count ${cycles}\n`).answers);
     const executedAddresses = countAnswers.takeCounts().map(({ address }) => address);
     texts.readInstructions(engine, state, executedAddresses);
     const codes = new Set(executedAddresses.map((address) => texts.codes[address]));
-    const places = tracePlaces(board, MAIN_REGISTER_COUNT, (code) => codes.has(code));
+    const places = listTracePlaces(board, MAIN_REGISTER_COUNT, (code) => codes.has(code));
     const groups = indices(Math.ceil(places.length / MAX_PLACES))
       .map((group) => places.slice(group * MAX_PLACES, (group + 1) * MAX_PLACES));
     const queries = [...groups.map((group) => group.map(({ name }) => name)), MAIN_PLACES];

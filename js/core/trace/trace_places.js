@@ -50,8 +50,8 @@ function listChipPlaces(bank, chip, executes) {
  */
 function listRomPlaces({ roms }) {
   return roms.filter(({ port }) => port !== "iiii").map(({ chip, port }) => {
-    const outputs = indices(4).filter((index) => port[3 - index] !== "i").reduce((sum, index) => sum + 2 ** index, 0);
-    return createPlace(`rom${chip}`, (value) => ` rom${chip} out ${hex(parseInt(value, 16) & outputs, 1)}`);
+    const outputMask = indices(4).filter((index) => port[3 - index] !== "i").reduce((sum, index) => sum + 2 ** index, 0);
+    return createPlace(`rom${chip}`, (value) => ` rom${chip} out ${hex(parseInt(value, 16) & outputMask, 1)}`);
   });
 }
 
@@ -63,7 +63,7 @@ function listRomPlaces({ roms }) {
  * @param {OpcodeTest} executes
  * @returns {TracePlace[]}
  */
-export function tracePlaces(board, firstRegister, executes) {
+export function listTracePlaces(board, firstRegister, executes) {
   return [
     ...indices(16).slice(firstRegister).map((index) => createPlace(`r${index}`)),
     createPlace("dcl"),

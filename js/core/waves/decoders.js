@@ -15,12 +15,12 @@ import * as say from "../../words/waves.js";
 export const REST_CYCLES = 16;
 
 /**
- * The values in the track of a shift register. A value is AT_REST, or the bit that was shifted in plus BIT or OTHER_BIT. BIT and OTHER_BIT
- * alternate, so that two equal bits in a row still count as two changes.
+ * The values in the track of a shift register. A value is AT_REST, or the bit that was shifted in plus EVEN_SHIFT or ODD_SHIFT, which
+ * alternate. Two equal bits in a row therefore still count as two changes.
  */
 const AT_REST = 0;
-const BIT = 2;
-const OTHER_BIT = 4;
+const EVEN_SHIFT = 2;
+const ODD_SHIFT = 4;
 
 /** The radix of each number base. */
 const RADIX = { hex: 16, decimal: 10, binary: 2 };
@@ -56,18 +56,18 @@ export function findLastRise(clock, moment) {
 export function extendShiftTrack({ clock, data, rise }, track, computedUntil, end) {
   const edges = clock.moments.all;
   let lastRise = rise;
-  const addRest = (/** @type {number} */ until) => {
+  const addRestBefore = (/** @type {number} */ until) => {
     const restStart = lastRise + REST_CYCLES;
     if (lastRise >= 0 && restStart > computedUntil && restStart <= until) track.set(AT_REST, restStart);
   };
   for (let index = countUpTo(edges, computedUntil); index < edges.length; index++) {
     if (clock.valueAfter(index + 1) === 0) continue;
-    addRest(edges[index] - 1);
+    addRestBefore(edges[index] - 1);
     lastRise = edges[index];
-    const code = (track.lastValue & BIT) === 0 ? BIT : OTHER_BIT;
-    track.set(code + data.valueAt(lastRise), lastRise);
+    const shiftMark = (track.lastValue & EVEN_SHIFT) === 0 ? EVEN_SHIFT : ODD_SHIFT;
+    track.set(shiftMark + data.valueAt(lastRise), lastRise);
   }
-  addRest(end);
+  addRestBefore(end);
 }
 
 /**
@@ -82,7 +82,7 @@ function formatBits(bits, base) {
 }
 
 /**
- * Returns the text for a value in the track of a shift register: the bit that was shifted in; at rest, all bits of the register.
+ * Returns the text for a value in the track of a shift register: the bit that was shifted in; for AT_REST, all bits of the register.
  * @param {number} value
  * @param {number[]} bits
  * @param {NumberBase} base

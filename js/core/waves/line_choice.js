@@ -46,9 +46,9 @@ function formatNumberedName({ group, places }, number) {
  * @param {string} word
  */
 function findLineIndices(lines, word) {
-  const lamps = lines.findIndex(({ group }) => group === "lamps");
-  const namedLine = lines.findIndex((line, index) => line.name === word || formatNumberedName(line, index - lamps) === word);
-  if (namedLine >= 0) return [namedLine];
+  const firstLampIndex = lines.findIndex(({ group }) => group === "lamps");
+  const namedIndex = lines.findIndex((line, index) => line.name === word || formatNumberedName(line, index - firstLampIndex) === word);
+  if (namedIndex >= 0) return [namedIndex];
   return lines.flatMap((line, index) => (canBeRequested(line) && line.group === word ? [index] : []));
 }
 
@@ -71,8 +71,8 @@ export function chooseLines(board, text, hasLabels, words) {
     let indices = findLineIndices(lines, word);
     const value = indices.length === 0 ? createValueLine(word, board) : null;
     if (value) {
-      const knownLine = lines.findIndex(({ name }) => name === value.name);
-      indices = [knownLine < 0 ? lines.push(value) - 1 : knownLine];
+      const knownIndex = lines.findIndex(({ name }) => name === value.name);
+      indices = [knownIndex < 0 ? lines.push(value) - 1 : knownIndex];
     }
     if (indices.length === 0) throw new UnknownLineError(word === "label" ? say.LABEL_NEEDS_PROGRAM : say.noSuchLineMessage(word));
     for (const number of indices) {

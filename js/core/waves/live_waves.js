@@ -53,7 +53,7 @@ export class LiveWaves {
     this.endReason = "lost";
   }
 
-  /** The length of the recording, as text. It changes with each part. */
+  /** The length of the recording, as text. It changes whenever a part is appended. */
   get lengthText() {
     const { waves } = this;
     return waves.cycles === 0 ? "" : formatCycles(waves.length);

@@ -15,7 +15,7 @@ import * as say from "../../words/waves.js";
  */
 
 /** The number of significant digits of a frequency. */
-const DIGITS = 4;
+const SIGNIFICANT_DIGITS = 4;
 
 /**
  * Measures a signal line at a moment.
@@ -39,7 +39,8 @@ export function measureAt(waves, line, moment) {
  */
 export function frequencyText(period) {
   const hertz = (1e6 / CYCLE_US) / period;
-  return hertz < 1000 ? say.inHertz(hertz.toPrecision(DIGITS)) : say.inKilohertz((hertz / 1000).toPrecision(DIGITS));
+  if (hertz < 1000) return say.inHertz(hertz.toPrecision(SIGNIFICANT_DIGITS));
+  return say.inKilohertz((hertz / 1000).toPrecision(SIGNIFICANT_DIGITS));
 }
 
 /**

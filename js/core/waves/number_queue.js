@@ -3,8 +3,8 @@
 /** @typedef {Uint16Array | Uint32Array | Float64Array} Numbers */
 
 /** The minimum capacity of the array after the first number is added. */
-const FIRST_CAPACITY = 64;
-/** The queue moves its numbers to the start of the array only if at least this number of elements before them are unused. */
+const INITIAL_CAPACITY = 64;
+/** If fewer elements than this are unused at the start of the array, the queue does not move its numbers there. */
 const MIN_UNUSED = 4096;
 
 /**
@@ -57,7 +57,7 @@ export class NumberQueue {
 
   /** Replaces the array with an array of twice the size. */
   enlarge() {
-    const largerArray = /** @type {Kind} */ (new (/** @type {any} */ (this.numbers.constructor))(Math.max(FIRST_CAPACITY, this.to * 2)));
+    const largerArray = /** @type {Kind} */ (new (/** @type {any} */ (this.numbers.constructor))(Math.max(INITIAL_CAPACITY, this.to * 2)));
     largerArray.set(this.numbers);
     this.numbers = largerArray;
   }

@@ -82,7 +82,7 @@ export class SvgContext {
   }
 
   /**
-   * Sets the rectangle to which `clip` limits the later drawing.
+   * Sets the rectangle to which a later call of `clip` limits the drawing.
    * @param {number[]} box x, y, width and height
    */
   rect(...box) {

@@ -16,7 +16,7 @@ import { NumberQueue, countUpTo } from "./number_queue.js";
  * @param {number} width the width of the line in bits
  * @returns {TrackData}
  */
-export function emptyTrack(width) {
+export function createEmptyTrack(width) {
   const values = width > 16 ? new Float64Array(0) : new Uint16Array(0);
   return { first: 0, moments: new Uint32Array(0), values: width > 1 ? values : null };
 }

@@ -20,7 +20,7 @@ import * as say from "../../words/waves.js";
 /** Matches an edge: the name of a line, and the kind of edge. */
 const EDGE_SYNTAX = /^(.*\S)\s+(rises|falls|changes)$/;
 /** The function `holds` of an edge trigger, which has no condition. */
-const neverTrue = () => false;
+const returnFalse = () => false;
 
 /**
  * Returns a name in lower case, with one blank instead of each sequence of dots and blanks.
@@ -47,9 +47,12 @@ export function findLineByName(text, lines) {
     findIndex(({ name, group }) => (
       (group === "lamps" || group === "keys") && normalizeName(name.slice(name.indexOf(".") + 1)) === wantedName)),
   ];
-  const lamp = /^lamp (\d+)$/.exec(wantedName);
-  const lamps = lines.findIndex(({ group }) => group === "lamps");
-  if (lamp && lamps >= 0 && lines[lamps + Number(lamp[1])]?.group === "lamps") candidates.push(lamps + Number(lamp[1]));
+  const lampMatch = /^lamp (\d+)$/.exec(wantedName);
+  const firstLampIndex = lines.findIndex(({ group }) => group === "lamps");
+  if (lampMatch && firstLampIndex >= 0) {
+    const lampIndex = firstLampIndex + Number(lampMatch[1]);
+    if (lines[lampIndex]?.group === "lamps") candidates.push(lampIndex);
+  }
   return candidates.find((line) => line >= 0) ?? -1;
 }
 
@@ -70,7 +73,7 @@ export function findLineNameInEdge(text) {
  * @param {Names} names
  * @returns {{ trigger: Trigger | null, error: string }}
  */
-export function readTrigger(text, lines, names) {
+export function parseTrigger(text, lines, names) {
   if (text.trim() === "") return { trigger: null, error: "" };
   const match = EDGE_SYNTAX.exec(text.trim());
   if (match) return makeEdgeTrigger(match[1], /** @type {Edge} */ (match[2]), lines);
@@ -96,5 +99,5 @@ function makeEdgeTrigger(name, edge, lines) {
   if (edge !== "changes" && width > 1) {
     return { trigger: null, error: say.numberConditionSyntax(name) };
   }
-  return { trigger: { edge, members: kind === "port" ? members : [line], places: [], address: -1, holds: neverTrue }, error: "" };
+  return { trigger: { edge, members: kind === "port" ? members : [line], places: [], address: -1, holds: returnFalse }, error: "" };
 }

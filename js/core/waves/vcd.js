@@ -14,7 +14,7 @@ const UNITS_PER_CYCLE = CYCLE_TENTHS_US;
  */
 const MAX_LINES = 8192;
 /** The maximum number of text lines per part of the file. The file has parts because a long recording does not fit into one string. */
-const PART_LINES = 100000;
+const LINES_PER_PART = 100000;
 /**
  * The letters of the codes that identify lines in the file. No value in a VCD file starts with one of these letters, so a program that
  * skips an unknown kind of value still reads the following lines correctly.
@@ -60,12 +60,12 @@ export class VcdText {
   }
 
   /**
-   * Returns the text for the value of a line.
-   * @param {number} index an index into the chosen lines
+   * Returns the VCD text for a new value of a line.
+   * @param {number} index the index of the line in the list of chosen lines
    * @param {number} value
    * @param {number} moment
    */
-  changeText(index, value, moment) {
+  formatChange(index, value, moment) {
     const { waves } = this;
     const { program, lines } = waves;
     const line = this.chosenLines[index];
@@ -77,7 +77,7 @@ export class VcdText {
   }
 
   /** Returns the header of the file, including the values at the start of the recording. */
-  formatHead() {
+  formatHeader() {
     const { waves, chosenLines, codes } = this;
     return `${[
       "$version Fethsaim $end",
@@ -89,7 +89,7 @@ export class VcdText {
       "$enddefinitions $end",
       "#0",
       "$dumpvars",
-      ...chosenLines.map((line, index) => this.changeText(index, waves.numberAt(line, waves.from), waves.from)),
+      ...chosenLines.map((line, index) => this.formatChange(index, waves.numberAt(line, waves.from), waves.from)),
       "$end",
     ].join("\n")}\n`;
   }
@@ -106,8 +106,8 @@ export class VcdText {
       counts[index] += 1;
       if (moment !== this.lastWritten) lines.push(`#${(moment - this.startMoment) * UNITS_PER_CYCLE}`);
       this.lastWritten = moment;
-      lines.push(this.changeText(index, tracks[index].valueAfter(counts[index]), moment));
-      if (lines.length < PART_LINES) continue;
+      lines.push(this.formatChange(index, tracks[index].valueAfter(counts[index]), moment));
+      if (lines.length < LINES_PER_PART) continue;
       yield `${lines.join("\n")}\n`;
       lines = [];
     }
@@ -128,15 +128,15 @@ export class VcdText {
  */
 function sortChanges(waves, chosenLines) {
   const counts = chosenLines.map((line) => waves.changesOf(line).length);
-  const changes = new Float64Array(counts.reduce((sum, count) => sum + count, 0));
+  const encodedChanges = new Float64Array(counts.reduce((sum, count) => sum + count, 0));
   let changeIndex = 0;
   chosenLines.forEach((line, index) => {
     for (const moment of waves.changesOf(line)) {
-      changes[changeIndex] = moment * MAX_LINES + index;
+      encodedChanges[changeIndex] = moment * MAX_LINES + index;
       changeIndex += 1;
     }
   });
-  return changes.sort();
+  return encodedChanges.sort();
 }
 
 /**
@@ -146,7 +146,7 @@ function sortChanges(waves, chosenLines) {
  */
 export function* vcdParts(waves, chosenLines) {
   const text = new VcdText(waves, chosenLines);
-  yield text.formatHead();
+  yield text.formatHeader();
   yield* text.formatChanges();
   const end = text.formatEnd();
   if (end) yield end;

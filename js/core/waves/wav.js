@@ -2,12 +2,12 @@
 
 import { CYCLES_PER_SECOND } from "../time/mcs4_time.js";
 
-/** Sizes in bytes: of a sample, of the file header, and of the format data in the header. */
+/** The sizes in bytes of a sample, of the file header, and of the format data in the header. */
 const SAMPLE_BYTES = 2;
-const HEAD_BYTES = 44;
+const HEADER_BYTES = 44;
 const FORMAT_BYTES = 16;
 /** The sample values for the two levels of the line. */
-const LEVELS = { high: 0x2020, low: -0x2020 };
+const SAMPLE_VALUES = { high: 0x2020, low: -0x2020 };
 /** The offsets of the four-letter tags in the file header. */
 const TAG_OFFSETS = { riff: 0, kind: 8, format: 12, data: 36 };
 const PCM = 1;
@@ -33,10 +33,10 @@ function writeTag(bytes, tagOffset, letters) {
  */
 export function createWav(level, edges, cycles) {
   const size = cycles * SAMPLE_BYTES;
-  const bytes = new Uint8Array(HEAD_BYTES + size);
+  const bytes = new Uint8Array(HEADER_BYTES + size);
   const view = new DataView(bytes.buffer);
   writeTag(bytes, TAG_OFFSETS.riff, "RIFF");
-  view.setUint32(4, HEAD_BYTES - 8 + size, true);
+  view.setUint32(4, HEADER_BYTES - 8 + size, true);
   writeTag(bytes, TAG_OFFSETS.kind, "WAVE");
   writeTag(bytes, TAG_OFFSETS.format, "fmt".padEnd(4));
   view.setUint32(16, FORMAT_BYTES, true);
@@ -51,7 +51,7 @@ export function createWav(level, edges, cycles) {
   let [from, isHigh] = [0, level === 1];
   for (const edge of [...edges, cycles]) {
     for (let sample = from; sample < edge; sample++) {
-      view.setInt16(HEAD_BYTES + sample * SAMPLE_BYTES, isHigh ? LEVELS.high : LEVELS.low, true);
+      view.setInt16(HEADER_BYTES + sample * SAMPLE_BYTES, isHigh ? SAMPLE_VALUES.high : SAMPLE_VALUES.low, true);
     }
     [from, isHigh] = [edge, !isHigh];
   }

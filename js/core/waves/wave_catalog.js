@@ -12,7 +12,7 @@ import * as say from "../../words/waves.js";
  */
 
 /** The maximum number of one-bit lines that are initially visible. Decoders, the program counter and the label do not count. */
-const MAX_FIRST_LINES = 16;
+const MAX_INITIAL_LINES = 16;
 /** The maximum number of RAM nibbles in a list. */
 const MAX_NIBBLES = 64;
 
@@ -30,13 +30,13 @@ export function listRecordableLines(board, text) {
  * one-bit line changes, the first one-bit lines are visible.
  * @param {Waves} waves
  */
-export function chooseFirstLines(waves) {
+export function chooseInitialLines(waves) {
   const lineIndices = waves.lines.map((_, line) => line);
-  const bits = lineIndices.filter((line) => !isDrawnAsBoxes(waves.lines[line]) && waves.lines[line].kind !== "value");
-  const changingBits = bits.filter((line) => waves.changesOf(line).length > 0);
-  const names = lineIndices.filter((line) => waves.lines[line].kind === "pc" || waves.lines[line].kind === "label");
+  const oneBitLines = lineIndices.filter((line) => !isDrawnAsBoxes(waves.lines[line]) && waves.lines[line].kind !== "value");
+  const changingLines = oneBitLines.filter((line) => waves.changesOf(line).length > 0);
+  const counterAndLabel = lineIndices.filter((line) => waves.lines[line].kind === "pc" || waves.lines[line].kind === "label");
   const decoders = lineIndices.filter((line) => isDecoder(waves.lines[line]) && waves.changesOf(line).length > 0);
-  return [...(changingBits.length > 0 ? changingBits : bits).slice(0, MAX_FIRST_LINES), ...decoders, ...names];
+  return [...(changingLines.length > 0 ? changingLines : oneBitLines).slice(0, MAX_INITIAL_LINES), ...decoders, ...counterAndLabel];
 }
 
 /**
@@ -44,7 +44,7 @@ export function chooseFirstLines(waves) {
  * @param {WaveLine[]} lines
  * @param {Set<string>} chosenNames
  */
-export function chosenValueNames(lines, chosenNames) {
+export function listChosenValueNames(lines, chosenNames) {
   return lines.filter(({ name, kind }) => kind === "value" && chosenNames.has(name)).map(({ name }) => name);
 }
 
@@ -72,10 +72,10 @@ function findMatchingLines(lines, text) {
 export function searchLines(allLines, text, chosenNames) {
   const isEmptySearch = text.trim() === "";
   const isNibble = (/** @type {WaveLine} */ { group }) => group.startsWith(say.RAM_GROUP);
-  let remaining = isEmptySearch ? 0 : MAX_NIBBLES;
+  let remainingNibbles = isEmptySearch ? 0 : MAX_NIBBLES;
   const matchingLines = findMatchingLines(allLines, text);
   if (matchingLines.length === 0 && !isEmptySearch) return { lines: matchingLines, note: say.noNameMessage(text.trim()) };
-  const lines = matchingLines.filter((line) => !isNibble(line) || chosenNames.has(line.name) || remaining-- > 0);
+  const lines = matchingLines.filter((line) => !isNibble(line) || chosenNames.has(line.name) || remainingNibbles-- > 0);
   const hiddenCount = matchingLines.length - lines.length;
   if (hiddenCount === 0) return { lines, note: "" };
   return { lines, note: say.notListedMessage(hiddenCount) };

@@ -26,7 +26,7 @@ import * as say from "../../words/waves.js";
  */
 
 /** Matches a name in the board text that is valid in a VCD file. */
-const PLAIN_NAME = /^[A-Za-z0-9_]+$/;
+const VCD_NAME = /^[A-Za-z0-9_]+$/;
 /** The maximum number of bits in a line that is shown as a number. JavaScript represents such a number exactly. */
 const MAX_BITS = 50;
 
@@ -43,14 +43,14 @@ function createLine(name, group, kind, details = {}) {
 }
 
 /**
- * Returns the name and title of a lamp or key. A name in the board text that is invalid in a VCD file becomes only the title.
+ * Returns the name and title of a lamp or key. A name in the board text that is invalid in a VCD file is used only as the title.
  * @param {string} group
  * @param {string} ending the number of the lamp or key, for a line without a valid name
  * @param {FaceText | undefined} faceText
  */
 function chooseLineNames(group, ending, faceText) {
   const text = faceText ? faceText.text : "";
-  return PLAIN_NAME.test(text) ? { name: `${group}.${text}`, title: "" } : { name: `${group}${ending}`, title: text };
+  return VCD_NAME.test(text) ? { name: `${group}.${text}`, title: "" } : { name: `${group}${ending}`, title: text };
 }
 
 /**

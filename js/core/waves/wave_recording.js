@@ -4,7 +4,7 @@
 import { ADDRESS_COUNT } from "../bench/rom_bytes.js";
 import { extendShiftTrack, findLastRise, formatScan, formatShift } from "./decoders.js";
 import { NumberQueue, countUpTo } from "./number_queue.js";
-import { Track, emptyTrack } from "./track.js";
+import { Track, createEmptyTrack } from "./track.js";
 import { valueText } from "./wave_words.js";
 
 /**
@@ -81,8 +81,8 @@ export class Waves {
     this.cycles = cycles;
     this.isStuck = isStuck;
     for (const [line, track] of this.derivedTracks) {
-      // The first moment of the new part is the last moment of the previous part. The new part can contain a change at this moment, so it
-      // is computed again.
+      // The first moment of the new part is the last moment of the previous part. The new part can contain a change at this moment, so the
+      // track is computed again from there.
       track.endAt(previousEnd - 1);
       this.extendTrack(line, track, previousEnd - 1);
     }
@@ -145,7 +145,7 @@ export class Waves {
     if (!DERIVED_KINDS.has(kind)) return this.tracks[line];
     let track = this.derivedTracks.get(line);
     if (!track) {
-      track = new Track({ ...emptyTrack(this.lines[line].width), first: this.computeValue(line, this.from) });
+      track = new Track({ ...createEmptyTrack(this.lines[line].width), first: this.computeValue(line, this.from) });
       this.extendTrack(line, track, this.from);
       this.derivedTracks.set(line, track);
     }
@@ -154,7 +154,7 @@ export class Waves {
 
   /**
    * Computes the value of a derived line. The value of a port or key scan comes from its member lines; the program counter and the label
-   * come from the instructions. A shift register counts as being at rest.
+   * come from the instructions. The value of a shift register is 0, which means at rest.
    * @param {number} line
    * @param {number} moment
    */
@@ -195,8 +195,8 @@ export class Waves {
    * @param {number} moment
    */
   findRiseBefore(line, moment) {
-    const rise = findLastRise(this.tracks[this.lines[line].members[0]], moment);
-    return rise < 0 ? this.earlierRises.get(line) ?? -1 : rise;
+    const lastRise = findLastRise(this.tracks[this.lines[line].members[0]], moment);
+    return lastRise < 0 ? this.earlierRises.get(line) ?? -1 : lastRise;
   }
 
   /**

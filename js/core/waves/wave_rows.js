@@ -51,7 +51,7 @@ export class WaveRows {
    * @param {string} name the name of the line
    * @param {RowAppearance} changes the changed properties
    */
-  change(name, changes) {
+  changeAppearance(name, changes) {
     this.appearances.set(name, { ...this.getAppearance(name), ...changes });
   }
 
@@ -66,7 +66,7 @@ export class WaveRows {
     names.forEach((name, index) => {
       if (!placedNames.has(name)) sortedNames.splice(index === 0 ? 0 : sortedNames.indexOf(names[index - 1]) + 1, 0, name);
     });
-    // The rows of a group follow its first row.
+    // All rows of a group directly follow its first row.
     const groups = [...new Set(sortedNames.map((name) => this.groupOf(name) || ` ${name}`))];
     const members = new Map(groups.map((group) => [group, /** @type {string[]} */ ([])]));
     for (const name of sortedNames) (members.get(this.groupOf(name) || ` ${name}`) || []).push(name);
@@ -95,7 +95,8 @@ export class WaveRows {
   }
 
   /**
-   * Moves a row (or a whole group, by its heading) to the position of another row. A row that moves into a group joins the group.
+   * Moves a row to the position of another row. If the row is the heading of a group, moves the group. A row that moves into a group joins
+   * it.
    * @param {WaveRow[]} rows
    * @param {string[]} names the names of all visible lines, in row order
    * @param {number} fromIndex
@@ -110,7 +111,7 @@ export class WaveRows {
     const isGroupMove = targetRow.group !== "" && (movedRow.line < 0 || targetRow.line < 0);
     const neighbourNames = isGroupMove ? otherNames.filter((name) => this.groupOf(name) === targetRow.group) : [targetRow.name];
     const joinsGroup = movedRow.line >= 0 && targetRow.group !== "" && (targetRow.line >= 0 || (isDown && !targetRow.isFolded));
-    if (movedRow.line >= 0) this.change(movedRow.name, { group: joinsGroup ? targetRow.group : "" });
+    if (movedRow.line >= 0) this.changeAppearance(movedRow.name, { group: joinsGroup ? targetRow.group : "" });
     const isAfter = isDown && !(joinsGroup && targetRow.line < 0);
     const neighbour = neighbourNames[isAfter ? neighbourNames.length - 1 : 0];
     const position = neighbourNames.length === 0 ? otherNames.length : otherNames.indexOf(neighbour) + Number(isAfter);

@@ -29,7 +29,7 @@ const EDGE_TESTS = { rises: (value) => value === 1, falls: (value) => value === 
  * @param {string} error
  * @returns {{ search: null, error: string }}
  */
-function searchError(error) {
+function createSearchError(error) {
   return { search: null, error };
 }
 
@@ -50,14 +50,14 @@ function findLabel(waves, name) {
  * @param {number} markedLine the index of the marked line; -1 for none
  * @returns {{ search: Search | null, error: string }}
  */
-export function readSearch(text, waves, markedLine) {
+export function parseSearch(text, waves, markedLine) {
   const trimmed = text.trim();
-  if (trimmed === "") return searchError(say.searchQuestion(say.SEARCH_FORMS));
+  if (trimmed === "") return createSearchError(say.searchQuestion(say.SEARCH_FORMS));
   if (trimmed.startsWith("@")) {
     const label = findLabel(waves, trimmed.slice(1));
-    const counter = waves.lines.findIndex(({ kind }) => kind === "pc");
-    if (!label) return searchError(say.noLabelMessage(trimmed.slice(1)));
-    return { search: { line: counter, matches: (value) => value === label.address, findsEachMatch: false }, error: "" };
+    const counterLine = waves.lines.findIndex(({ kind }) => kind === "pc");
+    if (!label) return createSearchError(say.noLabelMessage(trimmed.slice(1)));
+    return { search: { line: counterLine, matches: (value) => value === label.address, findsEachMatch: false }, error: "" };
   }
   const edge = /^(?:(.*\S)\s+)?(rises|falls|changes)$/.exec(trimmed);
   if (edge) return makeEdgeSearch(edge[1], edge[2], waves, markedLine);
@@ -67,13 +67,13 @@ export function readSearch(text, waves, markedLine) {
 }
 
 /**
- * Returns the index of the line with a name, or of the marked line if the name is "". If there is no such line, `error` is the error
- * message.
+ * Returns the index of the line that a search reads: the line with a name, or the marked line if the name is "". If there is no such line,
+ * `error` is the error message.
  * @param {string} name
  * @param {Waves} waves
  * @param {number} markedLine
  */
-function findSearchLine(name, waves, markedLine) {
+function findSearchedLine(name, waves, markedLine) {
   const line = name ? findLineByName(name, waves.lines) : markedLine;
   if (line >= 0) return { line, error: "" };
   return { line, error: name ? say.notRecordedMessage(name) : say.NO_LINE_MARKED };
@@ -87,11 +87,11 @@ function findSearchLine(name, waves, markedLine) {
  * @param {number} markedLine
  */
 function makeEdgeSearch(name, edge, waves, markedLine) {
-  const { line, error } = findSearchLine(name || "", waves, markedLine);
-  if (error) return searchError(error);
+  const { line, error } = findSearchedLine(name || "", waves, markedLine);
+  if (error) return createSearchError(error);
   const { width } = waves.lines[line];
-  if (edge !== "changes" && isDecoder(waves.lines[line])) return searchError(say.decodedRowMessage(waves.lines[line].name));
-  if (edge !== "changes" && width > 1) return searchError(say.numberRowMessage(waves.lines[line].name));
+  if (edge !== "changes" && isDecoder(waves.lines[line])) return createSearchError(say.decodedRowMessage(waves.lines[line].name));
+  if (edge !== "changes" && width > 1) return createSearchError(say.numberRowMessage(waves.lines[line].name));
   return { search: { line, matches: EDGE_TESTS[edge], findsEachMatch: true }, error: "" };
 }
 
@@ -104,17 +104,17 @@ function makeEdgeSearch(name, edge, waves, markedLine) {
  * @param {number} markedLine
  */
 function makeValueSearch(name, operator, value, waves, markedLine) {
-  const { line, error } = findSearchLine(name, waves, markedLine);
-  if (error) return searchError(error);
+  const { line, error } = findSearchedLine(name, waves, markedLine);
+  if (error) return createSearchError(error);
   const { kind, width, name: lineName } = waves.lines[line];
   if (isDecoder(waves.lines[line])) return makeKeySearch(waves.lines[line], line, operator, value);
   const label = kind === "label" || kind === "pc" ? findLabel(waves, value.replace(/^@/, "")) : null;
   const binary = /^0b([01]+)$/i.exec(value);
   const number = label ? (kind === "pc" ? label.address : label.number) : binary ? parseInt(binary[1], 2) : parseNumber(value);
-  if (kind === "label" && !label) return searchError(say.noLabelMessage(value));
-  if (Number.isNaN(number)) return searchError(say.noNumberMessage(value, say.SEARCH_FORMS));
-  const max = 2 ** width - 1;
-  if (kind !== "label" && number > max) return searchError(say.valueTooLarge(lineName, width, max));
+  if (kind === "label" && !label) return createSearchError(say.noLabelMessage(value));
+  if (Number.isNaN(number)) return createSearchError(say.noNumberMessage(value, say.SEARCH_FORMS));
+  const maxValue = 2 ** width - 1;
+  if (kind !== "label" && number > maxValue) return createSearchError(say.valueTooLarge(lineName, width, maxValue));
   const matches = (/** @type {number} */ lineValue) => COMPARISONS[operator](lineValue, number);
   return { search: { line, matches, findsEachMatch: false }, error: "" };
 }
@@ -128,7 +128,7 @@ function makeValueSearch(name, operator, value, waves, markedLine) {
  * @returns {{ search: Search | null, error: string }}
  */
 function makeKeySearch(decoder, line, operator, key) {
-  if (operator !== "=" || !decoder.places.includes(key)) return searchError(say.decodedRowMessage(decoder.name));
+  if (operator !== "=" || !decoder.places.includes(key)) return createSearchError(say.decodedRowMessage(decoder.name));
   return { search: { line, matches: (value) => parseScan(decoder, value).keys.includes(key), findsEachMatch: false }, error: "" };
 }
 
@@ -141,12 +141,12 @@ function makeKeySearch(decoder, line, operator, key) {
  */
 export function findMatch(waves, { line, matches, findsEachMatch }, moment, isForward) {
   const track = waves.getTrack(line);
-  const changes = track.moments.all;
+  const changeMoments = track.moments.all;
   const direction = isForward ? 1 : -1;
-  const first = isForward ? countUpTo(changes, moment) : countUpTo(changes, moment - 1) - 1;
-  for (let index = first; index >= 0 && index < changes.length; index += direction) {
-    if (matches(track.valueAfter(index + 1)) && (findsEachMatch || !matches(track.valueAfter(index)))) return changes[index];
+  const first = isForward ? countUpTo(changeMoments, moment) : countUpTo(changeMoments, moment - 1) - 1;
+  for (let index = first; index >= 0 && index < changeMoments.length; index += direction) {
+    if (matches(track.valueAfter(index + 1)) && (findsEachMatch || !matches(track.valueAfter(index)))) return changeMoments[index];
   }
-  // The first value of the recording can also match.
+  // A backward search can also find the initial value, at the start of the recording.
   return !isForward && !findsEachMatch && moment > waves.from && matches(track.first) ? waves.from : -1;
 }

@@ -5,7 +5,7 @@ const MIN_CYCLES = 10;
 /** The default number of visible cycles. */
 const DEFAULT_CYCLES = 20000;
 /** The maximum distance in pixels between a click and the edge that the click selects. */
-const NEAR_PIXELS = 7;
+const MAX_EDGE_DISTANCE = 7;
 
 /** @typedef {import("./wave_recording.js").Waves} Waves */
 
@@ -81,14 +81,14 @@ export class WaveWindow {
   zoom(factor, moment) {
     const share = (moment - this.from) / this.span;
     this.span = clamp(this.span / factor, Math.min(MIN_CYCLES, this.length), this.length);
-    this.goTo(moment - share * this.span);
+    this.scrollTo(moment - share * this.span);
   }
 
   /**
    * Scrolls to a moment, as far as the recording allows.
    * @param {number} from the first visible moment
    */
-  goTo(from) {
+  scrollTo(from) {
     this.from = clamp(from, this.begin, Math.max(this.begin, this.end - this.span));
   }
 
@@ -100,12 +100,12 @@ export class WaveWindow {
    */
   extendRange(begin, end) {
     const wasAtEnd = this.to >= this.end;
-    const isShort = this.span >= this.length && this.length < DEFAULT_CYCLES;
+    const isCompletelyVisible = this.span >= this.length && this.length < DEFAULT_CYCLES;
     this.cursors = this.cursors.map((cursor) => (cursor === this.end ? end : clamp(cursor, begin, end)));
     this.begin = begin;
     this.end = end;
-    this.span = isShort ? Math.min(DEFAULT_CYCLES, this.length) : Math.min(this.span, this.length);
-    this.goTo(wasAtEnd ? end - this.span : this.from);
+    this.span = isCompletelyVisible ? Math.min(DEFAULT_CYCLES, this.length) : Math.min(this.span, this.length);
+    this.scrollTo(wasAtEnd ? end - this.span : this.from);
   }
 
   /** Shows all cycles of a finished recording, unless the user has zoomed in or scrolled away from the end. */
@@ -120,7 +120,7 @@ export class WaveWindow {
   showAround(moment) {
     this.cursors[0] = clamp(moment, this.begin, this.end);
     this.span = Math.min(DEFAULT_CYCLES, this.length);
-    this.goTo(moment - this.span / 2);
+    this.scrollTo(moment - this.span / 2);
   }
 
   /**
@@ -146,7 +146,7 @@ export class WaveWindow {
   move(moment) {
     const to = clamp(Math.round(moment), this.begin, this.end);
     this.cursors[this.activeCursor] = to;
-    if (to < this.from || to > this.to) this.goTo(to - this.span / 2);
+    if (to < this.from || to > this.to) this.scrollTo(to - this.span / 2);
   }
 
   /**
@@ -159,18 +159,18 @@ export class WaveWindow {
     const cycle = clamp(Math.floor(this.timeAt(x)), this.begin, this.end);
     if (line < 0) return cycle;
     const edges = [waves.changeBefore(line, cycle + 1), waves.changeAfter(line, cycle)];
-    const nearEdges = edges.filter((edge) => edge !== undefined && Math.abs(this.xAt(edge) - x) <= NEAR_PIXELS);
+    const nearEdges = edges.filter((edge) => edge !== undefined && Math.abs(this.xAt(edge) - x) <= MAX_EDGE_DISTANCE);
     const [nearest] = nearEdges.sort((one, other) => Math.abs(this.xAt(Number(one)) - x) - Math.abs(this.xAt(Number(other)) - x));
     return nearest === undefined ? cycle : nearest;
   }
 }
 
 /**
- * Returns the moments of the time scale's ticks. The ticks are far enough apart for their labels.
+ * Returns the moments of the ticks on the time scale. The ticks are far enough apart for their labels.
  * @param {WaveWindow} view
  * @param {number} labelWidth the required width per label in pixels
  */
-export function tickMoments(view, labelWidth) {
+export function chooseTickMoments(view, labelWidth) {
   const minDistance = (labelWidth / view.width) * view.span;
   const power = 10 ** Math.floor(Math.log10(Math.max(1, minDistance)));
   const distance = [1, 2, 5, 10].map((step) => step * power).find((step) => step >= minDistance) || 1;

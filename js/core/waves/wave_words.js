@@ -76,7 +76,7 @@ export function describeCursor(name, moment, waves) {
  * @param {Waves} waves
  * @param {number} line the index of the marked line; -1 for none
  */
-export function screenReaderText(moment, waves, line) {
+export function describeForScreenReader(moment, waves, line) {
   const markedLineText = line < 0 ? "" : say.valueIs(waves.lines[line].name, waves.valueAt(line, moment));
   return say.cursorDescription(markedLineText, formatNumber(moment), instructionText(waves.instructionAt(moment)));
 }
@@ -98,6 +98,6 @@ export function describeRecording({ length, isStuck }, wantedCycles, isOfPast) {
  * Parses a number of cycles. Returns 0 if the text is not a number from 1 to MAX_CYCLES.
  * @param {string} text
  */
-export function readCycles(text) {
+export function parseCycleCount(text) {
   return parseCount(text, MAX_CYCLES);
 }

@@ -1,6 +1,6 @@
 // `mcs4 cycles`: prints the durations of the runs in the bench's answers, in machine cycles.
 import { joinLines } from "../../core/bench/inputs.js";
-import { runTimes } from "../../core/time/run_times.js";
+import { listRunTimes } from "../../core/time/run_times.js";
 import { LINE_RANGE_SYNTAX, notALineNumberMessage } from "../../words/commands.js";
 import { checkArguments } from "../arguments.mjs";
 import { InputTexts } from "../input_texts.mjs";
@@ -33,7 +33,7 @@ export async function run({ source }, positionals) {
   const answers = texts.readAnswers("cycles");
   const describeAddress = source === undefined ? null : await makeAddressDescriber(texts, await startEngine(), source, session);
   const describeCounter = describeAddress && ((/** @type {string} */ counter) => describeAddress(parseInt(counter, 16)));
-  const { runs, sum, message: error } = runTimes(answers, first, last, describeCounter);
+  const { runs, sum, message: error } = listRunTimes(answers, first, last, describeCounter);
   if (error !== "") throw new CommandError(error);
   print(joinLines(describeAddress ? [...runs, sum] : [sum]));
   return 0;

@@ -1,6 +1,6 @@
 // `mcs4 prove`: proves that properties are true for all inputs. The program mcs4-prove searches for counterexamples, and `mcs4 test`
 // confirms each of them.
-import { exitStatus, tapHead, formatJudgedTap } from "../../core/prove/verdicts.js";
+import { findExitStatus, formatTapHeader, formatJudgedTap } from "../../core/prove/verdicts.js";
 import { resolveFileNames, parseCount, checkArguments } from "../arguments.mjs";
 import { InputTexts } from "../input_texts.mjs";
 import { print } from "../output.mjs";
@@ -39,9 +39,9 @@ async function proveAll(judge, fileName) {
     progress.beginStep((seconds) => provingSoFar(index + 1, total, judge.textOf(index), seconds));
     const judgedProperty = /** @type {import("../../core/prove/verdicts.js").JudgedProperty} */ (await judge.judgeNext());
     progress.clear();
-    print((index === 0 ? tapHead(total) : "") + formatJudgedTap(judgedProperty, index, fileName));
+    print((index === 0 ? formatTapHeader(total) : "") + formatJudgedTap(judgedProperty, index, fileName));
     judgedProperties.push(judgedProperty);
   }
   progress.end();
-  return exitStatus(judgedProperties);
+  return findExitStatus(judgedProperties);
 }

@@ -115,7 +115,7 @@ async function printVcd(openedSession, cycles, words) {
   for await (const waves of recordPieces(engine, state, { lines, program, cycles }, yieldToMessages)) {
     if (!vcdText) {
       vcdText = new VcdText(waves, chosenIndices);
-      print(vcdText.formatHead());
+      print(vcdText.formatHeader());
     }
     for (const part of vcdText.formatChanges()) print(part);
   }

@@ -3,7 +3,7 @@
 import { handlesKey } from "../board/key_presser.js";
 import { button, isDialogOpen, onClick } from "../ui/dom.js";
 import { TITLE_HEIGHT } from "../../core/board/wiring.js";
-import { Drawing } from "../../core/drawing/board_drawing.js";
+import { BoardDrawing } from "../../core/drawing/board_drawing.js";
 import { DrawingView } from "./drawing_view.js";
 import { PictureInput } from "./picture_input.js";
 import { PictureZoom } from "./picture_zoom.js";
@@ -46,7 +46,7 @@ export class DrawingController {
     this.picture = picture;
     this.calls = calls;
     this.drawTimer = 0;
-    this.drawing = new Drawing(calls, (state) => this.show(state));
+    this.drawing = new BoardDrawing(calls, (state) => this.show(state));
     this.view = this.makeView();
     this.view.movedParts = this.drawing.movedParts.positions;
     this.input = this.makeInput();

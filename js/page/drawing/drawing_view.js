@@ -3,7 +3,7 @@
 
 import { Cell, block, button, element, field, onClick } from "../ui/dom.js";
 import { findBuzzer, lampColours } from "../../core/board/face_board.js";
-import { lampLabels } from "../../core/drawing/lamp_labels.js";
+import { createLampLabels } from "../../core/drawing/lamp_labels.js";
 import { ShelfDrag } from "./shelf_drag.js";
 import * as say from "../../words/drawing.js";
 
@@ -132,7 +132,7 @@ export class DrawingView {
     if (!state) return;
     const { board, face, isWired, selected, wireStart, ends } = state;
     const count = board.lamps.length;
-    const names = lampLabels(face, count);
+    const names = createLampLabels(face, count);
     const appearance = { names, colours: lampColours(face, count), test: face.test, buzzer: findBuzzer(board, face) };
     const drawnInput = JSON.stringify([board, appearance, isWired, [...movedParts]]);
     if (drawnInput !== this.lastDrawnInput) this.picture.draw(board, appearance, { moved: movedParts, isWired });

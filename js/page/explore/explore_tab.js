@@ -3,7 +3,7 @@
 import { formatErrorCount } from "../../core/bench/error_messages.js";
 import { Cell, button, field, onClick } from "../ui/dom.js";
 import { TextTab } from "../text/text_tab.js";
-import { completeProperty, createFirstProperties, helpForProperty, propertyForms } from "../../core/text/property_words.js";
+import { completeProperty, createInitialProperties, helpForProperty, readPropertyForms } from "../../core/text/property_words.js";
 import { textErrorsMessage } from "../../words/test_results.js";
 import { ExploreView } from "./explore_view.js";
 import { Proofs } from "../prove/proofs.js";
@@ -61,8 +61,8 @@ export class ExploreTab {
     this.textTab = new TextTab({
       name: "properties",
       insertButton: "first-properties",
-      firstText: createFirstProperties,
-      forms: propertyForms(manual),
+      firstText: createInitialProperties,
+      forms: readPropertyForms(manual),
       describeWord: helpForProperty,
       complete: completeProperty,
     }, calls, {

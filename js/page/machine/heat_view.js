@@ -74,13 +74,13 @@ export class HeatView {
     this.showCyclesField();
     this.clear();
     this.updateReporting();
-    if (this.kindSelect.value !== "") this.readCycles();
+    if (this.kindSelect.value !== "") this.parseCycleCount();
     this.isStale = true;
     this.restartTimer();
   }
 
   /** Returns the number of cycles in the field. If the number is not valid, shows a message and returns 0. */
-  readCycles() {
+  parseCycleCount() {
     const cycles = parseCount(this.cyclesField.value, MAX_CYCLES);
     this.cyclesField.setAttribute("aria-invalid", String(cycles === 0));
     if (cycles === 0) {
@@ -150,7 +150,7 @@ export class HeatView {
   }
 
   async startCount() {
-    const cycles = this.readCycles();
+    const cycles = this.parseCycleCount();
     if (cycles === 0) return;
     const request = new AbortController();
     this.request = request;

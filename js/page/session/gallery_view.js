@@ -1,6 +1,6 @@
 // Draws the preview pictures of examples and sessions.
 
-import { galleryPicture } from "../../core/session/gallery_picture.js";
+import { drawGalleryPicture } from "../../core/session/gallery_picture.js";
 import { icon } from "../ui/icons.js";
 import { svgElement } from "../ui/svg.js";
 
@@ -36,7 +36,7 @@ function drawEmptyPicture() {
  * @param {string} boardText
  */
 export function drawBoardPicture(boardText) {
-  const { width, height, shapes } = galleryPicture(boardText);
+  const { width, height, shapes } = drawGalleryPicture(boardText);
   if (shapes.length === 0) return drawEmptyPicture();
   return svgElement("svg", { class: "picture", viewBox: `0 0 ${width} ${height}`, "aria-hidden": "true" }, ...shapes.flatMap(drawShape));
 }

@@ -4,7 +4,7 @@ import { CancelledError } from "../../core/bench/bench_errors.js";
 import { formatErrorCount } from "../../core/bench/error_messages.js";
 import { button, onClick } from "../ui/dom.js";
 import { TextTab } from "../text/text_tab.js";
-import { completeTest, helpForTest, testForms } from "../../core/text/test_words.js";
+import { completeTest, helpForTest, readTestForms } from "../../core/text/test_words.js";
 import { testsTabMark, textErrorsMessage, testsSummary } from "../../words/test_results.js";
 import { TestsView } from "./tests_view.js";
 import * as say from "../../words/testing.js";
@@ -48,7 +48,7 @@ export class TestsTab {
       name: "tests",
       insertButton: "first-test",
       firstText: () => calls.sample(calls.texts()),
-      forms: testForms(manual),
+      forms: readTestForms(manual),
       describeWord: helpForTest,
       complete: completeTest,
     }, calls, {

@@ -1,6 +1,6 @@
 // Syntax colouring of the board's text.
 
-import { tomlWords } from "../../core/text/toml_words.js";
+import { splitTomlWords } from "../../core/text/toml_words.js";
 
 /** @typedef {import("./line_colours.js").ColouredRange} ColouredRange */
 
@@ -32,7 +32,7 @@ function styleOfToken({ kind, text }, isKey) {
  * @returns {ColouredRange[]}
  */
 export function colourBoardLine(line) {
-  const words = tomlWords([line]).filter(({ kind }) => kind !== "end");
+  const words = splitTomlWords([line]).filter(({ kind }) => kind !== "end");
   const lastWord = words[words.length - 1];
   const commentRanges = findComment(line, lastWord ? lastWord.to : 0);
   const tableMatch = /^\s*\[[^\]]*\]?\]?/.exec(line);

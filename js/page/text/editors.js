@@ -2,8 +2,8 @@
 
 import { readBoard, parseRefusal } from "../../core/bench/answers.js";
 import { formatQuantity } from "../../core/bench/numbers.js";
-import { TextErrorFinder, findFrontPanelErrors, textRefusalOrNull } from "../../core/text/text_error_finder.js";
-import { createProgramTexts, describeAssembled } from "../../core/text/asm_texts.js";
+import { TextErrorFinder, findFrontPanelErrors, toTextRefusal } from "../../core/text/text_error_finder.js";
+import { createProgramTexts, describeAssembledProgram } from "../../core/text/asm_texts.js";
 import { makeAssemblyColours } from "./assembly_colours.js";
 import { colourBoardLine } from "./board_colours.js";
 import { completeBoard } from "../../core/text/board_completion.js";
@@ -15,7 +15,7 @@ import { FOLD_PATTERNS } from "../../core/text/folding.js";
 import { LiveErrors } from "./live_errors.js";
 import { readInstructions } from "../../core/help/manual.js";
 import { isProbablyNotProgram } from "../../core/text/program_errors.js";
-import { boardTables, helpForBoard, helpForProgram } from "../../core/text/text_help.js";
+import { readBoardTables, helpForBoard, helpForProgram } from "../../core/text/text_help.js";
 import { TOUR_BOARD } from "../../words/help.js";
 import * as say from "../../words/text.js";
 
@@ -72,7 +72,7 @@ export class Editors {
     this.errorMessages = errorMessages;
     this.calls = calls;
     this.instructions = readInstructions(manual);
-    this.tables = boardTables(manual);
+    this.tables = readBoardTables(manual);
     this.program = this.makeProgram();
     this.board = this.makeBoard();
     /** @type {string | null} the board's text while it is being applied; null at other times */
@@ -170,7 +170,7 @@ export class Editors {
    */
   async findRefusal(command, text) {
     const [answer] = await this.bench.call("ask", [`${command}\n${text}.\n`]);
-    return textRefusalOrNull(parseRefusal(answer));
+    return toTextRefusal(parseRefusal(answer));
   }
 
   /**
@@ -210,7 +210,7 @@ export class Editors {
     const refusal = parseRefusal(answer);
     if (!refusal) await this.calls.handleAssembly(false);
     const leftovers = await this.bench.call("findLeftovers", [benchText]);
-    this.program.showMessage(refusal ? this.describeRefusal(refusal) : describeAssembled(leftovers, this.calls.counter()));
+    this.program.showMessage(refusal ? this.describeRefusal(refusal) : describeAssembledProgram(leftovers, this.calls.counter()));
   }
 
   async applyBoard() {

@@ -6,7 +6,7 @@ import { button, onClick } from "../ui/dom.js";
 import { TextEditorView } from "./text_editor_view.js";
 import { FOLD_PATTERNS } from "../../core/text/folding.js";
 import { LiveErrors } from "./live_errors.js";
-import { COLOURS } from "../../core/text/test_colours.js";
+import { LINE_COLOURERS } from "../../core/text/test_colours.js";
 
 /**
  * @typedef {import("../../core/testing/test_preparation.js").ProjectTextError} ProjectTextError
@@ -56,7 +56,7 @@ export class TextTab {
     this.tabCalls = tabCalls;
     this.editor = new TextEditorView(`${kind.name}-editor`, {
       mark: "#",
-      colours: COLOURS[kind.name],
+      colours: LINE_COLOURERS[kind.name],
       gutters: ["numbers"],
       folds: FOLD_PATTERNS.tests,
       isNeverSent: true,

@@ -4,7 +4,7 @@
 
 import { CYCLES_PER_SECOND } from "../../core/time/mcs4_time.js";
 import { MIN_GAP_MS, MAX_EARLY_MS, RealTime } from "../../core/time/real_time.js";
-import { REAL_TIME_SPEED, canFollowLine, togglesKeys } from "../../core/time/speeds.js";
+import { REAL_TIME_SPEED, canUserFollowLine, togglesKeys } from "../../core/time/speeds.js";
 
 /**
  * @typedef {import("../../core/board/key_place.js").Key} Key
@@ -44,7 +44,7 @@ export class Clock {
 
   /** True if time is running so slowly that the page shows every line that runs. */
   get isSlow() {
-    return this.isRunning && canFollowLine(this.speed);
+    return this.isRunning && canUserFollowLine(this.speed);
   }
 
   /** True if key presses and releases are queued until the simulation reaches their time. Otherwise, each press toggles the key. */

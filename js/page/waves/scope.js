@@ -7,9 +7,9 @@ import { findLineByName, findLineNameInEdge } from "../../core/waves/trigger.js"
 import { vcdParts } from "../../core/waves/vcd.js";
 import { WaveChoice } from "./wave_choice.js";
 import { renderPng, toSvg } from "./wave_pictures.js";
-import { findMatch, readSearch } from "../../core/waves/wave_search.js";
+import { findMatch, parseSearch } from "../../core/waves/wave_search.js";
 import { WaveView } from "./wave_view.js";
-import { MAX_CYCLES, formatNumber, readCycles, describeRecording } from "../../core/waves/wave_words.js";
+import { MAX_CYCLES, formatNumber, parseCycleCount, describeRecording } from "../../core/waves/wave_words.js";
 import { Waves } from "../../core/waves/wave_recording.js";
 import * as say from "../../words/waves.js";
 
@@ -133,7 +133,7 @@ export class Scope {
    */
   readCycleField(id, min) {
     const input = field(id);
-    const cycles = input.value.trim() === "0" && min === 0 ? 0 : readCycles(input.value) || -1;
+    const cycles = input.value.trim() === "0" && min === 0 ? 0 : parseCycleCount(input.value) || -1;
     input.setAttribute("aria-invalid", String(cycles < 0));
     if (cycles < 0) {
       this.status.set(say.cycleCountHint(min, MAX_CYCLES.toLocaleString("en")));
@@ -290,7 +290,7 @@ export class Scope {
     if (!waves) return;
     this.searchStatus.set("");
     const query = field("wave-search").value;
-    const { search, error } = readSearch(query, waves, selectedLine);
+    const { search, error } = parseSearch(query, waves, selectedLine);
     field("wave-search").setAttribute("aria-invalid", String(error !== ""));
     if (!search) {
       this.searchStatus.set(error);

@@ -3,7 +3,7 @@
 import { isDecoder } from "../../core/waves/decoders.js";
 import { countUpTo } from "../../core/waves/number_queue.js";
 import { isDrawnAsBoxes } from "../../core/waves/wave_lines.js";
-import { tickMoments } from "../../core/waves/wave_window.js";
+import { chooseTickMoments } from "../../core/waves/wave_window.js";
 
 /**
  * @typedef {import("../../core/waves/wave_recording.js").Waves} Waves
@@ -91,7 +91,7 @@ function drawClipped(context, box, draw) {
  */
 function drawTicks(context, { view, gutter, height, colours }) {
   let nextFreeX = 0;
-  for (const cycle of tickMoments(view, TICK_WIDTH)) {
+  for (const cycle of chooseTickMoments(view, TICK_WIDTH)) {
     const x = Math.round(gutter + view.xAt(cycle)) + 0.5;
     context.strokeStyle = colours.grid;
     strokeLine(context, x, 18, x, height);

@@ -1,7 +1,7 @@
 // The selection of lines and values to show: a check box for each, grouped by chip or port, and a search field.
 
 import { Cell, block, button, element, field, onClick } from "../ui/dom.js";
-import { chooseFirstLines, groupTitle, searchLines, chosenValueNames } from "../../core/waves/wave_catalog.js";
+import { chooseInitialLines, groupTitle, searchLines, listChosenValueNames } from "../../core/waves/wave_catalog.js";
 import * as say from "../../words/waves.js";
 
 /**
@@ -39,7 +39,7 @@ export class WaveChoice {
 
   /** The names of the selected registers and nibbles, which must be recorded. */
   get valueNames() {
-    return chosenValueNames(this.calls.boardLines(), this.selectedNames);
+    return listChosenValueNames(this.calls.boardLines(), this.selectedNames);
   }
 
   /** @param {Waves} waves a new recording; lines whose names the user has selected stay selected */
@@ -63,7 +63,7 @@ export class WaveChoice {
    * @param {Waves} waves
    */
   selectChangingIn(waves) {
-    const lineNames = chooseFirstLines(waves).map((line) => waves.lines[line].name);
+    const lineNames = chooseInitialLines(waves).map((line) => waves.lines[line].name);
     const valueNames = waves.lines.filter(({ name, kind }) => kind === "value" && this.selectedNames.has(name)).map(({ name }) => name);
     const newSelection = new Set([...lineNames, ...valueNames]);
     if (newSelection.size === this.selectedNames.size && [...newSelection].every((name) => this.selectedNames.has(name))) return false;

@@ -8,7 +8,7 @@ import { WavePointers } from "./wave_pointers.js";
 import { ROW_COLOURS, WaveRows } from "../../core/waves/wave_rows.js";
 import { WaveValues } from "./wave_values.js";
 import { WaveWindow } from "../../core/waves/wave_window.js";
-import { describeDistance, describeCursor, screenReaderText } from "../../core/waves/wave_words.js";
+import { describeDistance, describeCursor, describeForScreenReader } from "../../core/waves/wave_words.js";
 import * as say from "../../words/waves.js";
 
 /**
@@ -103,7 +103,7 @@ export class WaveView {
       isOnRowName: ({ x, y }) => y >= AXIS_HEIGHT && x < this.gutter,
       dragRow: (from, to) => this.dragRow(from, to),
       hover: (point) => this.hover(point),
-      pan: (pixels) => this.changeView(() => this.view.goTo(this.view.from + (pixels / this.view.width) * this.view.span)),
+      pan: (pixels) => this.changeView(() => this.view.scrollTo(this.view.from + (pixels / this.view.width) * this.view.span)),
       zoom: (factor, x) => this.changeView(() => this.view.zoom(factor, this.view.timeAt(x - this.gutter))),
     });
   }
@@ -268,7 +268,7 @@ export class WaveView {
    * @param {import("../../core/waves/wave_rows.js").RowAppearance} appearance
    */
   changeLines(names, appearance) {
-    this.rearrange(() => names.forEach((name) => this.arrangement.change(name, appearance)));
+    this.rearrange(() => names.forEach((name) => this.arrangement.changeAppearance(name, appearance)));
   }
 
   /**
@@ -467,7 +467,7 @@ export class WaveView {
     this.canvas.setAttribute("aria-valuenow", String(view.moment));
     const { line = 0, title = "" } = this.rows[this.selectedIndex] || {};
     const heading = line < 0 ? say.groupPrefix(title) : "";
-    this.canvas.setAttribute("aria-valuetext", heading + screenReaderText(view.moment, waves, this.selectedLine));
+    this.canvas.setAttribute("aria-valuetext", heading + describeForScreenReader(view.moment, waves, this.selectedLine));
     this.values.show(waves, view.cursors);
   }
 
