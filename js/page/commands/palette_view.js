@@ -90,7 +90,7 @@ export class PaletteView {
     return option;
   }
 
-  /** Lists the destinations again. The same index stays selected. */
+  /** Lists the destinations again, and keeps the selected index. */
   refresh() {
     if (!this.dialog.open || this.searchesCommands) return;
     const { selectedIndex } = this;

@@ -88,7 +88,7 @@ export class PictureInput {
     }
     const point = view.toPicturePoint(event);
     if (!heldItem.isDragged && Math.hypot(point.x - heldItem.downPoint.x, point.y - heldItem.downPoint.y) < DRAG_DISTANCE) return;
-    // A finger on a part scrolls the picture; a finger on a pin draws a wire.
+    // A touch that begins on a part scrolls the picture. A touch that begins on a pin draws a wire.
     if (heldItem.name === "" || (heldItem.isPart && event.pointerType === "touch")) return;
     if (!heldItem.isDragged && !heldItem.isPart && this.startPin !== heldItem.name) this.calls.pressItem(heldItem.name);
     heldItem.isDragged = true;

@@ -32,7 +32,7 @@ import * as say from "../../words/machine.js";
  * @property {() => SourceMap | null} map Returns the source map of the program in ROM, or null if ROM does not match the source.
  */
 
-/** While time is paused, the delay in milliseconds between the last input or snapshot and the count of changes. */
+/** The delay in milliseconds after the last input or snapshot before changes are counted. Applies only while time is paused. */
 const COUNT_DELAY_MS = 300;
 /** The maximum number of cycles over which changes are counted. */
 const MAX_CYCLES = 10000000;
@@ -108,7 +108,7 @@ export class HeatView {
    */
   handleFrame({ chipHeat, cycles }) {
     if (this.kindSelect.value === "") return;
-    // On a board without RAM, no new message replaces the message about the recorded past, which does not apply while time is running.
+    // Remove a message about the recorded past, which does not apply while time is running. On a board without RAM, no message replaces it.
     if (!chipHeat) this.showStatus("");
     const maxCycles = parseCount(this.cyclesField.value, MAX_CYCLES);
     if (!chipHeat || maxCycles === 0) return;

@@ -38,7 +38,7 @@ import * as say from "../../words/text.js";
  * @property {(edits: Edit[]) => void} handleEdits Handles an edit. `edits` has the edits of the source; it is empty after an edit of the
  *   board's text.
  * @property {(wasReset: boolean) => Promise<void>} handleAssembly Handles a program that was loaded into ROM; `wasReset` is true if the
- *   processor was also reset. Resolves when each breakpoint has the address of its line.
+ *   processor was also reset. Resolves when the addresses of all breakpoints are up to date.
  * @property {(lines: string) => Promise<string | null>} serveLines Sends lines to the bench. Resolves to the first answer, or to null after
  *   a failure. A failure has already been reported.
  * @property {() => Promise<void>} pauseTime Pauses time. Resolves when time is paused.
@@ -141,11 +141,11 @@ export class Editors {
   }
 
   /**
-   * Checks the source and the board's text after another session was opened or the board has changed.
+   * Checks the source and the board's text. Called after another session has been opened, and after the bench's board has changed.
    * @param {boolean} isEmpty true if the bench has no board
    */
   checkTexts(isEmpty) {
-    this.offerBoard(isEmpty);
+    this.showFirstBoardOffer(isEmpty);
     this.programErrors.checkNow().catch(this.calls.reportFailure);
     this.boardErrors.checkNow().catch(this.calls.reportFailure);
   }
@@ -153,14 +153,14 @@ export class Editors {
   /**
    * Shows or hides the button that inserts a first board. If the button has the focus when it disappears, the focus moves to the heading of
    * the front panel.
-   * @param {boolean} shouldOffer
+   * @param {boolean} isShown
    */
-  offerBoard(shouldOffer) {
+  showFirstBoardOffer(isShown) {
     const offerBlock = block("board-offer");
     const hadFocus = offerBlock.contains(document.activeElement);
-    offerBlock.hidden = !shouldOffer;
+    offerBlock.hidden = !isShown;
     const heading = block("front-title").querySelector("button");
-    if (hadFocus && !shouldOffer && heading) heading.focus();
+    if (hadFocus && !isShown && heading) heading.focus();
   }
 
   /**
@@ -201,7 +201,7 @@ export class Editors {
     this.calls.resumeTime();
   }
 
-  /** Loads the program's bytes into ROM and leaves everything else as it is. */
+  /** Loads the program into ROM. Changes nothing else. */
   async assembleOnly() {
     if (!(await this.hasNoErrors("program"))) return;
     const { benchText } = this.program;
@@ -249,7 +249,7 @@ export class Editors {
   }
 
   /**
-   * Resolves to true if each code line of a text has an error.
+   * Resolves to true if every line of a text that is not blank or a comment has an error.
    * @param {string} text
    */
   async isProbablyNotProgram(text) {

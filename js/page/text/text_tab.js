@@ -87,13 +87,13 @@ export class TextTab {
   }
 
   handleEdit() {
-    this.offerFirstText();
+    this.updateFirstTextOffer();
     this.liveErrors.handleEdit();
     this.calls.handleEdit();
   }
 
   /** Shows the button for a first text only while the editor is empty. */
-  offerFirstText() {
+  updateFirstTextOffer() {
     button(this.kind.insertButton).hidden = this.editor.text.trim() !== "";
   }
 
@@ -102,7 +102,7 @@ export class TextTab {
    * may have changed.
    */
   refresh() {
-    this.offerFirstText();
+    this.updateFirstTextOffer();
     this.liveErrors.checkNow().catch(this.calls.reportFailure);
   }
 

@@ -22,7 +22,7 @@ export class ProgressView {
   }
 
   /**
-   * Performs work, and shows its progress if it takes long. Resolves to the result of the work.
+   * Performs work, and shows its progress if the work takes longer than SHOW_DELAY. Resolves to the result of the work.
    * @template Result
    * @param {string} description the description of the work
    * @param {(signal: AbortSignal, progress: (done: number, total: number) => void) => Promise<Result>} work
