@@ -49,8 +49,8 @@ function instantiate(path) {
   return new WebAssembly.Instance(new WebAssembly.Module(readFileSync(path)), {}).exports;
 }
 
-// Allocates the buffers for calls (the file, the input, the answers and the report), and copies the input into its buffer. Returns their addresses
-// and sizes.
+// Allocates the buffers for calls: the file, the input, the answers and the report. Copies the input into its buffer. Returns the addresses and
+// sizes of the buffers.
 function allocateBuffers(calls, input) {
   const size = calls.bench_file_size();
   const file = calls.bench_buffer(size);
@@ -61,8 +61,8 @@ function allocateBuffers(calls, input) {
   return { size, file, lines, count: BigInt(input.length), answers, report };
 }
 
-// Returns a copy of the bytes of the file.
-function readFile(calls, { file, size }) {
+// Returns a copy of the session file that the module has in its memory.
+function copyFile(calls, { file, size }) {
   return Buffer.from(new Uint8Array(calls.memory.buffer, Number(file), Number(size)).slice());
 }
 
@@ -93,16 +93,16 @@ function checkWithoutMemory(calls) {
   for (let size = BLOCK_SIZE; size >= 16n; size /= 2n) {
     for (let block = calls.bench_buffer(size); block !== 0n; block = calls.bench_buffer(size)) blocks.push(block);
   }
-  const fileBefore = readFile(calls, buffers);
+  const fileBefore = copyFile(calls, buffers);
   for (const name of ["bench_serve", "bench_serve_and_settle", "bench_ask"]) {
     expect(`${name} without memory`, serve(calls, name, buffers), NO_MEMORY);
   }
   expect("settle without memory", calls.bench_settle(buffers.file, buffers.size), 0);
   expect("begin without memory", calls.bench_begin(buffers.file, buffers.size), 0);
-  expect("the file is unchanged without memory", readFile(calls, buffers).equals(fileBefore), true);
+  expect("the file is unchanged without memory", copyFile(calls, buffers).equals(fileBefore), true);
   for (const block of blocks) calls.bench_buffer_back(block);
   expect("serve with memory again", serve(calls, "bench_serve", buffers), 0);
-  expect("the file has changed with memory", readFile(calls, buffers).equals(fileBefore), false);
+  expect("the file has changed with memory", copyFile(calls, buffers).equals(fileBefore), false);
 }
 
 // Returns a question to the prover about a program that counts in `registers` registers and turns its lamp on while TEST is 0. The question is

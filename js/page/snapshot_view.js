@@ -58,7 +58,7 @@ import * as say from "../words/page.js";
  * @typedef {{ handleLamps: (lamps: string) => void, handleKeyCount: (keyCount: number) => void }} Watcher
  */
 
-/** While time is running fast, the interval in milliseconds between updates of the views whose values change too quickly to read. */
+/** The interval in milliseconds between updates of the views whose values change too quickly to read while time is running fast. */
 const DRAW_INTERVAL = 100;
 
 export class SnapshotView {

@@ -94,7 +94,7 @@ export class PrinterView {
     this.printoutBlock.focus();
   }
 
-  /** Shows the last MAX_SHOWN_LINES lines of the printout. Keeps the elements of the first lines as far as these lines are unchanged. */
+  /** Shows the last MAX_SHOWN_LINES lines of the printout. Keeps the elements of all lines before the first changed line. */
   show() {
     const lines = this.printer ? printoutLines(this.codes, this.printer.words).slice(-MAX_SHOWN_LINES) : [];
     if (lines[lines.length - 1] === "") lines.pop();

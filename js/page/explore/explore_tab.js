@@ -89,7 +89,7 @@ export class ExploreTab {
     this.exploreButton = new Cell(button("explore"));
     this.exploreButton.set(say.EXPLORE);
     onClick(button("clear-finds"), () => this.clear());
-    /** The number of errors in the properties that the tab shows. */
+    /** The number of errors in the properties, as shown on the tab. */
     this.errorCount = 0;
     this.proofs = this.makeProofs();
   }

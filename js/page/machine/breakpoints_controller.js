@@ -208,7 +208,7 @@ export class BreakpointsController {
   }
 
   /**
-   * Updates the addresses of the breakpoints after the source was loaded into ROM. Resolves when all of them are up to date.
+   * Updates the addresses of the breakpoints after the source was loaded into ROM. Resolves when all addresses are up to date.
    * @param {boolean} wasReset true if the processor was reset, which also resets the hit counts
    */
   async handleAssembly(wasReset) {

@@ -37,8 +37,8 @@ export class ListingView {
     this.block = block("lines-of-program");
     this.followsCounter = true;
     /**
-     * The program counter at the moment when the user went to another address, or -1. As soon as the program counter changes, the
-     * disassembly follows it again.
+     * The program counter at the moment when the user went to another address. As soon as the program counter differs from this value, the
+     * disassembly follows it again. -1 if the disassembly does not wait for a change of the counter.
      */
     this.counterAtLeave = -1;
     /** The first address to show while the disassembly does not follow the program counter. */

@@ -24,7 +24,7 @@ export class Locks {
     }
   }
 
-  /** @param {LockManager | null} manager null if the browser has no working locks; every lock is then free */
+  /** @param {LockManager | null} manager null if the browser has no working locks; every lock can then be acquired */
   constructor(manager) {
     this.manager = manager;
     this.areAvailable = manager !== null;

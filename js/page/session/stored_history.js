@@ -125,7 +125,7 @@ export class StoredHistory {
   }
 
   /**
-   * Puts the history that the bench has restored after a reload before the entries since the reload.
+   * Puts the history from before a reload, which the bench has restored, in front of the entries since the reload.
    * @param {StoredSegment[]} restoredSegments
    * @param {number} restoredCount the number of restored entries in the last segment
    */

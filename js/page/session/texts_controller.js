@@ -31,8 +31,8 @@ import * as say from "../../words/session.js";
 /**
  * @typedef {keyof typeof say.WHICH_TEXT} TextName
  *
- * A replaced text: its name, the old text and the new text. `undoStep` is the editor's step that restores the old text, until the user
- * edits the text.
+ * A replaced text: its name, the old text and the new text. `undoStep` is the step in the editor that restores the old text. This step is
+ * possible until the user edits the text.
  * @typedef {{ name: TextName, oldText: string, newText: string, undoStep: "undo" | "redo" }} ReplacedText
  */
 

@@ -249,7 +249,7 @@ export class Editors {
   }
 
   /**
-   * Resolves to true if every line of a text that is not blank or a comment has an error.
+   * Resolves to true if a text is probably not a program: every line has an error, except blank lines and comments.
    * @param {string} text
    */
   async isProbablyNotProgram(text) {

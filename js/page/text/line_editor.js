@@ -102,7 +102,7 @@ export class LineEditor {
     /** @type {(() => void)[]} listeners that are called when the text scrolls */
     this.scrollListeners = [];
     this.extensions = this.makeExtensions(options);
-    /** @type {EditorView | null} CodeMirror's view. It is created late, because a view costs much more time than a state. */
+    /** @type {EditorView | null} CodeMirror's view; null until it is needed, because creating a view takes much longer than a state */
     this.createdView = null;
     /** The state while there is no view. */
     this.stateWithoutView = this.makeState("");

@@ -177,7 +177,10 @@ export function makeTextMark(name, { text, description }) {
 /** @type {Map<string, { line: Decoration, gutters: GutterMarker }>} the line styles, by name */
 const lineStyles = new Map();
 
-/** @param {string} name the CSS class of the line; the CSS class of the line's gutters is this name after `at-` */
+/**
+ * Returns the style of lines that have a CSS class. The CSS class of the gutters of these lines is `at-` and the name.
+ * @param {string} name the CSS class
+ */
 export function findLineStyle(name) {
   const style = lineStyles.get(name) || { line: Decoration.line({ class: name }), gutters: new GutterStyle(`at-${name}`) };
   lineStyles.set(name, style);

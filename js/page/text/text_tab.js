@@ -15,7 +15,7 @@ import { COLOURS } from "../../core/text/test_colours.js";
  */
 
 /**
- * The callbacks to the tab that contains the editor.
+ * The callbacks through which the editor acts on the tab that contains it.
  * @typedef {object} TabCalls
  * @property {() => Promise<ProjectTextError[]>} findErrors Resolves to the errors of the board, the program and this text.
  * @property {(count: number) => void} showErrorCount Shows the number of errors in this text.

@@ -1,4 +1,5 @@
-// Runs and pauses time, with the clock or at full speed. Handles the frames that the worker reports.
+// Runs and pauses time. At full speed, the worker runs on its own; at other speeds, the page's clock runs the cycles. Handles the frames
+// that the worker reports.
 
 import { isStop, readRun, parseRefusal } from "../../core/bench/answers.js";
 import { describeUserPause, runningToGoal, pauseMessage } from "../../words/stops.js";
@@ -176,7 +177,7 @@ export class RunController {
     this.handleFrame(frame);
   }
 
-  /** Runs one instruction, which can take two cycles. A breakpoint or a watch can stop the instruction, like any other run. */
+  /** Runs one instruction, which can take two cycles. Breakpoints and watches can stop it, as in any other run. */
   async runInstruction() {
     const { bench, calls } = this;
     this.handleFrame(await bench.call("advance", [1]));

@@ -63,7 +63,7 @@ function listenToPanels() {
   }
 }
 
-/** Keeps a CSS property equal to the height of the controls. The style sheet places the panels below the controls with it. */
+/** Keeps a CSS property equal to the height of the controls. The style sheet uses this property to place panels below the controls. */
 function trackControlsHeight() {
   const bar = block("wave-bar");
   new ResizeObserver(() => block("scope").style.setProperty("--wave-bar-height", `${bar.offsetHeight}px`)).observe(bar);

@@ -209,7 +209,7 @@ export class WaveView {
   }
 
   /**
-   * Returns the current index of a row from before the last arrangement, or -1 if the row is no longer shown.
+   * Returns the current index of a row, or -1 if the row is no longer shown. The row can be from an earlier arrangement.
    * @param {WaveRow} row
    */
   indexOfRow({ line, group }) {
