@@ -35,8 +35,8 @@ def tables_of(section):
         if rows:
             tables.append({"caption": caption, "head": rows[0], "rows": rows[2:]})
             rows, caption = [], ""
-        bold = re.fullmatch(r"\*\*(.+)\*\*", line)
-        caption = bold.group(1) if bold else caption
+        bold_match = re.fullmatch(r"\*\*(.+)\*\*", line)
+        caption = bold_match.group(1) if bold_match else caption
     return tables
 
 

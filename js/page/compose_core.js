@@ -92,7 +92,7 @@ export function makeLineServer(page) {
     runWithProgress: (description, work) => page.progressView.show(description, (signal, progress) => work({ signal, progress })),
     counter: () => page.snapshotView.counter,
     show: (result) => {
-      if (result.hasChangedRom) page.snapshotView.forgetRom();
+      if (result.hasChangedRom) page.snapshotView.discardRom();
       page.show(result);
     },
     checkSource: () => page.checkSource(),

@@ -140,11 +140,11 @@ export class SnapshotView {
     this.ram.draw(this.board);
     this.ports.draw(this.board, face);
     this.wiring.discardLevels();
-    this.forgetRom();
+    this.discardRom();
   }
 
   /** Discards the cached contents of ROM, which may have changed. */
-  forgetRom() {
+  discardRom() {
     this.listing.discardLines();
     this.stack.invalidateNotes();
   }

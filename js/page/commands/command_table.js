@@ -87,7 +87,7 @@ const alwaysAvailable = () => "";
  * @param {Partial<Command>} [options]
  * @returns {Command}
  */
-function command(id, group, action, options = {}) {
+function makeCommand(id, group, action, options = {}) {
   return { id, label: say.COMMANDS[id], group, keys: [], place: "everywhere", act: action, unavailableReason: alwaysAvailable, ...options };
 }
 
@@ -103,7 +103,7 @@ function command(id, group, action, options = {}) {
 function makeButtonCommand(id, group, button, containerName, reason = say.NOT_NOW, options = {}) {
   /** @param {CommandCalls} calls */
   const unavailableReason = (calls) => (calls.isButtonAvailable(button) ? "" : reason);
-  return command(id, group, (calls) => calls.clickButton(button, containerName), { unavailableReason, ...options });
+  return makeCommand(id, group, (calls) => calls.clickButton(button, containerName), { unavailableReason, ...options });
 }
 
 /**
@@ -114,56 +114,56 @@ function makeButtonCommand(id, group, button, containerName, reason = say.NOT_NO
  * @param {boolean} [isSource] true if the command is available only in the source's editor
  */
 function makeTextCommand(id, textAction, keys, isSource = false) {
-  return command(id, "text", (calls) => calls.performTextAction(textAction), { keys, place: isSource ? "source" : "texts",
+  return makeCommand(id, "text", (calls) => calls.performTextAction(textAction), { keys, place: isSource ? "source" : "texts",
     unavailableReason: (calls) => (calls.isTextInFront(isSource) ? "" : isSource ? say.NO_NAMES : say.NO_EDITOR) });
 }
 
 /** @type {Command[]} */
 const TIME_COMMANDS = [
-  command("time.continue", "time", (calls) => calls.continueOrPause(), {
+  makeCommand("time.continue", "time", (calls) => calls.continueOrPause(), {
     icon: "continue", keys: ["F5", "F8"], currentLabel: (calls) => say.COMMANDS[calls.isRunning() ? "time.pause" : "time.continue"] }),
-  command("time.over", "time", (calls) => calls.runToGoal({ kind: "over" }), { icon: "over", keys: ["F10"] }),
-  command("time.into", "time", (calls) => calls.step(), { icon: "into", keys: ["F11"] }),
-  command("time.out", "time", (calls) => calls.runToGoal({ kind: "out" }), { icon: "out", keys: ["Shift+F11"] }),
-  command("time.stepBack", "time", (calls) => calls.goBack({ kind: "instruction" }), { icon: "back", keys: ["Ctrl+F11"] }),
-  command("time.lastPause", "time", (calls) => calls.goBack({ kind: "stop" }), { keys: ["Shift+F8"] }),
-  command("time.reverse", "time", (calls) => calls.goBack({ kind: "arrival", place: "" })),
-  command("time.redo", "time", (calls) => calls.goForward(), {
+  makeCommand("time.over", "time", (calls) => calls.runToGoal({ kind: "over" }), { icon: "over", keys: ["F10"] }),
+  makeCommand("time.into", "time", (calls) => calls.step(), { icon: "into", keys: ["F11"] }),
+  makeCommand("time.out", "time", (calls) => calls.runToGoal({ kind: "out" }), { icon: "out", keys: ["Shift+F11"] }),
+  makeCommand("time.stepBack", "time", (calls) => calls.goBack({ kind: "instruction" }), { icon: "back", keys: ["Ctrl+F11"] }),
+  makeCommand("time.lastPause", "time", (calls) => calls.goBack({ kind: "stop" }), { keys: ["Shift+F8"] }),
+  makeCommand("time.reverse", "time", (calls) => calls.goBack({ kind: "arrival", place: "" })),
+  makeCommand("time.redo", "time", (calls) => calls.goForward(), {
     unavailableReason: (calls) => (calls.canGoForward() ? "" : say.NOTHING_UNDONE) }),
-  command("time.toCursor", "time", (calls) => calls.runToCursor(), { keys: ["Ctrl+F10"], place: "source" }),
-  command("time.count", "time", (calls) => calls.focusField("step-count", "history")),
-  command("time.untilChange", "time", (calls) => calls.focusField("change-place", "history")),
+  makeCommand("time.toCursor", "time", (calls) => calls.runToCursor(), { keys: ["Ctrl+F10"], place: "source" }),
+  makeCommand("time.count", "time", (calls) => calls.focusField("step-count", "history")),
+  makeCommand("time.untilChange", "time", (calls) => calls.focusField("change-place", "history")),
   makeButtonCommand("time.backToChange", "time", "back-change", "history"),
-  command("time.reset", "time", (calls) => calls.sendLine("reset\n"), { icon: "reset" }),
-  command("time.test", "time", (calls) => calls.toggleTestPin(), {
+  makeCommand("time.reset", "time", (calls) => calls.sendLine("reset\n"), { icon: "reset" }),
+  makeCommand("time.test", "time", (calls) => calls.toggleTestPin(), {
     unavailableReason: (calls) => (calls.isButtonAvailable("test") ? "" : say.NO_TEST_PIN) }),
 ];
 
 /** @type {Command[]} */
 const PROJECT_COMMANDS = [
-  command("project.open", "project", (calls) => calls.openFile(), { icon: "open", keys: ["Ctrl+O"] }),
-  command("project.save", "project", (calls) => calls.saveProject(), { icon: "save", keys: ["Ctrl+S"] }),
-  command("project.saveSession", "project", (calls) => calls.saveSession(), { icon: "file" }),
-  command("project.export", "project", (calls) => calls.exportFiles(), { icon: "export" }),
-  command("project.print", "project", (calls) => calls.print(), { icon: "print" }),
-  command("project.all", "project", (calls) => calls.openProjects(), { icon: "projects" }),
-  command("project.examples", "project", (calls) => calls.openExamples(), { icon: "examples" }),
-  command("project.rename", "project", (calls) => calls.focusField("name", "")),
-  command("project.share", "project", (calls) => calls.share(), { icon: "share" }),
+  makeCommand("project.open", "project", (calls) => calls.openFile(), { icon: "open", keys: ["Ctrl+O"] }),
+  makeCommand("project.save", "project", (calls) => calls.saveProject(), { icon: "save", keys: ["Ctrl+S"] }),
+  makeCommand("project.saveSession", "project", (calls) => calls.saveSession(), { icon: "file" }),
+  makeCommand("project.export", "project", (calls) => calls.exportFiles(), { icon: "export" }),
+  makeCommand("project.print", "project", (calls) => calls.print(), { icon: "print" }),
+  makeCommand("project.all", "project", (calls) => calls.openProjects(), { icon: "projects" }),
+  makeCommand("project.examples", "project", (calls) => calls.openExamples(), { icon: "examples" }),
+  makeCommand("project.rename", "project", (calls) => calls.focusField("name", "")),
+  makeCommand("project.share", "project", (calls) => calls.share(), { icon: "share" }),
 ];
 
 /** @type {Command[]} */
 const SHOW_COMMANDS = [
-  command("settings.palette", "show", (calls) => calls.openPalette(">"), { icon: "search", keys: ["Ctrl+Shift+P", "Ctrl+K"] }),
-  command("go.to", "show", (calls) => calls.openPalette(""), { icon: "goTo", keys: ["Ctrl+P"] }),
-  command("go.notices", "show", (calls) => calls.openNotices(), { icon: "notices",
+  makeCommand("settings.palette", "show", (calls) => calls.openPalette(">"), { icon: "search", keys: ["Ctrl+Shift+P", "Ctrl+K"] }),
+  makeCommand("go.to", "show", (calls) => calls.openPalette(""), { icon: "goTo", keys: ["Ctrl+P"] }),
+  makeCommand("go.notices", "show", (calls) => calls.openNotices(), { icon: "notices",
     unavailableReason: (calls) => (calls.hasNotices() ? "" : say.NO_NOTICES) }),
 ];
 
 /** @type {Command[]} */
 const BOARD_COMMANDS = [
-  command("board.apply", "board", (calls) => calls.sendText("board"), { keys: ["Ctrl+Enter"], place: "board" }),
-  command("board.type", "board", (calls) => calls.toggleCheckBox("typing")),
+  makeCommand("board.apply", "board", (calls) => calls.sendText("board"), { keys: ["Ctrl+Enter"], place: "board" }),
+  makeCommand("board.type", "board", (calls) => calls.toggleCheckBox("typing")),
   makeButtonCommand("board.sound", "board", "sound-button", "front", say.NO_BUZZER),
   makeButtonCommand("board.tear", "board", "clear-printout", "front", say.NO_PRINTER),
   makeButtonCommand("board.first", "board", "first-board", "front", say.HAS_BOARD),
@@ -172,7 +172,8 @@ const BOARD_COMMANDS = [
 
 /** @type {Command[]} */
 const TEXT_COMMANDS = [
-  command("text.assembleAndRun", "text", (calls) => calls.sendText("program"), { icon: "assemble", keys: ["Ctrl+Enter"], place: "source" }),
+  makeCommand("text.assembleAndRun", "text", (calls) => calls.sendText("program"), {
+    icon: "assemble", keys: ["Ctrl+Enter"], place: "source" }),
   makeButtonCommand("text.assemble", "text", "assemble-only", "program"),
   makeButtonCommand("text.disassemble", "text", "from-rom", "program"),
   makeTextCommand("text.find", "find", ["Ctrl+F"]),
@@ -191,33 +192,33 @@ const TEXT_COMMANDS = [
   makeTextCommand("text.redo", "redo", ["Ctrl+Y"]),
   makeButtonCommand("text.smaller", "text", "text-smaller", ""),
   makeButtonCommand("text.larger", "text", "text-larger", ""),
-  command("text.wrap", "text", (calls) => calls.toggleCheckBox("text-wrap")),
+  makeCommand("text.wrap", "text", (calls) => calls.toggleCheckBox("text-wrap")),
 ];
 
 /** @type {Command[]} */
 const DEBUG_COMMANDS = [
-  command("debug.breakpoint", "debug", (calls) => calls.toggleOrEditBreakpoint(), { icon: "breakpoint", keys: ["F9"] }),
-  command("debug.condition", "debug", (calls) => calls.toggleOrEditBreakpoint("condition"), { keys: ["Shift+F9"] }),
-  command("debug.hitCount", "debug", (calls) => calls.toggleOrEditBreakpoint("from")),
-  command("debug.log", "debug", (calls) => calls.toggleOrEditBreakpoint("note")),
+  makeCommand("debug.breakpoint", "debug", (calls) => calls.toggleOrEditBreakpoint(), { icon: "breakpoint", keys: ["F9"] }),
+  makeCommand("debug.condition", "debug", (calls) => calls.toggleOrEditBreakpoint("condition"), { keys: ["Shift+F9"] }),
+  makeCommand("debug.hitCount", "debug", (calls) => calls.toggleOrEditBreakpoint("from")),
+  makeCommand("debug.log", "debug", (calls) => calls.toggleOrEditBreakpoint("note")),
   makeButtonCommand("debug.allOn", "debug", "breakpoints-on", "breakpoints", say.NO_BREAKPOINTS),
   makeButtonCommand("debug.allOff", "debug", "breakpoints-off", "breakpoints", say.NO_BREAKPOINTS),
   makeButtonCommand("debug.hits", "debug", "breakpoints-hits", "breakpoints", say.NO_BREAKPOINTS),
   makeButtonCommand("debug.removeAll", "debug", "breakpoints-remove", "breakpoints", say.NO_BREAKPOINTS),
-  command("debug.watch", "debug", (calls) => calls.focusField("watched-field", "watched")),
-  command("debug.heat", "debug", (calls) => calls.focusField("heat", "memory")),
-  command("debug.console", "debug", (calls) => calls.focusField("lines", "talk")),
-  command("debug.goTo", "debug", (calls) => calls.focusField("go-to", "listing")),
+  makeCommand("debug.watch", "debug", (calls) => calls.focusField("watched-field", "watched")),
+  makeCommand("debug.heat", "debug", (calls) => calls.focusField("heat", "memory")),
+  makeCommand("debug.console", "debug", (calls) => calls.focusField("lines", "talk")),
+  makeCommand("debug.goTo", "debug", (calls) => calls.focusField("go-to", "listing")),
   makeButtonCommand("debug.there", "debug", "break-there", "listing"),
-  command("debug.follow", "debug", (calls) => calls.toggleCheckBox("follow")),
+  makeCommand("debug.follow", "debug", (calls) => calls.toggleCheckBox("follow")),
 ];
 
 /** @type {Command[]} */
 const TEST_COMMANDS = [
-  command("tests.run", "tests", (calls) => calls.sendText("tests"), { icon: "tests", keys: ["Ctrl+Enter"], place: "tests" }),
+  makeCommand("tests.run", "tests", (calls) => calls.sendText("tests"), { icon: "tests", keys: ["Ctrl+Enter"], place: "tests" }),
   makeButtonCommand("tests.first", "tests", "first-test", "tests", say.HAS_TEXT),
   makeButtonCommand("tests.clear", "tests", "clear-tests", "tests", say.NO_RESULTS),
-  command("properties.search", "tests", (calls) => calls.sendText("properties"), { keys: ["Ctrl+Enter"], place: "properties" }),
+  makeCommand("properties.search", "tests", (calls) => calls.sendText("properties"), { keys: ["Ctrl+Enter"], place: "properties" }),
   makeButtonCommand("properties.prove", "tests", "prove", "properties", "", { keys: ["Ctrl+Shift+Enter"], place: "properties" }),
   makeButtonCommand("properties.first", "tests", "first-properties", "properties", say.HAS_TEXT),
   makeButtonCommand("properties.clear", "tests", "clear-finds", "properties", say.NO_RESULTS),
@@ -229,7 +230,7 @@ const WIRING_COMMANDS = [
   makeButtonCommand("wiring.undo", "wiring", "drawing-undo", "wiring"),
   makeButtonCommand("wiring.redo", "wiring", "drawing-redo", "wiring"),
   makeButtonCommand("wiring.arrange", "wiring", "drawing-tidy", "wiring"),
-  command("wiring.scan", "wiring", (calls) => calls.insertKeyScan(), {
+  makeCommand("wiring.scan", "wiring", (calls) => calls.insertKeyScan(), {
     unavailableReason: (calls) => (calls.hasKeys() ? "" : say.NO_KEYS) }),
   makeButtonCommand("wiring.larger", "wiring", "picture-larger", "wiring"),
   makeButtonCommand("wiring.smaller", "wiring", "picture-smaller", "wiring"),
@@ -246,7 +247,7 @@ const makeWaveCommand = (id, button) => makeButtonCommand(id, "waves", button, "
 /** @type {Command[]} */
 const WAVE_COMMANDS = [
   makeButtonCommand("waves.record", "waves", "record", "waves", "", { icon: "record" }),
-  command("waves.trigger", "waves", (calls) => calls.focusField("trigger", "waves")),
+  makeCommand("waves.trigger", "waves", (calls) => calls.focusField("trigger", "waves")),
   makeWaveCommand("waves.save", "save-waves"),
   makeWaveCommand("waves.png", "save-png"),
   makeWaveCommand("waves.svg", "save-svg"),
@@ -258,7 +259,7 @@ const WAVE_COMMANDS = [
   makeWaveCommand("waves.a", "cursor-a"),
   makeWaveCommand("waves.b", "cursor-b"),
   makeWaveCommand("waves.instruction", "wave-go-to"),
-  command("waves.search", "waves", (calls) => calls.focusField("wave-search", "waves"), {
+  makeCommand("waves.search", "waves", (calls) => calls.focusField("wave-search", "waves"), {
     unavailableReason: (calls) => (calls.isButtonAvailable("zoom-in") ? "" : say.NO_WAVES) }),
   makeWaveCommand("waves.findBefore", "find-before"),
   makeWaveCommand("waves.findAfter", "find-after"),
@@ -269,9 +270,9 @@ const WAVE_COMMANDS = [
 
 /** @type {Command[]} */
 const HELP_COMMANDS = [
-  command("help.open", "help", (calls) => calls.toggleHelp(), { icon: "help", keys: ["F1"] }),
-  command("help.keys", "help", (calls) => calls.openHelp(KEYBOARD)),
-  command("help.welcome", "help", (calls) => calls.openWelcome(), { icon: "lamp" }),
+  makeCommand("help.open", "help", (calls) => calls.toggleHelp(), { icon: "help", keys: ["F1"] }),
+  makeCommand("help.keys", "help", (calls) => calls.openHelp(KEYBOARD)),
+  makeCommand("help.welcome", "help", (calls) => calls.openWelcome(), { icon: "lamp" }),
   makeButtonCommand("help.tour", "help", "tour-begin", "", "", { icon: "lamp" }),
 ];
 

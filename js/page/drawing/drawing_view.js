@@ -82,7 +82,7 @@ export class DrawingView {
     for (const [part, [word, title]] of /** @type {[ShelfPart, [string, string]][]} */ (Object.entries(say.SHELF))) {
       const node = element("button", { type: "button", id: `shelf-${part}`, title }, word);
       drag.listen(node, part);
-      onClick(node, () => this.add(part));
+      onClick(node, () => this.addPart(part));
       this.shelf.set(part, node);
     }
     const displays = block("shelf-displays");
@@ -94,7 +94,7 @@ export class DrawingView {
   }
 
   /** @param {ShelfPart} part */
-  add(part) {
+  addPart(part) {
     const { lastState: state } = this;
     const lineButton = state && state.fields.buttons.find(({ action }) => action.kind === "add" && action.part === part);
     this.calls.performAction(lineButton ? lineButton.action : this.makeAddAction(part));

@@ -47,7 +47,7 @@ export class PictureInput {
     root.addEventListener("pointermove", (event) => this.handlePointerMove(event));
     root.addEventListener("pointerup", (event) => this.handlePointerUp(event));
     root.addEventListener("pointercancel", () => this.handlePointerCancel());
-    root.addEventListener("keydown", (event) => this.onKeyDown(event));
+    root.addEventListener("keydown", (event) => this.handleKeyDown(event));
     // A screen reader clicks without a pointer.
     root.addEventListener("click", (event) => event.detail === 0 && this.press(view.nameAt(/** @type {Element} */ (event.target))));
   }
@@ -131,7 +131,7 @@ export class PictureInput {
   }
 
   /** @param {KeyboardEvent} event */
-  onKeyDown(event) {
+  handleKeyDown(event) {
     if (!this.handleKey(event)) return;
     event.preventDefault();
     event.stopPropagation();

@@ -146,10 +146,10 @@ export class HeatView {
     clearTimeout(this.countTimer);
     this.request.abort();
     if (!this.isStale || this.kindSelect.value === "" || this.calls.isRunning()) return;
-    this.countTimer = window.setTimeout(() => this.startCount(), COUNT_DELAY_MS);
+    this.countTimer = window.setTimeout(() => this.startCounting(), COUNT_DELAY_MS);
   }
 
-  async startCount() {
+  async startCounting() {
     const cycles = this.readCycles();
     if (cycles === 0) return;
     const request = new AbortController();

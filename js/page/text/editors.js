@@ -73,8 +73,8 @@ export class Editors {
     this.calls = calls;
     this.instructions = readInstructions(manual);
     this.tables = boardTables(manual);
-    this.program = this.makeProgram();
-    this.board = this.makeBoard();
+    this.program = this.makeProgramEditor();
+    this.board = this.makeBoardEditor();
     /** @type {string | null} the board's text while it is being applied; null at other times */
     this.pendingBoardText = null;
     this.errorFinder = this.makeErrorFinder(errorMessages);
@@ -97,7 +97,7 @@ export class Editors {
     }, { instructions: this.instructions, tables: this.tables }, (number) => errorMessages.refusalMeaning(number));
   }
 
-  makeProgram() {
+  makeProgramEditor() {
     return new TextEditorView("program-editor", {
       mark: ";",
       colours: makeAssemblyColours(new Set(this.instructions.keys())),
@@ -122,7 +122,7 @@ export class Editors {
     });
   }
 
-  makeBoard() {
+  makeBoardEditor() {
     return new TextEditorView("board-editor", {
       mark: "#",
       colours: colourBoardLine,

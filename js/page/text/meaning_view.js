@@ -43,7 +43,7 @@ export class MeaningView {
    * @param {Piece[]} pieces the word's current values
    * @param {string} meaning the word's meaning
    */
-  set(pieces, meaning) {
+  showMeaning(pieces, meaning) {
     const layoutKey = layoutKeyOf(pieces);
     if (layoutKey !== this.layoutKey) {
       this.layoutKey = layoutKey;

@@ -210,7 +210,7 @@ export class TextEditorView {
     const position = this.editor.lineEditor.positionAt({ left, top });
     const helpText = this.messageOrHelpAt(position);
     const values = this.valuesAt(position);
-    if (helpText || values.length > 0) this.meaning.set(values, helpText);
+    if (helpText || values.length > 0) this.meaning.showMeaning(values, helpText);
     this.meaning.showTooltip(values, { left, top });
   }
 
@@ -228,7 +228,7 @@ export class TextEditorView {
   describeAtCaret() {
     const position = this.editor.lineEditor.getCursor();
     this.meaning.hideTooltip();
-    this.meaning.set(this.valuesAt(position), this.messageOrHelpAt(position));
+    this.meaning.showMeaning(this.valuesAt(position), this.messageOrHelpAt(position));
   }
 
   /**
@@ -280,7 +280,7 @@ export class TextEditorView {
     this.status.set("");
     this.editor.open(sessionId, text);
     this.scheduleSizeUpdate();
-    this.meaning.set([], "");
+    this.meaning.showMeaning([], "");
   }
 
   /**

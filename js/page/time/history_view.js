@@ -52,15 +52,15 @@ export class HistoryView {
     onClick(button("step-many"), () => this.stepByCount());
     onClick(button("until-change"), () => this.useTypedGoal((goal) => calls.runToGoal(goal)));
     onClick(button("back-change"), () => this.useTypedGoal((goal) => calls.goBack(goal)));
-    this.onEnter(this.countField, () => this.stepByCount());
-    this.onEnter(this.placeField, () => this.useTypedGoal((goal) => calls.runToGoal(goal)));
+    this.listenForEnter(this.countField, () => this.stepByCount());
+    this.listenForEnter(this.placeField, () => this.useTypedGoal((goal) => calls.runToGoal(goal)));
   }
 
   /**
    * @param {HTMLInputElement} input
    * @param {() => void} action
    */
-  onEnter(input, action) {
+  listenForEnter(input, action) {
     input.addEventListener("keydown", (event) => {
       if (event.key !== "Enter") return;
       event.preventDefault();

@@ -109,10 +109,10 @@ export class Scope {
       });
     }
     this.periodSelect.addEventListener("change", () => this.updateTriggerVisibility());
-    onClick(button("find-before"), () => this.find(false));
-    onClick(button("find-after"), () => this.find(true));
+    onClick(button("find-before"), () => this.findNextMatch(false));
+    onClick(button("find-after"), () => this.findNextMatch(true));
     field("wave-search").addEventListener("keydown", (event) => {
-      if (event.key === "Enter") this.find(!event.shiftKey);
+      if (event.key === "Enter") this.findNextMatch(!event.shiftKey);
       if (event.key === "Escape") this.view.canvas.focus();
     });
     const baseSelect = byId("wave-base", HTMLSelectElement);
@@ -287,7 +287,7 @@ export class Scope {
    * Searches the recording for the query in the search field, starting at the cursor of the waves.
    * @param {boolean} isForward
    */
-  find(isForward) {
+  findNextMatch(isForward) {
     const { waves, selectedLine, view } = this.view;
     if (!waves) return;
     this.searchStatus.set("");
