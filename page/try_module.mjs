@@ -87,7 +87,7 @@ function checkMemory(bytes) {
 function checkWithoutMemory(calls) {
   const buffers = allocateBuffers(calls, Buffer.from("poke r5 9\nregs\n"));
   expect("begin", calls.bench_begin(buffers.file, buffers.size) !== 0, true);
-  // This call frees its blocks when it returns. The loop below must allocate these blocks, too, so that no memory is left.
+  // This call frees its blocks when it returns. The loop below must allocate these blocks, too, so that the heap is full.
   expect("serve", serve(calls, "bench_serve_and_settle", buffers), 0);
   const blocks = [];
   for (let size = BLOCK_SIZE; size >= 16n; size /= 2n) {

@@ -151,7 +151,7 @@ export function makeTestsTab(page, manual) {
     findErrors: (texts) => bench.call("findTestErrors", [texts]),
     sample: (texts) => bench.call("createSampleTest", [texts]),
     run: async (texts) => {
-      // The worker serves one call at a time, so time cannot run during the tests. Pausing first shows this to the user.
+      // The worker serves one call at a time, so time cannot run during the tests. Time is paused first, so that the user sees this.
       await runController.pause();
       return page.progressView.show(say.RUNNING_TESTS, (signal, progress) => bench.call("runTests", [texts], { signal, progress }));
     },

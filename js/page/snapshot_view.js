@@ -59,7 +59,7 @@ import * as say from "../words/page.js";
  */
 
 /** The interval in milliseconds between updates of the views whose values change too quickly to read while time is running fast. */
-const DRAW_INTERVAL = 100;
+const DRAW_INTERVAL_MS = 100;
 
 export class SnapshotView {
   /** @param {SnapshotCalls} calls */
@@ -179,7 +179,7 @@ export class SnapshotView {
     const changedValues = this.reader.readSnapshot(snapshot);
     this.showLamps(changedValues.lamps, isIntermediate && this.calls.isRunning() ? litShares : null);
     this.showFront(changedValues);
-    if (isIntermediate && this.calls.isFast() && performance.now() - this.lastDrawTime < DRAW_INTERVAL) return;
+    if (isIntermediate && this.calls.isFast() && performance.now() - this.lastDrawTime < DRAW_INTERVAL_MS) return;
     this.updateThrottledViews();
     if (this.calls.isRunning()) this.changes.clearWhileRunning();
     else this.changes.markWhilePaused();

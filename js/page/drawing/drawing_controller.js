@@ -35,7 +35,7 @@ import { PictureZoom } from "./picture_zoom.js";
 /** @typedef {DrawingCallbacks & DrawingPageCalls} PictureCalls */
 
 /** The delay in milliseconds between the last edit and the update of the picture. */
-const DRAW_DELAY = 300;
+const DRAW_DELAY_MS = 300;
 
 export class DrawingController {
   /**
@@ -120,11 +120,11 @@ export class DrawingController {
   }
 
   /**
-   * Draws the picture again DRAW_DELAY milliseconds after the last edit, if the board's text has changed and the Wiring tab is in front.
+   * Draws the picture again DRAW_DELAY_MS milliseconds after the last edit, if the board's text has changed and the Wiring tab is in front.
    */
   handleEdit() {
     clearTimeout(this.drawTimer);
-    this.drawTimer = window.setTimeout(() => this.drawing.text !== this.calls.text() && this.updateFromText(), DRAW_DELAY);
+    this.drawTimer = window.setTimeout(() => this.drawing.text !== this.calls.text() && this.updateFromText(), DRAW_DELAY_MS);
   }
 
   /** Discards the drawing, because another session has been opened. Loads the positions of the parts that were moved in that session. */
@@ -167,7 +167,7 @@ export class DrawingController {
     this.drawing.showMessage(await this.calls.applyBoard());
   }
 
-  /** The positions of dragged parts that are stored with the session. */
+  /** The positions of dragged parts, as stored with the session. */
   get storedPositions() {
     const session = this.calls.session();
     return (session && session.record.places) || [];

@@ -90,7 +90,7 @@ export class Guide {
   }
 
   /**
-   * Shows the source and replaces it with a program. If the old source is not a text of the tour, a message offers undo.
+   * Shows the source and replaces it with a program. If the old source is not a program of the tour, a message offers to restore it.
    * @param {string} program
    */
   replaceProgram(program) {

@@ -76,7 +76,7 @@ export class BreakpointForm {
       event.stopPropagation();
       this.cancel();
     });
-    // The form stays open when it loses the focus, so that nothing moves under the pointer.
+    // The form stays open when it loses focus, so that nothing moves under the pointer.
     node.addEventListener("focusout", ({ relatedTarget }) => {
       if (!(relatedTarget instanceof Node && node.contains(relatedTarget))) this.applyFields();
     });

@@ -37,7 +37,7 @@ const COUNT_DELAY_MS = 300;
 /** The maximum number of cycles over which changes are counted. */
 const MAX_CYCLES = 10000000;
 /** The interval in milliseconds at which the cells are updated while time is running. */
-const DRAW_INTERVAL = 200;
+const DRAW_INTERVAL_MS = 200;
 
 export class HeatView {
   /**
@@ -113,7 +113,7 @@ export class HeatView {
     const maxCycles = parseCount(this.cyclesField.value, MAX_CYCLES);
     if (!chipHeat || maxCycles === 0) return;
     this.recentHeat.add(chipHeat, cycles, maxCycles);
-    if (performance.now() - this.lastDrawTime < DRAW_INTERVAL) return;
+    if (performance.now() - this.lastDrawTime < DRAW_INTERVAL_MS) return;
     this.lastDrawTime = performance.now();
     this.heat = null;
     this.showCells(this.recentHeat.heat, describeChangesWhileRunning);

@@ -23,7 +23,7 @@ const PRECEDING_BYTES = 10;
  * The interval in milliseconds between moves of the disassembly to the program counter while time is running fast. Between two moves, the
  * user can read the lines.
  */
-const FOLLOW_INTERVAL = 300;
+const FOLLOW_INTERVAL_MS = 300;
 
 export class ListingView {
   /**
@@ -160,14 +160,14 @@ export class ListingView {
 
   /**
    * Returns true if the lines must be read again. If the disassembly follows the program counter, it reads new lines when the counter is
-   * not visible, but at most once per FOLLOW_INTERVAL while time is running fast. Otherwise, it reads new lines when the counter points to
-   * the second byte of a line, but not while time is running fast.
+   * not visible, but at most once per FOLLOW_INTERVAL_MS while time is running fast. Otherwise, it reads new lines when the counter points
+   * to the second byte of a line, but not while time is running fast.
    * @param {boolean} isFast
    */
   mustReadLines(isFast) {
     if (!this.followsCounter) return !isFast && isInsideLine(this.lines, this.counter);
     if (this.isCounterVisible(this.counter)) return false;
-    return !isFast || performance.now() - this.lastFollowTime > FOLLOW_INTERVAL;
+    return !isFast || performance.now() - this.lastFollowTime > FOLLOW_INTERVAL_MS;
   }
 
   /**

@@ -8,7 +8,7 @@ import * as say from "../../words/time.js";
 /** @typedef {import("../../core/time/cycles.js").StoredCycles} StoredCycles */
 
 /** The interval in milliseconds between updates while time is running. */
-const SHOW_INTERVAL = 250;
+const SHOW_INTERVAL_MS = 250;
 
 export class CyclesView {
   /** @param {() => void} onMark called after the user has set a marker */
@@ -50,7 +50,7 @@ export class CyclesView {
    */
   update(counts, isRunning) {
     this.cycles.update(counts);
-    if (isRunning && performance.now() - this.lastShowTime < SHOW_INTERVAL) return;
+    if (isRunning && performance.now() - this.lastShowTime < SHOW_INTERVAL_MS) return;
     if (!isRunning) this.cycles.recordPause();
     this.show();
   }

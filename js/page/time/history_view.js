@@ -1,4 +1,4 @@
-// The bar that moves back and forward in time: by instructions, and to the next or previous change.
+// The bar whose buttons move back and forward in time: by a number of instructions, or to a change of a value.
 
 import { button, byId, element, field, onClick } from "../ui/dom.js";
 import { parseGoal } from "../../core/debug/condition_search.js";

@@ -47,7 +47,7 @@ import * as say from "../../words/time.js";
  */
 
 /** The interval in milliseconds between saves of the session while time is running. */
-const SAVE_INTERVAL = 1000;
+const SAVE_INTERVAL_MS = 1000;
 /** The time in milliseconds for which the message about a standstill stays. */
 const STANDSTILL_MESSAGE_MS = 8000;
 
@@ -274,7 +274,7 @@ export class RunController {
     }
     if (isNewRate || !this.clock.isRunning) this.showRate();
     // A key change is saved at once. A hidden page receives one frame per second and saves after each frame.
-    if (frame.changesKeys || document.hidden || performance.now() - currentSession.lastSaveTime >= SAVE_INTERVAL) currentSession.save();
+    if (frame.changesKeys || document.hidden || performance.now() - currentSession.lastSaveTime >= SAVE_INTERVAL_MS) currentSession.save();
   }
 
   /** The program counter with its name in the source and its source line, as text. */

@@ -158,8 +158,8 @@ export class Notice {
   }
 
   /**
-   * Moves the notices into an element, for example into a dialog that has opened. Outside the open dialog, the user could neither read nor
-   * use them.
+   * Moves the notices into an element, for example into a dialog that has opened, because the user can neither read nor use anything
+   * outside an open dialog.
    * @param {HTMLElement} host
    */
   moveTo(host) {

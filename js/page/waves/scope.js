@@ -40,7 +40,7 @@ import * as say from "../../words/waves.js";
  */
 
 /** The interval in milliseconds at which the picture of a recording in progress is updated. */
-const DRAW_INTERVAL = 100;
+const DRAW_INTERVAL_MS = 100;
 
 /** Lets at most one panel be open below the controls. Escape and a click outside the panel close the panel. */
 function listenToPanels() {
@@ -249,7 +249,7 @@ export class Scope {
     if (!liveWaves.isRecording) this.drawLiveRecording(liveWaves);
     else if (this.isUpToDate) {
       this.isUpToDate = false;
-      setTimeout(() => this.drawLiveRecording(liveWaves), DRAW_INTERVAL);
+      setTimeout(() => this.drawLiveRecording(liveWaves), DRAW_INTERVAL_MS);
     }
   }
 

@@ -15,7 +15,7 @@ import { packError } from "../../core/bench/bench_errors.js";
  */
 
 /** The interval in milliseconds between progress reports. */
-const PROGRESS_INTERVAL = 100;
+const PROGRESS_INTERVAL_MS = 100;
 
 /** @type {ReadonlySet<CallName>} the names of the calls that change the session even while time is running */
 const CHANGING_CALLS = new Set(["serve", "serveTyped", "runToGoal", "goBack", "goForward"]);
@@ -134,7 +134,7 @@ class BenchWorker {
   async reportProgress(done, total) {
     await this.yieldToMessages();
     if (this.cancelledRequest === this.currentRequest) return false;
-    if (performance.now() - this.lastReportTime > PROGRESS_INTERVAL) {
+    if (performance.now() - this.lastReportTime > PROGRESS_INTERVAL_MS) {
       this.lastReportTime = performance.now();
       this.postToPage({ kind: "progress", number: this.currentRequest, done, total });
     }
