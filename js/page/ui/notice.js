@@ -35,8 +35,8 @@ const SUCCESS_NOTICE_MS = 8000;
 const MAX_VISIBLE_NOTICES = 3;
 
 /**
- * Returns the notices to remove so that at most MAX_VISIBLE_NOTICES remain: first the oldest success notices, then the oldest others. The
- * newest notice stays.
+ * Returns the notices to remove so that at most MAX_VISIBLE_NOTICES remain: first the oldest success notices, then the oldest notices of
+ * other kinds. The newest notice stays.
  * @template {{ kind: NoticeKind }} AnyRow
  * @param {AnyRow[]} rows the notices, newest first
  * @returns {AnyRow[]}
