@@ -129,7 +129,7 @@ export class Page {
    * @param {SessionRecord} record
    */
   showSession(record) {
-    this.storedHistory.openSession(record.id);
+    this.storedHistory.handleSessionOpening(record.id);
     this.breakpoints.open(record);
     this.keyPresser.forgetKeys();
     this.scope.discardRecording();
@@ -142,8 +142,8 @@ export class Page {
     this.watchView.open(record.watched);
     this.textsController.show(record);
     this.testsTab.updateFirstTextOffer();
-    this.drawingController.openSession();
-    this.exploreTab.openSession(record.id);
+    this.drawingController.handleSessionOpening();
+    this.exploreTab.handleSessionOpening(record.id);
     this.source.forget();
     this.logView.clear();
     this.cyclesView.open(record.cycles);

@@ -128,7 +128,7 @@ export class DrawingController {
   }
 
   /** Discards the drawing, because another session has been opened. Loads the positions of the parts that were moved in that session. */
-  openSession() {
+  handleSessionOpening() {
     this.drawing.reset();
     this.drawing.movedParts.load(this.storedPositions);
   }

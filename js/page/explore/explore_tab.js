@@ -138,12 +138,12 @@ export class ExploreTab {
    * Handles the opening of another session: stops the search and shows the earlier results of the opened session.
    * @param {string} sessionId the id of the opened session
    */
-  openSession(sessionId) {
+  handleSessionOpening(sessionId) {
     this.stopSearch();
     this.sessionId = sessionId;
     this.view.clear();
     this.show();
-    this.proofs.openSession(sessionId);
+    this.proofs.handleSessionOpening(sessionId);
     this.textTab.updateFirstTextOffer();
   }
 

@@ -72,7 +72,7 @@ export class Proofs {
    * Handles the opening of another session: cancels the proof and shows the earlier results of the opened session.
    * @param {string} sessionId the id of the opened session
    */
-  openSession(sessionId) {
+  handleSessionOpening(sessionId) {
     this.cancel();
     this.sessionId = sessionId;
     this.view.clear();

@@ -73,7 +73,7 @@ export class StoredHistory {
    * Discards the history, because another session has been opened.
    * @param {string} sessionId the id of the opened session
    */
-  openSession(sessionId) {
+  handleSessionOpening(sessionId) {
     this.sessionId = sessionId;
     this.segments = [];
   }
