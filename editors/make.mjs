@@ -22,7 +22,7 @@ const NAME = "[A-Za-z_][A-Za-z0-9_]*";
 const NUMBER = "(?:0x[0-9A-Fa-f]+|[0-9]+)";
 const REGISTER = "(?:[Rr](?:1[0-5]|[0-9])|[Pp][0-7])";
 const STRING = "(?:\"(?:\\\\.|[^\"\\\\])*\"|'[^']*')";
-const KEY = "[A-Za-z0-9_-]+";
+const TOML_KEY = "[A-Za-z0-9_-]+";
 /** Lookarounds that match at the end and at the start of a word in an operand. */
 const WORD_END = "(?![A-Za-z0-9_])";
 const WORD_START = "(?<![A-Za-z0-9_])";
@@ -78,7 +78,7 @@ function textMateBoardGrammar() {
       },
       { name: `comment.line.number-sign.${scope}`, match: "#.*$" },
       { match: `^\\s*\\[+\\s*(${anyWordPattern(BOARD_TABLES)})\\s*\\]+`, captures: { 1: { name: `entity.name.section.${scope}` } } },
-      { match: `(${KEY})\\s*(?==)`, captures: { 1: { name: `support.type.property-name.${scope}` } } },
+      { match: `(${TOML_KEY})\\s*(?==)`, captures: { 1: { name: `support.type.property-name.${scope}` } } },
       { name: `string.quoted.${scope}`, match: STRING },
       { name: `constant.numeric.${scope}`, match: `${WORD_START}[+-]?[0-9][0-9A-Za-z_.]*` },
     ],
@@ -88,8 +88,8 @@ function textMateBoardGrammar() {
 // --- Vim
 
 function vimProgramSyntax() {
-  const words = (list) => anyWordPattern(list, (word) => word.toLowerCase()).replace(/\|/g, "\\|");
-  const statementPattern = (list) => `/\\c\\%(^\\s*\\|^\\s*\\h\\w*\\s*:\\s*\\)\\@<=\\%(${words(list)}\\)\\ze\\%([ \\t,;]\\|$\\)/`;
+  const vimAlternatives = (list) => anyWordPattern(list, (word) => word.toLowerCase()).replace(/\|/g, "\\|");
+  const statementPattern = (list) => `/\\c\\%(^\\s*\\|^\\s*\\h\\w*\\s*:\\s*\\)\\@<=\\%(${vimAlternatives(list)}\\)\\ze\\%([ \\t,;]\\|$\\)/`;
   return `" Programs for the MCS-4 bench. ${WARNING}
 " In a vimrc: let g:asmsyntax = "mcs4"
 if exists("b:current_syntax")
@@ -202,8 +202,8 @@ ${operands.join("\n")}
 function kateBoardSyntax() {
   const rules = [
     kateRule("Face", `#\\s*(?:${anyWordPattern(FRONT_PANEL_WORDS)})\\b[^:]*:.*$`), kateRule("Comment", "#.*$"),
-    kateRule("Table", `(?:${anyWordPattern(BOARD_TABLES)})(?=\\s*\\])`), kateRule("Key", `${KEY}(?=\\s*=)`), kateRule("String", STRING),
-    kateRule("Number", "[+-]?[0-9][0-9A-Za-z_.]*"), kateRule("Normal", KEY),
+    kateRule("Table", `(?:${anyWordPattern(BOARD_TABLES)})(?=\\s*\\])`), kateRule("Key", `${TOML_KEY}(?=\\s*=)`), kateRule("String", STRING),
+    kateRule("Number", "[+-]?[0-9][0-9A-Za-z_.]*"), kateRule("Normal", TOML_KEY),
   ];
   const contexts = `      <context name="Board" attribute="Normal" lineEndContext="#stay">
 ${rules.join("\n")}
@@ -212,12 +212,12 @@ ${rules.join("\n")}
     ["Table", "dsKeyword"], ["Key", "dsDataType"], ["String", "dsString"], ["Number", "dsDecVal"]], "#");
 }
 
-const json = (value) => `${JSON.stringify(value, null, 2)}\n`;
+const toJson = (value) => `${JSON.stringify(value, null, 2)}\n`;
 
 /** The contents of all generated files, by file name. */
-export const FILES = {
-  "vscode/mcs4.tmLanguage.json": json(textMateProgramGrammar()),
-  "vscode/mcs4-board.tmLanguage.json": json(textMateBoardGrammar()),
+export const GENERATED_FILES = {
+  "vscode/mcs4.tmLanguage.json": toJson(textMateProgramGrammar()),
+  "vscode/mcs4-board.tmLanguage.json": toJson(textMateBoardGrammar()),
   "vim/syntax/mcs4.vim": vimProgramSyntax(),
   "vim/syntax/mcs4board.vim": vimBoardSyntax(),
   "vim/ftdetect/mcs4.vim": VIM_FILE_DETECTION,
@@ -232,7 +232,7 @@ if (process.argv[1] === fileURLToPath(import.meta.url)) {
     process.stderr.write("usage: node editors/make.mjs [FOLDER]\n");
     process.exit(2);
   }
-  for (const [name, text] of Object.entries(FILES)) {
+  for (const [name, text] of Object.entries(GENERATED_FILES)) {
     mkdirSync(dirname(`${folder}/${name}`), { recursive: true });
     writeFileSync(`${folder}/${name}`, text);
   }

@@ -1,10 +1,10 @@
-"""Extracts the tables for the page's help: those about the bench from docs/MANUAL.md, and those about the page itself from page/help.md."""
+"""Extracts the tables for the page's help. docs/MANUAL.md has the tables about the bench, and page/help.md the tables about the page."""
 
 import pathlib
 import re
 
 PAGE = pathlib.Path(__file__).resolve().parent
-# The titles of the sections with these tables, in the order of the help.
+# The titles of the sections that have these tables, in the order of the help.
 SECTIONS = ("The 45 instructions", "The form of a program", "The sixteen conditions of JCN", "The TOML keys", "The names of lines",
             "The front panel of a board", "Commands", "Places", "Queries", "The keyboard", "What the cells show",
             "Conditions", "The lines of a test", "Inputs", "Properties")
@@ -19,12 +19,12 @@ def section_of(manual, title):
 
 
 def cells_of(line):
-    """Returns the cells of a row. A bar inside a cell is written as a backslash and a bar."""
+    """Returns the cells of a row. In a cell, a backslash and a bar stand for a bar."""
     return [cell.strip().replace("\\|", "|") for cell in re.split(r"(?<!\\)\|", line.strip()[1:-1])]
 
 
 def tables_of(section):
-    """Returns the tables of a section: each with its caption (the bold line before it, "" if there is none), its head and its rows."""
+    """Returns the caption, head and rows of each table in a section. The caption is the bold line before the table; "" if there is none."""
     tables = []
     caption = ""
     rows = []
@@ -35,8 +35,8 @@ def tables_of(section):
         if rows:
             tables.append({"caption": caption, "head": rows[0], "rows": rows[2:]})
             rows, caption = [], ""
-        bold = re.fullmatch(r"\*\*(.+)\*\*", line)
-        caption = bold.group(1) if bold else caption
+        bold_match = re.fullmatch(r"\*\*(.+)\*\*", line)
+        caption = bold_match.group(1) if bold_match else caption
     return tables
 
 

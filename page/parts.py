@@ -25,16 +25,16 @@ CODEMIRROR_IMPORT = re.compile(r'^import \{([^}]*)\}\s*from "(@codemirror/[a-z]+
 
 
 class MissingPart(Exception):
-    """The error if a part is missing or differs from the expected one. Its message says what to do."""
+    """Raised if a part is missing or differs from the expected one. The message says what to do."""
 
 
 def esbuild():
     """Returns the path of esbuild."""
-    program = shutil.which("esbuild", path=str(HERE / "from_npm/node_modules/.bin")) or shutil.which("esbuild")
-    if program is None:
+    path = shutil.which("esbuild", path=str(HERE / "from_npm/node_modules/.bin")) or shutil.which("esbuild")
+    if path is None:
         raise MissingPart(f"esbuild is not installed; with npm: npm install --prefix page/from_npm esbuild@{ESBUILD_VERSION}; "
                           "on Debian: apt-get install esbuild")
-    return program
+    return path
 
 
 def checksums():
@@ -52,7 +52,7 @@ def editor_folder():
 
 
 def editor_imports(folder):
-    """Returns the names that the modules of a folder import from CodeMirror: for each module of CodeMirror, the sorted names."""
+    """Returns the sorted names that the modules of a folder import from each CodeMirror module, by CodeMirror module."""
     imports = {}
     for path in sorted(folder.rglob("*.js")):
         for names, module in CODEMIRROR_IMPORT.findall(path.read_text()):
@@ -71,11 +71,11 @@ def differing_parts():
     version = subprocess.run([esbuild(), "--version"], stdout=subprocess.PIPE, text=True, check=True).stdout.strip()
     esbuild_messages = [] if version == ESBUILD_VERSION else [f"esbuild is {version}, not {ESBUILD_VERSION}"]
     has_same_zlib = hashlib.sha256(compress(SAMPLE_TEXT)).hexdigest() == SAMPLE_CHECKSUM
-    zlib_messages = [] if has_same_zlib else [f"zlib {zlib.ZLIB_RUNTIME_VERSION} packs differently"]
+    zlib_messages = [] if has_same_zlib else [f"zlib {zlib.ZLIB_RUNTIME_VERSION} compresses differently"]
     return [*esbuild_messages, *zlib_messages]
 
 
 def editor_licence():
     """Returns the authors and licences of CodeMirror and pako, which the page must contain."""
     licence = (CODEMIRROR_FOLDER / "LICENCE").read_text().strip()
-    return f"CodeMirror 6, of which the editors of this page are made, and pako, which unpacks its module.\n\n{licence}"
+    return f"CodeMirror 6, on which the editors of this page are based, and pako, which unpacks its module.\n\n{licence}"

@@ -1,7 +1,7 @@
 // Checks a WebAssembly module of the bench that page/wasm has built: `node try_module.mjs MODULE SHORT`. SHORT is the same module with a stack that
 // is too short for any call. The script checks properties that no compiler checks:
 // - MODULE has one memory, with 32-bit addresses and at most 256 MiB.
-// - If that memory cannot grow, calls answer `no 90` and leave the file unchanged. They work again when there is memory.
+// - If that memory cannot grow, calls answer `no 90` and leave the file unchanged. The calls work again when there is memory.
 // - The prover answers questions, including one with more states than fit into memory.
 // - A stack overflow, which every call of SHORT causes, ends in a trap.
 import { readFileSync } from "node:fs";
@@ -9,12 +9,12 @@ import { readFileSync } from "node:fs";
 const MEMORY_SECTION = 5;
 const HAS_MAX = 1;
 const MAX_PAGES = 4096;
-const BLOCK = 16n << 20n;
+const BLOCK_SIZE = 16n << 20n;
 const REPORT_SIZE = 16;
 const NO_MEMORY = 90;
 
 // Returns the unsigned number in LEB128 at an index, and the index after it.
-function numberAt(bytes, index) {
+function readNumber(bytes, index) {
   let value = 0;
   let shift = 0;
   let next = index;
@@ -27,30 +27,30 @@ function numberAt(bytes, index) {
   }
 }
 
-// Returns the number of the module's memories, and the flags and the maximum number of pages of the first memory. All are 0 if there is none.
-function readMemories(bytes) {
+// Returns the number of memories in the module, the flags of the first memory, and its maximum number of pages. All are 0 if there is no memory.
+function readMemorySection(bytes) {
   let index = 8;
   while (index < bytes.length) {
     const kind = bytes[index];
-    const size = numberAt(bytes, index + 1);
+    const size = readNumber(bytes, index + 1);
     if (kind === MEMORY_SECTION) {
-      const count = numberAt(bytes, size.next);
-      const flags = numberAt(bytes, count.next);
-      const minPages = numberAt(bytes, flags.next);
-      return { count: count.value, flags: flags.value, maxPages: numberAt(bytes, minPages.next).value };
+      const count = readNumber(bytes, size.next);
+      const flags = readNumber(bytes, count.next);
+      const minPages = readNumber(bytes, flags.next);
+      return { count: count.value, flags: flags.value, maxPages: readNumber(bytes, minPages.next).value };
     }
     index = size.next + size.value;
   }
   return { count: 0, flags: 0, maxPages: 0 };
 }
 
-// Returns the exported functions and the memory of a new instance of the module in a file.
-function start(path) {
+// Returns the exports of a new instance of the module in a file.
+function instantiate(path) {
   return new WebAssembly.Instance(new WebAssembly.Module(readFileSync(path)), {}).exports;
 }
 
-// Allocates the buffers for calls (the file, the input, the answers and the report), and copies the input into its buffer. Returns their addresses
-// and sizes.
+// Allocates the buffers for calls: the file, the input, the answers and the report. Copies the input into its buffer. Returns the addresses and
+// sizes of the buffers.
 function allocateBuffers(calls, input) {
   const size = calls.bench_file_size();
   const file = calls.bench_buffer(size);
@@ -61,8 +61,8 @@ function allocateBuffers(calls, input) {
   return { size, file, lines, count: BigInt(input.length), answers, report };
 }
 
-// Returns a copy of the bytes of the file.
-function fileOf(calls, { file, size }) {
+// Returns a copy of the session file that the module has in its memory.
+function copyFile(calls, { file, size }) {
   return Buffer.from(new Uint8Array(calls.memory.buffer, Number(file), Number(size)).slice());
 }
 
@@ -77,32 +77,32 @@ function expect(name, actual, expected) {
   if (actual !== expected) errors.push(`${name}: ${actual}, not ${expected}`);
 }
 
-function tryMemory(bytes) {
-  const { count, flags, maxPages } = readMemories(bytes);
+function checkMemory(bytes) {
+  const { count, flags, maxPages } = readMemorySection(bytes);
   expect("memories", count, 1);
   expect("flags of the memory", flags, HAS_MAX);
   expect("pages of the memory at most", maxPages, MAX_PAGES);
 }
 
-function tryWithoutMemory(calls) {
+function checkWithoutMemory(calls) {
   const buffers = allocateBuffers(calls, Buffer.from("poke r5 9\nregs\n"));
   expect("begin", calls.bench_begin(buffers.file, buffers.size) !== 0, true);
-  // This call frees its blocks when it returns. The loop below must allocate these blocks, too, so that no memory is left.
+  // This call frees its blocks when it returns. The loop below must allocate these blocks, too, so that the heap is full.
   expect("serve", serve(calls, "bench_serve_and_settle", buffers), 0);
   const blocks = [];
-  for (let size = BLOCK; size >= 16n; size /= 2n) {
+  for (let size = BLOCK_SIZE; size >= 16n; size /= 2n) {
     for (let block = calls.bench_buffer(size); block !== 0n; block = calls.bench_buffer(size)) blocks.push(block);
   }
-  const fileBefore = fileOf(calls, buffers);
+  const fileBefore = copyFile(calls, buffers);
   for (const name of ["bench_serve", "bench_serve_and_settle", "bench_ask"]) {
     expect(`${name} without memory`, serve(calls, name, buffers), NO_MEMORY);
   }
   expect("settle without memory", calls.bench_settle(buffers.file, buffers.size), 0);
   expect("begin without memory", calls.bench_begin(buffers.file, buffers.size), 0);
-  expect("the file is unchanged without memory", fileOf(calls, buffers).equals(fileBefore), true);
+  expect("the file is unchanged without memory", copyFile(calls, buffers).equals(fileBefore), true);
   for (const block of blocks) calls.bench_buffer_back(block);
   expect("serve with memory again", serve(calls, "bench_serve", buffers), 0);
-  expect("the file has changed with memory", fileOf(calls, buffers).equals(fileBefore), false);
+  expect("the file has changed with memory", copyFile(calls, buffers).equals(fileBefore), false);
 }
 
 // Returns a question to the prover about a program that counts in `registers` registers and turns its lamp on while TEST is 0. The question is
@@ -114,21 +114,21 @@ function formatQuestion(maxStates, registers, unwantedOutput) {
     + `look: JCN 1, on\nLDM 0\nWMP\n${counts}JUN look\non: LDM 1\nWMP\n${counts}JUN look\n.\nnever\nin ramport 0 ${unwantedOutput}\nprove\n`;
 }
 
-// Asks the prover. Returns the number in the report and the line of the answer. If there is no answer, returns the error number and the count
+// Sends a question to the prover. Returns the number in the report and the answer. If there is no answer, returns the error number and the count
 // in the report. `answerSize` is the size of the buffer for the answer.
 function prove(calls, text, answerSize = 4096n) {
   const input = Buffer.from(text);
   const [lines, answers, report] = [BigInt(input.length), answerSize, BigInt(REPORT_SIZE)].map((size) => calls.bench_buffer(size));
   new Uint8Array(calls.memory.buffer, Number(lines)).set(input);
   const isAnswered = calls.bench_prove(lines, BigInt(input.length), answers, answerSize, report);
-  const words = new DataView(calls.memory.buffer, Number(report));
-  const [number, count] = [words.getUint32(0, true), Number(words.getBigUint64(8, true))];
+  const reportView = new DataView(calls.memory.buffer, Number(report));
+  const [number, count] = [reportView.getUint32(0, true), Number(reportView.getBigUint64(8, true))];
   const answer = Buffer.from(new Uint8Array(calls.memory.buffer, Number(answers), isAnswered ? count : 0)).toString();
   for (const block of [lines, answers, report]) calls.bench_buffer_back(block);
   return isAnswered ? `${number} ${answer}` : `nothing: ${number} ${count}`;
 }
 
-function tryProver(calls) {
+function checkProver(calls) {
   expect("a proof", prove(calls, formatQuestion(1000, 1, "line1 1 1")), "0 holds 32");
   expect("a question about too many states", prove(calls, formatQuestion(10, 1, "line1 1 1")), "0 too many");
   expect("a path to the unwanted output", prove(calls, formatQuestion(1000, 1, "line0 1 1")), "0 may fail 0");
@@ -140,21 +140,21 @@ function tryProver(calls) {
   expect("a proof with memory again", prove(calls, formatQuestion(1000, 1, "line1 1 1")), "0 holds 32");
 }
 
-function tryShortStack(calls) {
+function checkStackOverflow(calls) {
   const buffers = allocateBuffers(calls, Buffer.from("seq\n"));
-  let errorName = "no trap";
+  let thrownErrorName = "no trap";
   try {
     calls.bench_begin(buffers.file, buffers.size);
   } catch (error) {
-    errorName = error.constructor.name;
+    thrownErrorName = error.constructor.name;
   }
-  expect("a stack that is too short", errorName, "RuntimeError");
+  expect("a stack that is too short", thrownErrorName, "RuntimeError");
 }
 
 const [path, shortPath] = process.argv.slice(2);
-tryMemory(readFileSync(path));
-tryWithoutMemory(start(path));
-tryProver(start(path));
-tryShortStack(start(shortPath));
+checkMemory(readFileSync(path));
+checkWithoutMemory(instantiate(path));
+checkProver(instantiate(path));
+checkStackOverflow(instantiate(shortPath));
 for (const error of errors) console.error(`try_module: ${error}`);
 process.exitCode = errors.length === 0 ? 0 : 1;

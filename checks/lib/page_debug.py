@@ -46,7 +46,7 @@ GET_NOTES = "return [...document.querySelectorAll('#breakpoint-notes p')].map((n
 GET_BREAKPOINT_DETAILS = 'return [...document.querySelectorAll("#breakpoint-list .words")].map((node) => node.textContent).join("; ")'
 # The source lines that have a breakpoint in the margin, including lines that are out of view.
 GET_LINES_IN_MARGIN = """
-return document.querySelector("#program-editor .cm-editor").lineEditor.marksIn("breakpoints").map((line) => line + 1).join(" ")"""
+return document.querySelector("#program-editor .cm-editor").lineEditor.findMarkedLines("breakpoints").map((line) => line + 1).join(" ")"""
 UNDO_EDIT = "document.querySelector('#program-editor .cm-editor').lineEditor.undo()"
 # The form below a source line edits the line's breakpoint. GET_ROW_ERROR returns the error in the form, and GET_ROW_VALUES returns the values of its
 # fields.

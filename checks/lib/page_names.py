@@ -26,7 +26,7 @@ const rows = [...document.querySelectorAll("#lines-of-program button[aria-presse
 return [marks.join(), rows.map((row) => row.querySelector("i").textContent).join()]"""
 GET_LABELS = "return [...document.querySelectorAll('#lines-of-program .labels')].map((label) => label.textContent).join('')"
 GET_BREAKPOINT_LINES = """
-return document.querySelector("#program-editor .cm-editor").lineEditor.marksIn("breakpoints").map((line) => line + 1).join(" ")"""
+return document.querySelector("#program-editor .cm-editor").lineEditor.findMarkedLines("breakpoints").map((line) => line + 1).join(" ")"""
 
 # Executes a number of steps, which is the argument. For each step, returns the program counter, and the marked source line with its number. Returns
 # `not seen` in place of a line that is out of view.

@@ -50,19 +50,19 @@ class BenchCommand {
   run(args, token) {
     return new Promise((settle) => {
       const child = this.start(args, "pipe");
-      const streams = { output: "", errors: "" };
+      const outputTexts = { output: "", errors: "" };
       child.stdout.setEncoding("utf8").on("data", (text) => {
-        streams.output += text;
+        outputTexts.output += text;
       });
       child.stderr.setEncoding("utf8").on("data", (text) => {
-        streams.errors += text;
+        outputTexts.errors += text;
       });
       child.stdin.on("error", () => {});
       child.stdin.end();
       const cancellation = token && token.onCancellationRequested(() => child.kill());
       const finish = (status, startError) => {
         if (cancellation) cancellation.dispose();
-        settle({ status, output: streams.output, errors: streams.errors + startError });
+        settle({ status, output: outputTexts.output, errors: outputTexts.errors + startError });
       };
       child.on("error", ({ message }) => finish(null, message));
       child.on("close", (status) => finish(status, ""));

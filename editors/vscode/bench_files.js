@@ -1,28 +1,28 @@
-// Finds out which files belong to the bench, and with which arguments mcs4 runs a test file. A file belongs to the bench if its folder contains
+// Finds the files of the bench's projects, and the arguments with which mcs4 runs a test file. A file belongs to a project if its folder contains
 // board.toml, or if its folder or a parent folder contains mcs4.toml.
 "use strict";
 const { existsSync, readFileSync } = require("node:fs");
 const { dirname, join } = require("node:path");
 
-const PROJECT = "mcs4.toml";
+const PROJECT_FILE = "mcs4.toml";
 
 /**
- * Returns the first project folder among the folder of a file and its parent folders; "" if there is none.
+ * Returns the innermost project folder that contains a file, or "" if there is none.
  * @param {string} file
  */
-function projectFolder(file) {
+function findProjectFolder(file) {
   for (let folder = dirname(file); ; folder = dirname(folder)) {
-    if (existsSync(join(folder, PROJECT))) return folder;
+    if (existsSync(join(folder, PROJECT_FILE))) return folder;
     if (folder === dirname(folder)) return "";
   }
 }
 
 /**
- * Returns true if a file belongs to the bench.
+ * Returns true if a file belongs to a project of the bench.
  * @param {string} file
  */
-function belongsToBench(file) {
-  return existsSync(join(dirname(file), "board.toml")) || projectFolder(file) !== "";
+function belongsToProject(file) {
+  return existsSync(join(dirname(file), "board.toml")) || findProjectFolder(file) !== "";
 }
 
 /**
@@ -31,7 +31,7 @@ function belongsToBench(file) {
  * @param {string} folder
  */
 function listProjectTests(folder) {
-  const text = readFileSync(join(folder, PROJECT), "utf8").replace(/^[ \t]*#.*$/gm, "");
+  const text = readFileSync(join(folder, PROJECT_FILE), "utf8").replace(/^[ \t]*#.*$/gm, "");
   const [, list = ""] = /^[ \t]*tests[ \t]*=[ \t]*(\[[^\]]*\]|"[^"\n]*"|'[^'\n]*')/m.exec(text) || [];
   return (list.match(/"[^"\n]*"|'[^'\n]*'/g) || []).map((quoted) => join(folder, ...quoted.slice(1, -1).split("/")));
 }
@@ -43,7 +43,7 @@ function listProjectTests(folder) {
  * @param {string} file
  */
 function testArguments(file) {
-  const folder = projectFolder(file);
+  const folder = findProjectFolder(file);
   if (folder !== "") {
     const tests = listProjectTests(folder);
     const index = tests.indexOf(file);
@@ -53,4 +53,4 @@ function testArguments(file) {
   return ["test", join(dirname(file), "board.toml"), programs.find((program) => existsSync(program)) || programs[0], file];
 }
 
-module.exports = { PROJECT, belongsToBench, projectFolder, testArguments };
+module.exports = { PROJECT_FILE, belongsToProject, findProjectFolder, testArguments };

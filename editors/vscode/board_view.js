@@ -4,16 +4,16 @@
 "use strict";
 const { readFileSync } = require("node:fs");
 const { join } = require("node:path");
-const { projectFolder } = require("./bench_files.js");
+const { findProjectFolder } = require("./bench_files.js");
 
-const TITLE = "Lamps and keys";
+const VIEW_TITLE = "Lamps and keys";
 
 class BoardView {
   constructor(vscode, folder) {
     this.vscode = vscode;
     this.folder = folder;
     /** The open web views, in the side bar and in panels. */
-    this.pages = new Set();
+    this.webviews = new Set();
     /** The debug session whose board the view draws, or null if there is none. */
     this.session = null;
     /** The values that the session has reported about the board, or null if there is no session. */
@@ -28,8 +28,8 @@ class BoardView {
     const replacements = { "@SOURCE@": webview.cspSource, "@STYLE@": uriOf("board_page.css"), "@SCRIPT@": uriOf("board_page.js") };
     const text = readFileSync(join(this.folder, "board_view.html"), "utf8");
     webview.onDidReceiveMessage((message) => this.handleMessage(message, webview));
-    view.onDidDispose(() => this.pages.delete(webview));
-    this.pages.add(webview);
+    view.onDidDispose(() => this.webviews.delete(webview));
+    this.webviews.add(webview);
     webview.html = text.replace(/@[A-Z]+@/g, (word) => replacements[word] || word);
   }
 
@@ -43,7 +43,7 @@ class BoardView {
    */
   async open() {
     const { window, debug, ViewColumn } = this.vscode;
-    const panel = window.createWebviewPanel("mcs4.panel", TITLE, { viewColumn: ViewColumn.Beside, preserveFocus: true },
+    const panel = window.createWebviewPanel("mcs4.panel", VIEW_TITLE, { viewColumn: ViewColumn.Beside, preserveFocus: true },
       { ...this.options, retainContextWhenHidden: true });
     this.resolveWebviewView(panel);
     if (this.session) return;
@@ -55,10 +55,10 @@ class BoardView {
   /** Resolves to the launch configuration with which a new panel starts debugging; null if there is no program. */
   async launchConfiguration() {
     const { window, workspace } = this.vscode;
-    const base = { type: "mcs4", request: "launch", name: TITLE, realTime: true, stopOnEntry: false };
+    const base = { type: "mcs4", request: "launch", name: VIEW_TITLE, realTime: true, stopOnEntry: false };
     const editor = window.activeTextEditor;
     const file = editor && editor.document.uri.scheme === "file" ? editor.document.uri.fsPath : "";
-    const folder = file === "" ? "" : projectFolder(file);
+    const folder = file === "" ? "" : findProjectFolder(file);
     if (folder !== "") return { ...base, project: folder };
     if (file !== "" && editor.document.languageId === "mcs4") return { ...base, program: file };
     const [first] = await workspace.findFiles("**/mcs4.toml", "**/node_modules/**", 1);
@@ -80,9 +80,9 @@ class BoardView {
     }
   }
 
-  /** Sends values of the board to all web views, or null when debugging has ended. */
-  post(update) {
-    for (const webview of this.pages) webview.postMessage({ kind: "boardShown", update });
+  /** Sends an update of the front panel to all web views. The update is null when debugging has ended. */
+  postUpdate(update) {
+    for (const webview of this.webviews) webview.postMessage({ kind: "boardShown", update });
   }
 
   /** Draws the board of a debug session that has started. */
@@ -91,7 +91,7 @@ class BoardView {
       const boardState = await session.customRequest("watchBoard");
       this.session = session;
       this.boardState = boardState;
-      this.post(boardState);
+      this.postUpdate(boardState);
     } catch (error) {
       this.vscode.window.showErrorMessage(error.message);
     }
@@ -101,7 +101,7 @@ class BoardView {
   handleEvent({ session, event, body }) {
     if (event !== "boardShown" || session !== this.session) return;
     this.boardState = { ...this.boardState, ...body };
-    this.post(body);
+    this.postUpdate(body);
   }
 
   /** Clears the web views if the session whose board they draw has ended. */
@@ -109,7 +109,7 @@ class BoardView {
     if (session !== this.session) return;
     this.session = null;
     this.boardState = null;
-    this.post(null);
+    this.postUpdate(null);
   }
 
   /** Registers the handlers of the editor's events. Returns their disposables. */

@@ -8,7 +8,7 @@ const { ProgramLanguage } = require("./program_language.js");
 const { Tasks } = require("./tasks.js");
 const { TestExplorer } = require("./test_explorer.js");
 
-const LANGUAGES = ["mcs4", "mcs4-board", "mcs4-test", "mcs4-props"];
+const LANGUAGE_IDS = ["mcs4", "mcs4-board", "mcs4-test", "mcs4-props"];
 
 /**
  * Returns the debug configuration to use. If the user presses F5 without a launch configuration, and the active editor contains a program,
@@ -40,7 +40,7 @@ let client = null;
 
 exports.activate = (context) => {
   const bench = new BenchCommand(vscode, __dirname);
-  client = new LanguageClient(vscode, bench, LANGUAGES);
+  client = new LanguageClient(vscode, bench, LANGUAGE_IDS);
   context.subscriptions.push(
     client,
     new ProgramLanguage(vscode).register(),

@@ -145,7 +145,7 @@ class LanguageClient {
   // --- documents
 
   /** Returns true if the server handles a document. */
-  isServed(document) {
+  handlesDocument(document) {
     return this.languages.includes(document.languageId) || /(^|[\\/])mcs4\.toml$/.test(document.fileName);
   }
 
@@ -153,32 +153,32 @@ class LanguageClient {
   listenToDocuments() {
     const { workspace } = this.vscode;
     const serverIdOf = ({ languageId }) => SERVER_LANGUAGE_IDS[languageId] || languageId;
-    const sendOpened = (document) => {
-      if (!this.isServed(document)) return;
+    const sendDidOpen = (document) => {
+      if (!this.handlesDocument(document)) return;
       const textDocument = { uri: document.uri.toString(), languageId: serverIdOf(document), version: document.version, text: document.getText() };
       this.notify("textDocument/didOpen", { textDocument });
     };
     this.disposables.push(
-      workspace.onDidOpenTextDocument(sendOpened),
+      workspace.onDidOpenTextDocument(sendDidOpen),
       workspace.onDidCloseTextDocument((document) => {
-        if (this.isServed(document)) this.notify("textDocument/didClose", { textDocument: { uri: document.uri.toString() } });
+        if (this.handlesDocument(document)) this.notify("textDocument/didClose", { textDocument: { uri: document.uri.toString() } });
       }),
       workspace.onDidChangeTextDocument(({ document, contentChanges }) => {
-        if (!this.isServed(document) || contentChanges.length === 0) return;
+        if (!this.handlesDocument(document) || contentChanges.length === 0) return;
         const changes = contentChanges.map(({ range, text }) => ({ range: this.toProtocolRange(range), text }));
         const textDocument = { uri: document.uri.toString(), version: document.version };
         this.notify("textDocument/didChange", { textDocument, contentChanges: changes });
       }),
     );
-    workspace.textDocuments.forEach(sendOpened);
+    workspace.textDocuments.forEach(sendDidOpen);
   }
 
   /** Shows the diagnostics of a document. */
   showDiagnostics({ uri, diagnostics }) {
     const { vscode } = this;
-    const levels = [0, vscode.DiagnosticSeverity.Error, vscode.DiagnosticSeverity.Warning, vscode.DiagnosticSeverity.Information];
+    const severities = [0, vscode.DiagnosticSeverity.Error, vscode.DiagnosticSeverity.Warning, vscode.DiagnosticSeverity.Information];
     this.diagnostics.set(vscode.Uri.parse(uri), diagnostics.map(({ range, message, severity }) => (
-      new vscode.Diagnostic(this.toEditorRange(range), message, levels[severity] ?? vscode.DiagnosticSeverity.Error))));
+      new vscode.Diagnostic(this.toEditorRange(range), message, severities[severity] ?? vscode.DiagnosticSeverity.Error))));
   }
 
   // --- conversions between the types of the editor and of the protocol
@@ -238,11 +238,11 @@ class LanguageClient {
       languages.registerDocumentSymbolProvider(selector, { provideDocumentSymbols: (document) => this.requestSymbols(document) }),
       languages.registerCodeActionsProvider(selector, { provideCodeActions: (document, range) => this.requestActions(document, range) }),
     );
-    this.registerColours(selector, capabilities.semanticTokensProvider.legend);
+    this.registerSemanticTokens(selector, capabilities.semanticTokensProvider.legend);
     this.disposables.push(...new LanguageFeatures(this, selector).register());
   }
 
-  registerColours(selector, { tokenTypes, tokenModifiers }) {
+  registerSemanticTokens(selector, { tokenTypes, tokenModifiers }) {
     const { vscode } = this;
     const legend = new vscode.SemanticTokensLegend(tokenTypes, tokenModifiers);
     const toTokens = (tokens) => new vscode.SemanticTokens(new Uint32Array(tokens ? tokens.data : []), tokens ? tokens.resultId : undefined);

@@ -1,5 +1,5 @@
 // The language features other than hover, names, completion and diagnostics: formatting, inlay hints, folding, workspace symbols, call hierarchy,
-// code lenses, links, selection ranges and signature help. Sends the editor's requests to `mcs4 lsp`, and converts the answers to the editor's
+// code lenses, links, selection ranges and signature help. Sends the editor's requests to `mcs4 lsp`, and converts the responses to the editor's
 // classes.
 "use strict";
 
@@ -40,15 +40,15 @@ class LanguageFeatures {
       languages.registerWorkspaceSymbolProvider({ provideWorkspaceSymbols: (query) => this.requestWorkspaceSymbols(query) }),
       languages.registerCallHierarchyProvider(selector, {
         prepareCallHierarchy: (document, position) => this.requestRoutines(document, position),
-        provideCallHierarchyIncomingCalls: (item) => this.requestCalls("callHierarchy/incomingCalls", item, "from"),
-        provideCallHierarchyOutgoingCalls: (item) => this.requestCalls("callHierarchy/outgoingCalls", item, "to"),
+        provideCallHierarchyIncomingCalls: (item) => this.requestHierarchyCalls("callHierarchy/incomingCalls", item, "from"),
+        provideCallHierarchyOutgoingCalls: (item) => this.requestHierarchyCalls("callHierarchy/outgoingCalls", item, "to"),
       }),
       commands.registerCommand("mcs4.runTest", (...commandArguments) => (
         this.client.request("workspace/executeCommand", { command: "mcs4.runTest", arguments: commandArguments }))),
     ];
   }
 
-  /** Sends a request about a document. Resolves to the answer, or to an empty list if there is none. */
+  /** Sends a request about a document. Resolves to its result, or to an empty list if there is no result. */
   async request(method, document, params = {}) {
     return (await this.client.request(method, { textDocument: { uri: document.uri.toString() }, ...params })) || [];
   }
@@ -113,7 +113,7 @@ class LanguageFeatures {
       new this.vscode.SymbolInformation(name, kind - 1, containerName, this.client.toEditorLocation(location))));
   }
 
-  // --- routines
+  // --- the call hierarchy of routines
 
   toHierarchyItem({ kind, name, detail, uri, range, selectionRange }) {
     const { vscode, client } = this;
@@ -125,7 +125,7 @@ class LanguageFeatures {
     return (items || []).map((item) => this.toHierarchyItem(item));
   }
 
-  async requestCalls(method, { uri, range, selectionRange }, end) {
+  async requestHierarchyCalls(method, { uri, range, selectionRange }, end) {
     const { vscode, client } = this;
     const item = { uri: uri.toString(), range: client.toProtocolRange(range), selectionRange: client.toProtocolRange(selectionRange) };
     const Call = end === "from" ? vscode.CallHierarchyIncomingCall : vscode.CallHierarchyOutgoingCall;

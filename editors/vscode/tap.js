@@ -5,7 +5,7 @@ const RESULT_LINE = /^(not )?ok \d+ - (.*)$/;
 const DETAIL_LINE = /^ {2}(message|at|line|lamps|registers): "(.*)"$/;
 
 /** Removes the escapes from the contents of a double-quoted YAML string. */
-const unquote = (text) => text.replace(/\\(["\\])/g, "$1");
+const unescapeYaml = (text) => text.replace(/\\(["\\])/g, "$1");
 
 /**
  * Parses a location, `FILE:LINE`. The last colon is the separator, because a Windows path also has a colon.
@@ -29,9 +29,9 @@ function parseResults(text) {
     const lastResult = results[results.length - 1];
     if (isResult || !lastResult || !line.startsWith("  ")) continue;
     const [, key, value] = DETAIL_LINE.exec(line) || [];
-    if (key === "message") lastResult.message = unquote(value);
-    else if (key === "at") lastResult.location = parseLocation(unquote(value));
-    else if (key) lastResult.details.push(`${key}: ${unquote(value)}`);
+    if (key === "message") lastResult.message = unescapeYaml(value);
+    else if (key === "at") lastResult.location = parseLocation(unescapeYaml(value));
+    else if (key) lastResult.details.push(`${key}: ${unescapeYaml(value)}`);
     else if (!/^ {2}(---|\.\.\.)$/.test(line)) lastResult.details.push(line.slice(2));
   }
   return results;

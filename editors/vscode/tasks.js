@@ -1,7 +1,7 @@
 // Provides tasks for the projects in the workspace: run tests, show the coverage or the profile, search for counterexamples, and prove properties.
 "use strict";
 const { basename, dirname } = require("node:path");
-const { PROJECT } = require("./bench_files.js");
+const { PROJECT_FILE } = require("./bench_files.js");
 
 const TASK_TYPE = "mcs4";
 const TASK_COMMANDS = ["test", "cover", "profile", "explore", "prove"];
@@ -23,7 +23,7 @@ class Tasks {
   }
 
   async listTasks() {
-    const files = await this.vscode.workspace.findFiles(`**/${PROJECT}`, "**/node_modules/**");
+    const files = await this.vscode.workspace.findFiles(`**/${PROJECT_FILE}`, "**/node_modules/**");
     return files.flatMap((uri) => TASK_COMMANDS.map((command) => this.makeTask({ type: TASK_TYPE, command, folder: dirname(uri.fsPath) }, uri)));
   }
 

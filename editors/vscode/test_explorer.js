@@ -3,7 +3,7 @@
 "use strict";
 const { readFileSync } = require("node:fs");
 const { basename } = require("node:path");
-const { belongsToBench, testArguments } = require("./bench_files.js");
+const { belongsToProject, testArguments } = require("./bench_files.js");
 const { parseResults } = require("./tap.js");
 
 const TEST_FILE_PATTERN = "**/*.test";
@@ -36,16 +36,16 @@ class TestExplorer {
     this.controller = tests.createTestController("mcs4", "MCS-4 tests");
     this.controller.createRunProfile("Run", TestRunProfileKind.Run, (request, token) => this.run(request, token), true);
     this.controller.createRunProfile("Debug", TestRunProfileKind.Debug, (request) => this.debug(request), true);
-    this.controller.resolveHandler = (item) => (item ? this.read(item.uri) : this.findAll());
-    this.controller.refreshHandler = () => this.findAll();
+    this.controller.resolveHandler = (item) => (item ? this.readTestFile(item.uri) : this.findTestFiles());
+    this.controller.refreshHandler = () => this.findTestFiles();
     const watcher = workspace.createFileSystemWatcher(TEST_FILE_PATTERN);
     const showDocument = ({ uri, getText }) => {
-      if (uri.scheme === "file" && uri.fsPath.endsWith(".test")) this.show(uri, getText());
+      if (uri.scheme === "file" && uri.fsPath.endsWith(".test")) this.showTests(uri, getText());
     };
     const showOpenDocument = (document) => showDocument({ uri: document.uri, getText: () => document.getText() });
     for (const document of workspace.textDocuments) showOpenDocument(document);
     return [
-      this.controller, watcher, watcher.onDidCreate((uri) => this.read(uri)), watcher.onDidChange((uri) => this.read(uri)),
+      this.controller, watcher, watcher.onDidCreate((uri) => this.readTestFile(uri)), watcher.onDidChange((uri) => this.readTestFile(uri)),
       watcher.onDidDelete((uri) => this.controller.items.delete(uri.toString())),
       workspace.onDidOpenTextDocument(showOpenDocument), workspace.onDidChangeTextDocument(({ document }) => showOpenDocument(document)),
     ];
@@ -53,23 +53,23 @@ class TestExplorer {
 
   // --- finding tests
 
-  async findAll() {
+  async findTestFiles() {
     const files = await this.vscode.workspace.findFiles(TEST_FILE_PATTERN, "**/node_modules/**");
-    for (const uri of files) this.read(uri);
+    for (const uri of files) this.readTestFile(uri);
   }
 
   /** Reads a test file and shows its tests. Removes the tests of a file that cannot be read. */
-  read(uri) {
+  readTestFile(uri) {
     try {
-      this.show(uri, readFileSync(uri.fsPath, "utf8"));
+      this.showTests(uri, readFileSync(uri.fsPath, "utf8"));
     } catch {
       this.controller.items.delete(uri.toString());
     }
   }
 
-  /** Shows the tests of a file if the file belongs to the bench. (Other software also uses .test files.) */
-  show(uri, text) {
-    if (!belongsToBench(uri.fsPath)) return;
+  /** Shows the tests of a file if the file belongs to a project of the bench. (Other software also uses .test files.) */
+  showTests(uri, text) {
+    if (!belongsToProject(uri.fsPath)) return;
     const { controller, vscode } = this;
     const tests = findTests(text);
     const file = controller.items.get(uri.toString()) || controller.createTestItem(uri.toString(), basename(uri.fsPath), uri);
@@ -138,7 +138,7 @@ class TestExplorer {
     return testMessage;
   }
 
-  /** Debugs the first test that a request selects. Time pauses at the failure or at the end of the test. From there, the user can go back in time. */
+  /** Debugs the first test that a request selects. Time pauses at the failure or at the end of the test. The user can then step back. */
   async debug(request) {
     const { workspace, debug } = this.vscode;
     const run = this.controller.createTestRun(request);

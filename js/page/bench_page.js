@@ -103,7 +103,7 @@ export class Page {
    * Returns the listener for the bench worker's frames, errors and termination.
    * @returns {import("../core/bench/bench_client.js").Listener}
    */
-  makeListener() {
+  makeBenchListener() {
     return {
       handleFrame: (frame) => this.runController.handleFrame(frame),
       handleFailure: (error) => this.recovery.reportFailure(error),
@@ -129,7 +129,7 @@ export class Page {
    * @param {SessionRecord} record
    */
   showSession(record) {
-    this.storedHistory.openSession(record.id);
+    this.storedHistory.handleSessionOpening(record.id);
     this.breakpoints.open(record);
     this.keyPresser.forgetKeys();
     this.scope.discardRecording();
@@ -141,9 +141,9 @@ export class Page {
     this.heatView.clear();
     this.watchView.open(record.watched);
     this.textsController.show(record);
-    this.testsTab.offerFirstText();
-    this.drawingController.openSession();
-    this.exploreTab.openSession(record.id);
+    this.testsTab.updateFirstTextOffer();
+    this.drawingController.handleSessionOpening();
+    this.exploreTab.handleSessionOpening(record.id);
     this.source.forget();
     this.logView.clear();
     this.cyclesView.open(record.cycles);
@@ -194,7 +194,7 @@ export class Page {
    * Shows a snapshot of the session.
    * @param {PageState} state
    * @param {boolean} [isIntermediate] true if time is running and another snapshot follows
-   * @param {import("../core/engine/brightness_meter.js").LitShares | null} [litShares] the measured duty cycle of each lamp, from 0 to 1
+   * @param {import("../core/engine/brightness_meter.js").LitShares | null} [litShares] the brightness measurements of the lamps
    */
   show(state, isIntermediate = false, litShares = null) {
     const { snapshot, file, board, total, reset, futureCount, past, waves, printed, waitingChanges } = state;

@@ -1,4 +1,4 @@
-// Creates the views and controllers that show and draw the board. Their callbacks connect them to the page's other components.
+// Creates the views and controllers of the board, and connects them to the page's other components.
 
 import { partAtLine } from "../core/bench/part_lines.js";
 import { CancelledError } from "../core/bench/bench_errors.js";
@@ -26,7 +26,7 @@ import * as say from "../words/page.js";
 export function makeSnapshotView(page) {
   const { runController } = page;
   return new SnapshotView({
-    connectKey: (node, key) => page.keyPresser.listen(node, key),
+    connectKey: (node, key) => page.keyPresser.listenToButton(node, key),
     isRunning: () => runController.clock.isRunning,
     isFast: () => runController.isFast,
     isWiringShown: () => page.layout.tabs.shownName === "wiring",
@@ -34,7 +34,7 @@ export function makeSnapshotView(page) {
     serveLine: (line) => page.lineServer.serveLines(line),
     describeRefusal: (number) => page.errorMessages.refusalMeaning(number),
     explain: (name) => describeCell(page.cellWords, name),
-    showCounterLine: (counter) => page.source.showNext(counter, runController.isFast || page.currentSession.willRun),
+    showCounterLine: (counter) => page.source.showNextInstruction(counter, runController.isFast || page.currentSession.willRun),
     receiveBreakpoints: (breakpoints) => page.breakpoints.manager.updateFromBench(breakpoints),
     toggleBreakpoint: (address) => page.breakpoints.manager.toggleAddress(address),
     revealAddress: (address) => page.source.reveal(address),
@@ -60,7 +60,7 @@ export function makeSnapshotView(page) {
 export function makeKeyPresser(page) {
   const { runController } = page;
   return new KeyPresser({
-    isRunning: () => runController.clock.queuesKeyChanges,
+    queuesKeyChanges: () => runController.clock.queuesKeyChanges,
     isDown: (key) => runController.willBeDown(key, page.snapshotView.front.isDown(key)),
     press: (key) => runController.queueKeyChange("press", key),
     release: (key) => runController.queueKeyChange("release", key),
@@ -111,7 +111,7 @@ export function makeDrawingController(page) {
       const lines = drawnPartLines(editor.text).get(part);
       if (!lines) return;
       tabs.choose("board");
-      editor.select(lines);
+      editor.selectLines(lines);
     },
     insertKeyScan: insertScan,
     session: () => currentSession.session,
@@ -122,7 +122,7 @@ export function makeDrawingController(page) {
     wiring.showLevels();
     drawing.updateFromText();
   });
-  editor.onCaretMove = (line) => wiring.mark(partAtLine(drawnPartLines(editor.text), line));
+  editor.onCaretMove = (line) => wiring.highlight(partAtLine(drawnPartLines(editor.text), line));
   return drawing;
 }
 

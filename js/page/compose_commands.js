@@ -1,7 +1,7 @@
 // Creates the page's commands, and connects them to the page's components, the palette and the keyboard.
 
 import { formatKey } from "../core/board/key_place.js";
-import { COMMANDS, labelledCommand } from "./commands/command_table.js";
+import { COMMANDS, makeLabelledCommand } from "./commands/command_table.js";
 import { fillEmptyPanels } from "./commands/empty_panels.js";
 import { listenToKeys } from "./commands/keys.js";
 import { PaletteView } from "./commands/palette_view.js";
@@ -158,7 +158,7 @@ export class Commands {
     this.calls = this.makeCalls(guide, theme);
     this.welcome = this.makeWelcome(guide);
     this.palette = new PaletteView({
-      commands: () => [...COMMANDS, ...this.dynamicCommands()].map((command) => this.makeEntry(command)),
+      commands: () => [...COMMANDS, ...this.makeDynamicCommands()].map((command) => this.makeEntry(command)),
       destinations: (query) => listDestinations(query, this.makeDestinationCalls()),
     });
     theme.onChange = () => page.scope.view.requestDrawing();
@@ -246,12 +246,12 @@ export class Commands {
    * Returns the commands that depend on the examples and on the board's keys.
    * @returns {Command[]}
    */
-  dynamicCommands() {
+  makeDynamicCommands() {
     const { snapshotView, keyPresser, sessionsController } = this.page;
     return [
-      ...this.examples.map((example) => labelledCommand(`example.${example.name}`, say.openExample(example.name), "example",
+      ...this.examples.map((example) => makeLabelledCommand(`example.${example.name}`, say.openExample(example.name), "example",
         () => void sessionsController.openExample(example), "examples")),
-      ...snapshotView.front.keys.map((key) => labelledCommand(`key.${formatKey(key.key)}`,
+      ...snapshotView.front.keys.map((key) => makeLabelledCommand(`key.${formatKey(key.key)}`,
         say.pressKey(key.legend || formatKey(key.key)), "key", () => {
         keyPresser.pressOrRelease(key, false);
         keyPresser.endPress(key.key);

@@ -1,5 +1,5 @@
-// Creates the components that run the board, execute the session's commands and save the session. Their callbacks connect them to the
-// page's other components.
+// Creates the components that run the board, execute the session's commands and save the session. Connects them to the page's other
+// components.
 
 import { addressWithName, describeBreakpointCondition } from "../words/stops.js";
 import { LineServer } from "./lines/line_server.js";
@@ -27,7 +27,7 @@ export function makeCurrentSession(page) {
     takeRuns: () => page.logView.takeRuns(),
     logRuns: (runs, saveError) => page.logView.showRuns(runs, saveError),
     showSaveError: (message) => (message ? page.notice.show(message, "saveError") : page.notice.hide("saveError")),
-    showSaveState: (state) => page.layout.status.showSaved(state),
+    showSaveState: (state) => page.layout.status.showSaveState(state),
   }, page.storedHistory);
 }
 
@@ -43,7 +43,7 @@ export function makeRecovery(page) {
     showPaused: (reason) => page.runController.endRun(reason),
     showLastFrame: (frame) => page.runController.handleFrame(frame),
     reopenSession: async (record) => {
-      page.show(await page.currentSession.requestOpening(record));
+      page.show(await page.currentSession.openInBench(record));
       page.breakpoints.manager.resend();
     },
   });
@@ -59,13 +59,13 @@ export function makeRunController(page) {
     handleRunStart: () => page.mistakesView.clear(),
     handleRunEnd: () => page.scope.showPaused(),
     showFrame: (frame) => {
-      page.logView.collect(frame.runEntries);
+      page.logView.collectRuns(frame.runEntries);
       page.mistakesView.show(frame.tally.mistakes);
       page.heatView.handleFrame(frame);
       page.show(frame, true, frame.litShares);
-      page.breakpoints.countHits(frame.tally);
+      page.breakpoints.handleTally(frame.tally);
     },
-    drawSlowViews: () => page.snapshotView.showSlowViews(),
+    updateThrottledViews: () => page.snapshotView.updateThrottledViews(),
     drawListing: () => page.snapshotView.showListing(),
     isSecondCyclePending: () => {
       const { registers } = page.snapshotView.reader;
@@ -92,15 +92,15 @@ export function makeLineServer(page) {
     runWithProgress: (description, work) => page.progressView.show(description, (signal, progress) => work({ signal, progress })),
     counter: () => page.snapshotView.counter,
     show: (result) => {
-      if (result.hasChangedRom) page.snapshotView.forgetRom();
+      if (result.hasChangedRom) page.snapshotView.discardRom();
       page.show(result);
     },
     checkSource: () => page.checkSource(),
     save: () => currentSession.markChangedAndSave(),
     log: (entries, saveError) => page.logView.show(entries, saveError),
-    countHits: (tally) => page.breakpoints.countHits(tally),
+    handleTally: (tally) => page.breakpoints.handleTally(tally),
     isRunning: () => runController.clock.isRunning,
-    forgetGoal: () => runController.forgetGoal(),
+    discardGoal: () => runController.discardGoal(),
     describeStop: (stop) => runController.describeStop(stop, null),
     showMessage: (message) => runController.showMessage(message),
     reportFailure: (error) => page.recovery.reportFailure(error),

@@ -1,5 +1,5 @@
-// Creates the debugger's components: breakpoints, steps back and forward, and the views of values. Their callbacks connect them to the
-// page's other components.
+// Creates the debugger's components: breakpoints, steps back and forward, and the views of values. Connects them to the page's other
+// components.
 
 import { CancelledError, WorkerDiedError } from "../core/bench/bench_errors.js";
 import { hex } from "../core/bench/numbers.js";
@@ -48,7 +48,7 @@ export function makeBreakpointsController(page) {
     },
     goTo: (address) => page.snapshotView.goTo.show(address),
     reveal: (line) => page.programEditor.reveal(line),
-    showBelow: (line, node) => page.programEditor.editor.lineEditor.showBelow(line - 1, node),
+    showElementBelow: (line, node) => page.programEditor.editor.lineEditor.showElementBelow(line - 1, node),
     callAfterLayout: (action) => page.programEditor.editor.lineEditor.callAfterLayout(action),
     showSource: () => page.layout.showText("program"),
     focusSource: () => page.programEditor.editor.lineEditor.focus(),
@@ -69,7 +69,7 @@ export function makeTravel(page) {
     storeGoal: (goal) => runController.storeGoal(goal),
     change: (description, work) => page.lineServer.performWork(description, work),
     runTo: (goal) => runController.run(goal),
-    reportTally: (tally) => page.breakpoints.countHits(tally),
+    reportTally: (tally) => page.breakpoints.handleTally(tally),
     reasonOf: (stop, goal) => runController.describeStop(stop, goal),
     describeCounter: () => runController.counterText,
     breakpoint: (id) => page.breakpoints.manager.list.get(id),

@@ -1,7 +1,7 @@
-// Creates the components for sessions, files and the guide. Their callbacks connect them to the page's other components.
+// Creates the components for sessions, files and the guide, and connects them to the page's other components.
 
 import { Guide } from "./help/guide.js";
-import { forgetStory } from "./session/address.js";
+import { removeStoryFromUrl } from "./session/address.js";
 import { ExportView } from "./session/export_view.js";
 import { createSessionRecord } from "./session/open_session.js";
 import { RomFiles } from "../core/session/rom_files.js";
@@ -75,7 +75,7 @@ export function makeLinkSharing(page) {
   const { currentSession, sessionsController } = page;
   return new LinkSharing(page.bench, page.confirmDialog, page.notice, page.errorMessages, {
     currentTexts: () => currentSession.session && currentSession.session.record,
-    showSessionAddress: () => currentSession.showName(),
+    showSessionUrl: () => currentSession.showName(),
     openTexts: (texts, file, runs) => (
       sessionsController.manager.openNew(async () => createSessionRecord(texts.name || "session", file, texts, runs))),
     save: () => sessionsController.manager.save(),
@@ -139,12 +139,12 @@ export function makeGuide(page, manual) {
     },
     replaceWithUndo: (program, message) => page.textsController.replace("program", program, message),
     storyCalls: makeStoryCalls(page),
-    handleTourEnd: forgetStory,
+    handleTourEnd: removeStoryFromUrl,
     showRefusal: (reason) => page.notice.show(reason, "session"),
   });
   page.sessionsController.onSessionOpened = () => guide.endStory();
   page.sessionsController.showStory = (example) => guide.showStory(example.name, [example]);
   page.snapshotView.watcher = guide.tour;
-  page.runController.onRunEnd = (endReason) => guide.tour.recordEnd(endReason);
+  page.runController.onRunEnd = (endReason) => guide.tour.recordRunEnd(endReason);
   return guide;
 }

@@ -1,5 +1,4 @@
-// Creates the text editors, the tabs for tests and properties, and the list of problems. Their callbacks connect them to the page's other
-// components.
+// Creates the text editors, the tabs for tests and properties, and the list of problems. Connects them to the page's other components.
 
 import { formatErrorCount } from "../core/bench/error_messages.js";
 import { ExploreTab } from "./explore/explore_tab.js";
@@ -38,8 +37,9 @@ export function makeEditors(page, manual) {
     pauseTime: () => runController.pause(),
     resumeTime: () => runController.run(),
     counter: () => page.snapshotView.counter,
-    toggleBreakpoint: (line) => page.breakpoints.toggleLine(line).catch((error) => page.recovery.reportFailure(error)),
-    editBreakpoint: (line, fieldName) => page.breakpoints.editLine(line, fieldName).catch((error) => page.recovery.reportFailure(error)),
+    toggleBreakpoint: (line) => page.breakpoints.toggleBreakpointAt(line).catch((error) => page.recovery.reportFailure(error)),
+    editBreakpoint: (line, fieldName) => (
+      page.breakpoints.editBreakpointAt(line, fieldName).catch((error) => page.recovery.reportFailure(error))),
     openMarginMenu: (line, point) => page.breakpoints.openMenu(line, point),
     describeName: (name) => page.source.meaningOf(name),
     valuesAt: (text, index) => page.sourceValues.valueAt(text, index),
@@ -85,8 +85,8 @@ export function makeSource(page) {
     text: () => page.programEditor.benchText,
     check: (text) => page.bench.call("checkProgram", [text]),
     onChange: (map, reason) => {
-      page.snapshotView.nameLines(map, reason);
-      page.layout.status.showRom(map !== null, reason);
+      page.snapshotView.showLabels(map, reason);
+      page.layout.status.showRomStatus(map !== null, reason);
       showNibbleNames(page);
       page.breakpoints.manager.setSourceMap(map, reason);
     },
@@ -134,7 +134,7 @@ export function insertKeyScan({ layout, programEditor }, board) {
   const { edit, first, isEnd } = createRoutineInsertion(text, editor.caretLine, code);
   editor.edit([edit]);
   layout.showText("program");
-  editor.select({ from: first, to: first + code.trimEnd().split("\n").length - 1 });
+  editor.selectLines({ from: first, to: first + code.trimEnd().split("\n").length - 1 });
   programEditor.showMessage(isEnd ? say.KEY_SCAN_INSERTED : say.keyScanAt(first));
 }
 
@@ -151,7 +151,7 @@ export function makeTestsTab(page, manual) {
     findErrors: (texts) => bench.call("findTestErrors", [texts]),
     sample: (texts) => bench.call("createSampleTest", [texts]),
     run: async (texts) => {
-      // The worker serves one call at a time, so time cannot run during the tests. Pausing first shows this to the user.
+      // The worker serves one call at a time, so time cannot run during the tests. Time is paused first, so that the user sees this.
       await runController.pause();
       return page.progressView.show(say.RUNNING_TESTS, (signal, progress) => bench.call("runTests", [texts], { signal, progress }));
     },
@@ -162,7 +162,7 @@ export function makeTestsTab(page, manual) {
     },
     goTo: (address) => page.snapshotView.goTo.show(address),
     open: (name, file, texts) => page.sessionsController.manager.openNew(async () => createSessionRecord(name, file, texts)),
-    showMark: (label, isGood) => page.layout.tabs.setMark("tests", label, isGood),
+    showMark: (label, isSuccess) => page.layout.tabs.setMark("tests", label, isSuccess),
     handleEdit: () => page.textsController.handleEdit(),
     reportFailure: (error) => page.recovery.reportFailure(error),
   });
@@ -221,7 +221,7 @@ export function makeExploreTab(page, manual, makeBench) {
     describeRefusal: (number) => errorMessages.refusalMeaning(number),
     goToSource: (line) => {
       page.layout.tabs.choose("program");
-      page.programEditor.editor.select({ from: line, to: line });
+      page.programEditor.editor.selectLines({ from: line, to: line });
     },
     open: (name, file, texts) => {
       const testText = page.testsTab.editor.text;
@@ -230,7 +230,7 @@ export function makeExploreTab(page, manual, makeBench) {
     prove: prover.prove.bind(prover),
     openWithLines: (name, lines, texts, message) => openWithLines(page, { name, lines, message }, texts),
     addTest: (test) => addTest(page, test),
-    showMark: (label, isGood) => page.layout.tabs.setMark("properties", label, isGood),
+    showMark: (label, isSuccess) => page.layout.tabs.setMark("properties", label, isSuccess),
     handleEdit: () => page.textsController.handleEdit(),
     reportFailure: (error) => page.recovery.reportFailure(error),
   });

@@ -25,7 +25,7 @@ const sendKey = (key, isDown) => vsCode.postMessage({ place: formatKey(key), isD
 
 /** @type {KeyPresser} */
 const keyPresser = new KeyPresser({
-  isRunning: () => isRunning,
+  queuesKeyChanges: () => isRunning,
   isDown: (key) => frontView.isDown(key),
   press: (key) => sendKey(key, true),
   release: (key) => sendKey(key, false),
@@ -38,7 +38,7 @@ const keyPresser = new KeyPresser({
 /**
  * The front panel. Lamps show their perceived brightness while time is running, and their current state while time is paused.
  */
-const frontView = new FrontView((node, key) => keyPresser.listen(node, key), () => {});
+const frontView = new FrontView((node, key) => keyPresser.listenToButton(node, key), () => {});
 /** The printer view. The debug adapter stores everything that was printed since the board was drawn. */
 const printerView = new PrinterView({ setPrinter: () => {}, clear: () => vsCode.postMessage({ clearsPrintout: true }) });
 keyPresser.listenToKeyboard();
@@ -63,7 +63,7 @@ function showUpdate(update) {
   }
   if (update.isRunning !== undefined) isRunning = update.isRunning;
   if (update.test !== undefined) {
-    frontView.showTest(update.test);
+    frontView.showTestPin(update.test);
     button("test").textContent = `TEST ${update.test}`;
     button("test").setAttribute("aria-pressed", String(update.test === "1"));
   }

@@ -96,8 +96,8 @@ function yieldToEvents() {
  * @param {Example[]} examples
  */
 function prepareBench([script, module], examples) {
-  const address = URL.createObjectURL(new Blob([script], { type: "text/javascript" }));
-  return () => new Bench(() => startWorker(address), module.buffer, examples);
+  const scriptUrl = URL.createObjectURL(new Blob([script], { type: "text/javascript" }));
+  return () => new Bench(() => startWorker(scriptUrl), module.buffer, examples);
 }
 
 /** @param {Page} page */
@@ -132,7 +132,7 @@ function listenToSettings(page) {
 }
 
 /**
- * Listens to window events: the user hides or leaves the page, the page's address changes, or an error is not caught.
+ * Listens to window events: the user hides or leaves the page, the page's URL changes, or an error is not caught.
  * @param {Page} page
  */
 function listenToWindow(page) {
@@ -198,7 +198,7 @@ async function startPage({ unpackingPromise, locksPromise, storePromise }, error
   const pagePromise = createPage(services, pageFrame, locksPromise, storePromise);
   const [{ page, guide, commands, hasSessions }] = await Promise.all([pagePromise, startPromise]);
   // A worker that dies before it has loaded the module is not replaced.
-  bench.listener = page.makeListener();
+  bench.listener = page.makeBenchListener();
   const story = readRequestedStory(location.search);
   const isFirstVisit = location.hash === "" && !story && !hasSessions;
   await page.sessionsController.openFirst(story);
@@ -207,7 +207,7 @@ async function startPage({ unpackingPromise, locksPromise, storePromise }, error
   // The startup time in milliseconds.
   document.body.dataset.ready = String(Math.round(performance.now()));
   // Create the views of the editors that no tab has shown yet.
-  for (const { editor } of page.textEditors) setTimeout(() => editor.lineEditor.prepare());
+  for (const { editor } of page.textEditors) setTimeout(() => editor.lineEditor.ensureView());
   // When the user leaves the page, Firefox 153 often does not run functions that have never run before. Therefore, save once now.
   page.currentSession.saveNow();
 }

@@ -13,7 +13,7 @@ export class PrintView {
     this.block = block("print");
     addEventListener("beforeprint", () => this.fill());
     addEventListener("afterprint", () => this.block.replaceChildren());
-    // Some browsers announce a print preview only through the media query.
+    // Some browsers report a print preview only as a change of this media query.
     const printQuery = matchMedia("print");
     if (printQuery.addEventListener) printQuery.addEventListener("change", () => printQuery.matches && this.fill());
   }

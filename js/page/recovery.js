@@ -35,7 +35,7 @@ export class Recovery {
     this.errorMessages = errorMessages;
     this.notice = notice;
     this.calls = calls;
-    /** True while a new worker starts to replace a terminated worker. */
+    /** True after a worker was terminated, until a new worker has started in its place. */
     this.isRestarting = false;
   }
 

@@ -58,8 +58,8 @@ import * as say from "../words/page.js";
  * @typedef {{ handleLamps: (lamps: string) => void, handleKeyCount: (keyCount: number) => void }} Watcher
  */
 
-/** While time is running fast, the interval in milliseconds between updates of the views whose values change too quickly to read. */
-const DRAW_INTERVAL = 100;
+/** The interval in milliseconds between updates of the views whose values change too quickly to read while time is running fast. */
+const DRAW_INTERVAL_MS = 100;
 
 export class SnapshotView {
   /** @param {SnapshotCalls} calls */
@@ -139,12 +139,12 @@ export class SnapshotView {
     this.printer.draw(this.board, face);
     this.ram.draw(this.board);
     this.ports.draw(this.board, face);
-    this.wiring.forgetLevels();
-    this.forgetRom();
+    this.wiring.discardLevels();
+    this.discardRom();
   }
 
   /** Discards the cached contents of ROM, which may have changed. */
-  forgetRom() {
+  discardRom() {
     this.listing.discardLines();
     this.stack.invalidateNotes();
   }
@@ -162,9 +162,9 @@ export class SnapshotView {
    * @param {SourceMap | null} map null if the source is not the program in ROM
    * @param {string} reason the reason why `map` is null; "" otherwise
    */
-  nameLines(map, reason) {
+  showLabels(map, reason) {
     this.sourceStatus.set(reason);
-    this.listing.nameLines(map);
+    this.listing.showLabels(map);
     this.goTo.setNames(map);
     this.showListing();
   }
@@ -173,20 +173,20 @@ export class SnapshotView {
    * Shows a snapshot. Lamps, displays and keys are updated immediately. While time is running fast, all other views are updated less often.
    * @param {string[]} snapshot
    * @param {boolean} [isIntermediate] true if time is running and another snapshot follows
-   * @param {import("../core/engine/brightness_meter.js").LitShares | null} [litShares] the measured duty cycle of each lamp
+   * @param {import("../core/engine/brightness_meter.js").LitShares | null} [litShares] the brightness measurements of the lamps
    */
   show(snapshot, isIntermediate = false, litShares = null) {
     const changedValues = this.reader.readSnapshot(snapshot);
     this.showLamps(changedValues.lamps, isIntermediate && this.calls.isRunning() ? litShares : null);
     this.showFront(changedValues);
-    if (isIntermediate && this.calls.isFast() && performance.now() - this.lastDrawTime < DRAW_INTERVAL) return;
-    this.showSlowViews();
-    if (this.calls.isRunning()) this.changes.handleRunning();
-    else this.changes.handlePaused();
+    if (isIntermediate && this.calls.isFast() && performance.now() - this.lastDrawTime < DRAW_INTERVAL_MS) return;
+    this.updateThrottledViews();
+    if (this.calls.isRunning()) this.changes.clearWhileRunning();
+    else this.changes.markWhilePaused();
   }
 
-  /** Updates the views that `show` can delay. */
-  showSlowViews() {
+  /** Updates the views that `show` updates less often while time is running fast. */
+  updateThrottledViews() {
     this.lastDrawTime = performance.now();
     this.showStateChanges(this.reader.readStateChanges());
   }
@@ -209,8 +209,8 @@ export class SnapshotView {
     if (test !== undefined) {
       this.testText.set(`TEST ${test}`);
       this.testSwitch.set(test === "1");
-      this.front.showTest(test);
-      this.wiring.showTest(test === "1");
+      this.front.showTestPin(test);
+      this.wiring.showTestPin(test === "1");
     }
     if (this.watcher && (keys || lamps !== undefined)) {
       this.watcher.handleKeyCount(this.front.keysDown.count);
@@ -248,6 +248,6 @@ export class SnapshotView {
     this.calls.showCounterLine(this.listing.counter);
     const isRunning = this.calls.isRunning();
     this.listing.show(this.calls.isFast()).catch(this.calls.reportFailure);
-    this.stack.explain(this.listing.map, isRunning).catch(this.calls.reportFailure);
+    this.stack.updateNotes(this.listing.map, isRunning).catch(this.calls.reportFailure);
   }
 }

@@ -17,12 +17,12 @@ test("a value that differs from the previous stop is marked, however long ago it
   const changes = new Changes();
   const [firstCell, secondCell] = [createFakeCell(), createFakeCell()];
   for (const cell of [firstCell, secondCell]) changes.set(cell, "0");
-  changes.handlePaused();
+  changes.markWhilePaused();
   assert.deepEqual([firstCell.isMarked(), secondCell.isMarked()], [false, false]);
   changes.set(firstCell, "5");
-  for (let frame = 0; frame < 200; frame++) changes.handleRunning();
+  for (let frame = 0; frame < 200; frame++) changes.clearWhileRunning();
   assert.equal(firstCell.isMarked(), false);
-  changes.handlePaused();
+  changes.markWhilePaused();
   assert.deepEqual([firstCell.isMarked(), secondCell.isMarked()], [true, false]);
 });
 
@@ -31,9 +31,9 @@ test("a value that has changed back is not marked", () => {
   const cell = createFakeCell();
   changes.set(cell, "1");
   changes.set(cell, "2");
-  changes.handleRunning();
+  changes.clearWhileRunning();
   changes.set(cell, "1");
-  changes.handlePaused();
+  changes.markWhilePaused();
   assert.equal(cell.isMarked(), false);
 });
 
@@ -42,10 +42,10 @@ test("marks stay while nothing happens, and disappear when the machine runs", ()
   const cell = createFakeCell();
   changes.set(cell, "1");
   changes.set(cell, "2");
-  changes.handlePaused();
-  changes.handlePaused();
+  changes.markWhilePaused();
+  changes.markWhilePaused();
   assert.equal(cell.isMarked(), true);
-  changes.handleRunning();
+  changes.clearWhileRunning();
   assert.equal(cell.isMarked(), false);
 });
 
@@ -54,9 +54,9 @@ test("each stop compares values with the stop before it", () => {
   const [firstCell, secondCell] = [createFakeCell(), createFakeCell()];
   for (const cell of [firstCell, secondCell]) changes.set(cell, "0");
   changes.set(firstCell, "1");
-  changes.handlePaused();
+  changes.markWhilePaused();
   changes.set(secondCell, "1");
-  changes.handlePaused();
+  changes.markWhilePaused();
   assert.deepEqual([firstCell.isMarked(), secondCell.isMarked()], [false, true]);
 });
 
@@ -65,13 +65,13 @@ test("cells of a new board have no marks", () => {
   const cell = createFakeCell();
   changes.set(cell, "1");
   changes.set(cell, "2");
-  changes.handlePaused();
+  changes.markWhilePaused();
   changes.forgetCells();
   assert.equal(cell.isMarked(), false);
   changes.set(cell, "2");
-  changes.handlePaused();
+  changes.markWhilePaused();
   assert.equal(cell.isMarked(), false);
   changes.set(cell, "3");
-  changes.handlePaused();
+  changes.markWhilePaused();
   assert.equal(cell.isMarked(), true);
 });

@@ -27,7 +27,7 @@ function createPresser(isRunning) {
     else downKeys.delete(formatKey(key));
   };
   const presser = new KeyPresser({
-    isRunning: () => isRunning,
+    queuesKeyChanges: () => isRunning,
     isDown: (key) => downKeys.has(formatKey(key)),
     press: (key) => record("press", key),
     release: (key) => record("release", key),
@@ -36,7 +36,7 @@ function createPresser(isRunning) {
   });
   const buttons = [matrixKey(0, 0), matrixKey(0, 1)].map((key) => {
     const button = new FakeButton();
-    presser.listen(button, { key });
+    presser.listenToButton(button, { key });
     return button;
   });
   return { lines, downKeys, buttons };

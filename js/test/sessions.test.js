@@ -36,10 +36,10 @@ test("a session of an example is not saved before it is changed", async () => {
   const session = new OpenSession(store, createRecord(), () => {}, "die");
   assert.equal(await session.save(), "");
   assert.equal(await session.saveNow(), "");
-  assert.deepEqual(await store.all(), []);
+  assert.deepEqual(await store.getAll(), []);
   assert.deepEqual([session.markChanged(), session.markChanged()], [true, false]);
   await session.save();
-  assert.equal((await store.all()).length, 1);
+  assert.equal((await store.getAll()).length, 1);
 });
 
 test("several sessions can be deleted at once, and restored unchanged", async () => {
@@ -48,13 +48,13 @@ test("several sessions can be deleted at once, and restored unchanged", async ()
   for (const storedRecord of records) await store.put(storedRecord);
   const messages = [];
   const trash = new Trash(store, AVAILABLE_LOCKS, (message) => messages.push(message));
-  const [firstRecord, secondRecord] = await store.all();
+  const [firstRecord, secondRecord] = await store.getAll();
   assert.deepEqual(await trash.remove([firstRecord, secondRecord]), [firstRecord, secondRecord]);
-  assert.deepEqual((await store.all()).map(({ name }) => name), ["three"]);
+  assert.deepEqual((await store.getAll()).map(({ name }) => name), ["three"]);
   assert.deepEqual(trash.deletedRecords, [firstRecord, secondRecord]);
   await trash.restoreSessions([firstRecord, secondRecord]);
   await trash.restoreSessions([firstRecord]);
-  assert.deepEqual((await store.all()).map(({ name, programText }) => name + programText), ["three; p", "one; p", "two; p"]);
+  assert.deepEqual((await store.getAll()).map(({ name, programText }) => name + programText), ["three; p", "one; p", "two; p"]);
   assert.deepEqual([trash.deletedRecords, messages], [[], []]);
   assert.deepEqual([formatNames([firstRecord]), formatNames([firstRecord, secondRecord])], ['"one"', "2 sessions"]);
 });

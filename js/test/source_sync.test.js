@@ -21,7 +21,7 @@ function createSync(text, checkResult) {
     describeRefusal: (number) => `words of ${number}`,
   });
   sync.editor = {
-    showNext: (line) => log.nextLines.push(line),
+    showNextInstruction: (line) => log.nextLines.push(line),
     showAddresses: (addresses) => log.addresses.push(addresses),
     reveal: (line) => log.revealedLines.push(line),
   };
@@ -34,7 +34,7 @@ test("if ROM matches the source, the next line is shown while time is paused", a
   assert.deepEqual(log.changes, [[true, ""]]);
   assert.deepEqual(log.addresses, [["", "000", "", "002"]]);
   for (const [counter, isRunning] of [[0, false], [0, false], [2, false], [2, true], [0, true], [1, false], [9, false]]) {
-    sync.showNext(counter, isRunning);
+    sync.showNextInstruction(counter, isRunning);
   }
   assert.deepEqual(log.nextLines, [2, 4, 0, 2, 0]);
 });
@@ -50,10 +50,10 @@ test("the line of an address is scrolled into view", async () => {
 test("after a text was put into the editor, the marks are shown again, even if it is the same text", async () => {
   const { sync, log } = createSync(TEXT, MATCHING_CHECK);
   await sync.check();
-  sync.showNext(0, false);
+  sync.showNextInstruction(0, false);
   sync.forget();
   await sync.check();
-  sync.showNext(0, false);
+  sync.showNextInstruction(0, false);
   assert.deepEqual(log.changes, [[true, ""], [false, ""], [true, ""]]);
   assert.deepEqual([log.addresses.length, log.nextLines], [2, [2, 2]]);
 });
@@ -70,7 +70,7 @@ test("the first difference between the source and ROM is reported", async () => 
   await sync.check();
   const message = "Source and ROM differ from line 4 (0x002). Assemble to update.";
   assert.deepEqual(log.changes, [[false, message]]);
-  sync.showNext(0, false);
+  sync.showNextInstruction(0, false);
   assert.deepEqual(log.nextLines, []);
 });
 

@@ -61,9 +61,9 @@ test("a record is stored as it is at the call, before the promise resolves", asy
   record.file = Uint8Array.of(9, 9);
   await promise;
   assert.deepEqual([...(await store.get(record.id)).file], [1, 2]);
-  assert.equal((await store.all()).length, 1);
+  assert.equal((await store.getAll()).length, 1);
   await store.remove(record.id);
-  assert.deepEqual(await store.all(), []);
+  assert.deepEqual(await store.getAll(), []);
 });
 
 test("without locks, a record with an outdated revision is rejected", async () => {
@@ -108,7 +108,7 @@ test("a store that does not answer is reported after a time limit", async (conte
   database.transaction = () => ({ objectStore: () => ({ put: () => {}, getAll: () => ({}), get: () => ({}) }), commit: () => {} });
   const store = new Store(database, true);
   const session = new OpenSession(store, createSessionRecord("one", Uint8Array.of(1), { boardText: "", programText: "" }), () => {});
-  const results = [session.save(), session.save(), store.all().catch(describeStoreError), store.get("one").catch(describeStoreError)];
+  const results = [session.save(), session.save(), store.getAll().catch(describeStoreError), store.get("one").catch(describeStoreError)];
   for (let turn = 0; turn < 5; turn++) await Promise.resolve();
   context.mock.timers.tick(10000);
   assert.deepEqual(new Set(await Promise.all(results)), new Set(["the browser's store does not answer"]));
@@ -144,7 +144,7 @@ test("without a store, sessions are kept while the page is open", async () => {
   assert.equal((await store.get(record.id)).file[0], 1);
   assert.equal(store.isPersistent, false);
   await store.remove(record.id);
-  assert.deepEqual(await store.all(), []);
+  assert.deepEqual(await store.getAll(), []);
 });
 
 test("each record has a unique id", () => {

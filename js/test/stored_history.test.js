@@ -29,7 +29,7 @@ function addReport(history, calls, report = calls.bench.takePageState([], false)
 async function leavePage(store, lines) {
   const calls = await openExample("three lamps");
   const history = new StoredHistory(store);
-  history.openSession("one");
+  history.handleSessionOpening("one");
   addReport(history, calls);
   const states = [calls.ask(ALL_QUERIES)];
   for (const sessionLines of lines) {
@@ -44,7 +44,7 @@ async function leavePage(store, lines) {
 async function reopenPage(store, { bench: { session: { file, count } } }, name = "one") {
   const calls = await openExample("three lamps");
   const history = new StoredHistory(store);
-  history.openSession(name);
+  history.handleSessionOpening(name);
   addReport(history, calls, calls.open(file.slice(), count.total, count.reset));
   return { calls, history, storedSegments: history.takeStoredSegments() };
 }
@@ -92,7 +92,7 @@ test("after going back, only the remaining past is stored", async () => {
   const store = createStore();
   const { calls } = await leavePage(store, LINES);
   const history = new StoredHistory(store);
-  history.openSession("one");
+  history.handleSessionOpening("one");
   addReport(history, calls, await calls.goBack({ kind: "stop" }));
   addReport(history, calls, await calls.serve("run 5\n"));
   history.saveOnLeave();
@@ -143,7 +143,7 @@ test("if the saved session is older than the history, the later entries are igno
 test("the last two files of a long history are stored", async () => {
   const calls = await openExample("three lamps");
   const history = new StoredHistory(createStore());
-  history.openSession("one");
+  history.handleSessionOpening("one");
   addReport(history, calls);
   for (let round = 0; round < 25; round++) addReport(history, calls, await calls.serve("run 100000\n".repeat(5)));
   assert.equal(history.segments.length, 2);

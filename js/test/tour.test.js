@@ -37,13 +37,13 @@ test("the key step is done when a lamp is on while a key is down", () => {
 
 test("the breakpoint and watch steps are done when a run ends with such a stop", () => {
   const progress = beginStep(3);
-  progress.recordEnd("watch");
+  progress.recordRunEnd("watch");
   assert.equal(progress.isDone, false);
-  progress.recordEnd("break");
+  progress.recordRunEnd("break");
   assert.equal(progress.isDone, true);
   progress.begin(4);
   assert.equal(progress.isDone, false);
-  progress.recordEnd("watch");
+  progress.recordRunEnd("watch");
   assert.equal(progress.isDone, true);
 });
 

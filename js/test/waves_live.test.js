@@ -16,10 +16,10 @@ const lineIndexOf = (waves, name) => waves.lines.findIndex((line) => line.name =
 const wholeText = (waves) => [...vcdParts(waves, waves.lines.map((_, line) => line))].join("");
 
 /** Starts a recording, and returns it. Its function `addPart` takes the answer to a call, which contains a part of the recording. */
-function startRecording(calls, texts, { maxCycles = 1000000, cyclesAfterTrigger = 0, trigger = "", stopsTime = false } = {}) {
-  const { recording, error } = calls.recordLive(texts, { trigger, cyclesAfterTrigger, stopsMachine: stopsTime });
+function startRecording(calls, texts, { maxCycles = 1000000, cyclesAfterTrigger = 0, trigger = "", pausesAtEnd = false } = {}) {
+  const { recording, error } = calls.recordLive(texts, { trigger, cyclesAfterTrigger, stopsMachine: pausesAtEnd });
   assert.equal(error, "");
-  const liveWaves = new LiveWaves(recording, { maxCycles, cyclesAfterTrigger, trigger, stopsTime });
+  const liveWaves = new LiveWaves(recording, { maxCycles, cyclesAfterTrigger, trigger, pausesAtEnd });
   return { liveWaves, addPart: (answer) => liveWaves.append(answer.waves) };
 }
 
@@ -109,7 +109,7 @@ for (const [trigger, readAround, expected] of TRIGGERS) {
 
 test("the machine stops at an instruction once the cycles after a trigger are recorded", async () => {
   const { calls, texts } = await openSession("stopwatch", "test 0\nrun 20000\n");
-  const options = { maxCycles: 3000, cyclesAfterTrigger: 10, trigger: "lamp15 changes", stopsTime: true };
+  const options = { maxCycles: 3000, cyclesAfterTrigger: 10, trigger: "lamp15 changes", pausesAtEnd: true };
   const { liveWaves, addPart } = startRecording(calls, texts, options);
   let frame = calls.advance(1);
   for (let count = 0; count < 50 && !frame.stop; count++) {

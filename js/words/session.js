@@ -45,7 +45,7 @@ export const NO_PROJECT_FILE = "there is no such file; it names the files of a p
 export const noFileMessage = (path) => `there is no file ${path}`;
 
 // --- session/session_list.js ---
-export const DELETE_CHOSEN = "Delete the selected ones";
+export const DELETE_CHOSEN = "Delete selected";
 /** @type {(count: number) => string} */
 export const deleteSome = (count) => `Delete ${count} selected`;
 export const SHOWN = "Shown";

@@ -123,7 +123,7 @@ export class TourProgress {
    * Records why the machine stopped.
    * @param {string} end the reason for the stop, such as `break`
    */
-  recordEnd(end) {
+  recordRunEnd(end) {
     this.update({ end });
   }
 

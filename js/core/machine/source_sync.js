@@ -8,9 +8,9 @@ import * as say from "../../words/machine.js";
 /**
  * @typedef {import("../engine/program_check.js").ProgramCheck} ProgramCheck
  *
- * The source editor. `showNext` marks the line of the next instruction (0 for none). `showAddresses` shows the address of each line ("" for
- * none). `reveal` scrolls to a line.
- * @typedef {{ showNext: (line: number) => void, showAddresses: (addresses: string[]) => void,
+ * The source editor. `showNextInstruction` marks the line of the next instruction (0 for none). `showAddresses` shows the address of each
+ * line ("" for none). `reveal` scrolls to a line.
+ * @typedef {{ showNextInstruction: (line: number) => void, showAddresses: (addresses: string[]) => void,
  *   reveal: (line: number) => void }} SourceEditor
  */
 
@@ -26,7 +26,7 @@ import * as say from "../../words/machine.js";
  */
 
 /** @type {SourceEditor} an editor that shows nothing, for use before the page has created its editor */
-const NO_EDITOR = { showNext: () => {}, showAddresses: () => {}, reveal: () => {} };
+const NO_EDITOR = { showNextInstruction: () => {}, showAddresses: () => {}, reveal: () => {} };
 
 /**
  * Returns an address as text, such as `0x014`.
@@ -115,11 +115,11 @@ export class SourceSync {
    * @param {number} counter the program counter
    * @param {boolean} isRunning
    */
-  showNext(counter, isRunning) {
+  showNextInstruction(counter, isRunning) {
     const line = this.map && !isRunning ? this.map.lineOf(counter) : 0;
     if (line === this.nextLine) return;
     this.nextLine = line;
-    this.editor.showNext(line);
+    this.editor.showNextInstruction(line);
   }
 
   /**

@@ -10,8 +10,8 @@ import * as say from "../../words/waves.js";
  * @typedef {import("../engine/wave_recorder.js").Recording} Recording
  *
  * The settings of a recording. `maxCycles` is its maximum length. `cyclesAfterTrigger` is the number of cycles to record after the trigger.
- * `trigger` is the text of the trigger; "" for none. `stopsTime` is true if the session pauses when the recording ends.
- * @typedef {{ maxCycles: number, cyclesAfterTrigger: number, trigger: string, stopsTime: boolean }} RecordingSettings
+ * `trigger` is the text of the trigger; "" for none. `pausesAtEnd` is true if the session pauses when the recording ends.
+ * @typedef {{ maxCycles: number, cyclesAfterTrigger: number, trigger: string, pausesAtEnd: boolean }} RecordingSettings
  */
 
 export class LiveWaves {

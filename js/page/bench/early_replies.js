@@ -28,12 +28,12 @@ function openChannel(name) {
 
 /**
  * Starts a worker. Its early replies reach the same listeners as its ordinary messages.
- * @param {string} address
+ * @param {string} scriptUrl
  * @returns {WorkerLike}
  */
-export function startWorker(address) {
+export function startWorker(scriptUrl) {
   const name = makeSecretName();
-  const worker = new Worker(address, { name });
+  const worker = new Worker(scriptUrl, { name });
   const channel = openChannel(name);
   return {
     postMessage: (message, transfer) => worker.postMessage(message, transfer),

@@ -58,7 +58,7 @@ export class FrontView {
     /** The serial number of the current front panel: 1 for the first panel that the page draws, 2 for the second; 0 before the first. */
     this.faceNumber = 0;
     this.brightness = new Brightness(new Face(""), 0);
-    /** True if the lamps show their perceived brightness, false if they show their state at one instant. */
+    /** True if the lamps show their perceived brightness; false if they show their state at the last snapshot. */
     this.showsBrightness = false;
     this.brightnessStatus = new Cell(block("brightness-status"));
     this.block = block("keys");
@@ -138,7 +138,7 @@ export class FrontView {
     button("test").hidden = face.test !== null;
     makeFirstTabStop(this.block);
     block("keys-hint").textContent = isEmptyBoard(board) ? "" : keyHint(this.keys);
-    this.showKeysDown();
+    this.updateKeyButtons();
   }
 
   /**
@@ -190,18 +190,18 @@ export class FrontView {
    */
   showKeys(downKeys) {
     this.keysDown = new PressedKeys(downKeys);
-    this.showKeysDown();
+    this.updateKeyButtons();
   }
 
-  showKeysDown() {
+  updateKeyButtons() {
     for (const shownKey of this.keys) shownKey.downSwitch.set(this.isDown(shownKey.key));
   }
 
   /** @param {string} level the level of the TEST pin: "0" or "1" */
-  showTest(level) {
+  showTestPin(level) {
     if (this.testLevel === level) return;
     this.testLevel = level;
-    this.showKeysDown();
+    this.updateKeyButtons();
   }
 
   /** @param {import("../../core/board/key_place.js").Key} key */

@@ -10,12 +10,13 @@ import { formatKey } from "../../core/board/key_place.js";
 /**
  * The callbacks of KeyPresser.
  * @typedef {object} KeyPresserCalls
- * @property {() => boolean} isRunning Returns true if time is running and is not very slow. Otherwise, each press toggles the key.
+ * @property {() => boolean} queuesKeyChanges Returns true if presses and releases are queued, because time is running and is not very slow.
+ *   Otherwise, each press toggles the key.
  * @property {(key: Key) => boolean} isDown Returns true if a key will be down after all queued presses and releases.
  * @property {(key: Key) => void} press Queues a press of a key.
  * @property {(key: Key) => void} release Queues a release of a key.
- * @property {(word: "press" | "release", key: Key) => void} change Presses or releases a key at once. Called while `isRunning` returns
- *   false.
+ * @property {(word: "press" | "release", key: Key) => void} change Presses or releases a key at once. Called while `queuesKeyChanges`
+ *   returns false.
  * @property {(event: KeyboardEvent) => BoardKey | undefined} keyForEvent Returns the board's key for a keyboard event. Returns undefined if
  *   there is none, or if another element handles the event.
  */
@@ -41,7 +42,7 @@ export class KeyPresser {
     this.touchTimers = new Map();
   }
 
-  /** Forgets all pressed keys and pending touches, because the board's keys have changed. */
+  /** Forgets all held keys and pending touches. Called after the board's keys have changed. */
   forgetKeys() {
     this.heldKeys.clear();
     for (const timer of this.touchTimers.values()) clearTimeout(timer);
@@ -52,7 +53,7 @@ export class KeyPresser {
    * @param {HTMLButtonElement} button
    * @param {BoardKey} boardKey
    */
-  listen(button, boardKey) {
+  listenToButton(button, boardKey) {
     const { key } = boardKey;
     let pointerUpTime = -Infinity;
     button.addEventListener("pointerdown", (event) => {
@@ -109,7 +110,7 @@ export class KeyPresser {
   }
 
   /**
-   * Cancels the delayed press of a touch. Returns true if the touch had not pressed its key yet.
+   * Cancels the delayed key press of a touch. Returns true if the touch had not yet pressed its key.
    * @param {number} pointer
    */
   cancelTouch(pointer) {
@@ -128,7 +129,7 @@ export class KeyPresser {
     if (this.heldKeys.has(name)) return;
     const isDown = this.calls.isDown(key);
     const { change, press, release } = this.calls;
-    if (!this.calls.isRunning()) {
+    if (!this.calls.queuesKeyChanges()) {
       change(isDown ? "release" : "press", key);
       this.heldKeys.set(name, { key, staysDown: true, undoPress: () => change(isDown ? "press" : "release", key) });
     } else if (isDown) {
@@ -169,7 +170,7 @@ export class KeyPresser {
     for (const { key } of [...this.heldKeys.values()]) this.endPress(key);
   }
 
-  /** Lets the computer's keyboard press the board's keys. `keyForEvent` excludes the keys that another element handles. */
+  /** Lets the computer's keyboard press the board's keys. `keyForEvent` ignores keyboard events that another element handles. */
   listenToKeyboard() {
     /** @type {Map<string, Key>} */
     const keysByCode = new Map();

@@ -134,7 +134,7 @@ export class LampsView {
   }
 
   /**
-   * Returns the HTML list for a die, a bar or a matrix.
+   * Returns the HTML list for a group of lamps that is a die, a bar or a matrix.
    * @param {Group} group
    */
   drawGroup(group) {

@@ -60,7 +60,7 @@ export class PrinterView {
 
   /**
    * Draws a changed front panel of the same board. The printout stays if the board's text declares no front panel or no printer, because
-   * the user may still be writing it.
+   * the user may still be writing the comments that declare it.
    * @param {Board} board
    * @param {Face} face
    */
@@ -77,7 +77,7 @@ export class PrinterView {
   }
 
   /**
-   * Shows a printout, unless it belongs to another printer than the current one.
+   * Shows a printout, unless it was printed by a printer other than the current one.
    * @param {PrintoutData} printout
    */
   showPrintout(printout) {
@@ -94,7 +94,7 @@ export class PrinterView {
     this.printoutBlock.focus();
   }
 
-  /** Shows the last MAX_SHOWN_LINES lines of the printout. Reuses the elements of unchanged leading lines. */
+  /** Shows the last MAX_SHOWN_LINES lines of the printout. Keeps the elements of all lines before the first changed line. */
   show() {
     const lines = this.printer ? printoutLines(this.codes, this.printer.words).slice(-MAX_SHOWN_LINES) : [];
     if (lines[lines.length - 1] === "") lines.pop();

@@ -53,8 +53,8 @@ export class WiringView {
     this.chains = [];
     /** @type {Map<string, Levels>} the line levels of each RAM chip, by `bank.chip` */
     this.rams = new Map();
-    /** The name of the highlighted part, in the form that `mark` accepts; "" if there is none. */
-    this.markedName = "";
+    /** The name of the highlighted part, for example `rom 1`; "" if there is none. */
+    this.highlightedName = "";
     /** The name of the part or pin that the Tab key moves the focus to. */
     this.tabStop = "";
     /** @type {Ports | null} */
@@ -70,8 +70,8 @@ export class WiringView {
     this.newWire = svgElement("path", { class: "wire pencil" });
   }
 
-  /** Forgets the levels before another board is used. */
-  forgetLevels() {
+  /** Discards all known levels. Called before the bench uses another board. */
+  discardLevels() {
     this.ports = null;
     this.ramPorts.clear();
   }
@@ -122,13 +122,13 @@ export class WiringView {
       element("li", {}, `${title}: ${descriptions.join("; ")}.`))));
     this.setTabStop(this.items.has(focusedName) ? focusedName : this.tabStop);
     if (focusedName) this.focus(this.tabStop);
-    this.showMark();
+    this.showHighlight();
     if (this.isShown()) this.showLevels();
   }
 
   /**
-   * Groups the lines' levels by chip and by chain.
-   * @param {Board | null} board null if the board is not in use
+   * Groups the drawn levels of the lines by chip and by chain.
+   * @param {Board | null} board null if the drawn board has not been applied to the bench
    */
   groupLevels(board) {
     const { roms, chains, banks } = board || { roms: [], chains: [], banks: [] };
@@ -143,12 +143,12 @@ export class WiringView {
   /**
    * Returns a wire's elements: its path, and a wider invisible path as the clickable area.
    * @param {Wire} wire
-   * @param {string} d the wire's SVG path
+   * @param {string} pathData the wire's SVG path
    * @param {Map<string, SVGElement[]>} nodesByLine the elements of each line, by line name; receives the path
    */
-  drawWire(wire, d, nodesByLine) {
-    const path = svgElement("path", { class: "wire", d });
-    const hitArea = svgElement("path", { class: "reach", d });
+  drawWire(wire, pathData, nodesByLine) {
+    const path = svgElement("path", { class: "wire", d: pathData });
+    const hitArea = svgElement("path", { class: "reach", d: pathData });
     this.names.set(hitArea, wire.to.id);
     nodesByLine.set(wire.line, [...(nodesByLine.get(wire.line) || []), path]);
     return [path, hitArea];
@@ -237,8 +237,8 @@ export class WiringView {
    * @param {string} name
    */
   setTabStop(name) {
-    const oldStop = this.items.get(this.tabStop);
-    if (oldStop) oldStop.setAttribute("tabindex", "-1");
+    const oldTabStopNode = this.items.get(this.tabStop);
+    if (oldTabStopNode) oldTabStopNode.setAttribute("tabindex", "-1");
     const [first = ""] = this.items.keys();
     this.tabStop = this.items.has(name) ? name : first;
     const node = this.items.get(this.tabStop);
@@ -296,14 +296,14 @@ export class WiringView {
    * Highlights the part that the caret's line in the board's text describes.
    * @param {string} name for example `rom 1`, `lamp 3` or `test`; "" removes the highlight
    */
-  mark(name) {
-    if (name === this.markedName) return;
-    this.markedName = name;
-    this.showMark();
+  highlight(name) {
+    if (name === this.highlightedName) return;
+    this.highlightedName = name;
+    this.showHighlight();
   }
 
-  showMark() {
-    const id = this.markedName.startsWith("lamp ") ? "lamps" : this.markedName;
+  showHighlight() {
+    const id = this.highlightedName.startsWith("lamp ") ? "lamps" : this.highlightedName;
     for (const partId of this.parts.keys()) {
       const node = this.items.get(partId);
       if (node) node.classList.toggle("marked", id !== "" && (partId === id || partId.startsWith(`${id}.`)));
@@ -323,7 +323,7 @@ export class WiringView {
   }
 
   /** @param {boolean} isOn true if the TEST pin is at 1 */
-  showTest(isOn) {
+  showTestPin(isOn) {
     this.isTestHigh = isOn;
     if (this.isShown()) this.showLevels();
   }

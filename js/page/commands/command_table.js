@@ -87,7 +87,7 @@ const alwaysAvailable = () => "";
  * @param {Partial<Command>} [options]
  * @returns {Command}
  */
-function command(id, group, action, options = {}) {
+function makeCommand(id, group, action, options = {}) {
   return { id, label: say.COMMANDS[id], group, keys: [], place: "everywhere", act: action, unavailableReason: alwaysAvailable, ...options };
 }
 
@@ -100,10 +100,10 @@ function command(id, group, action, options = {}) {
  * @param {string} [reason] the message that explains why the button is not available
  * @param {Partial<Command>} [options]
  */
-function buttonCommand(id, group, button, containerName, reason = say.NOT_NOW, options = {}) {
+function makeButtonCommand(id, group, button, containerName, reason = say.NOT_NOW, options = {}) {
   /** @param {CommandCalls} calls */
   const unavailableReason = (calls) => (calls.isButtonAvailable(button) ? "" : reason);
-  return command(id, group, (calls) => calls.clickButton(button, containerName), { unavailableReason, ...options });
+  return makeCommand(id, group, (calls) => calls.clickButton(button, containerName), { unavailableReason, ...options });
 }
 
 /**
@@ -113,127 +113,128 @@ function buttonCommand(id, group, button, containerName, reason = say.NOT_NOW, o
  * @param {string[]} keys
  * @param {boolean} [isSource] true if the command is available only in the source's editor
  */
-function textCommand(id, textAction, keys, isSource = false) {
-  return command(id, "text", (calls) => calls.performTextAction(textAction), { keys, place: isSource ? "source" : "texts",
+function makeTextCommand(id, textAction, keys, isSource = false) {
+  return makeCommand(id, "text", (calls) => calls.performTextAction(textAction), { keys, place: isSource ? "source" : "texts",
     unavailableReason: (calls) => (calls.isTextInFront(isSource) ? "" : isSource ? say.NO_NAMES : say.NO_EDITOR) });
 }
 
 /** @type {Command[]} */
 const TIME_COMMANDS = [
-  command("time.continue", "time", (calls) => calls.continueOrPause(), {
+  makeCommand("time.continue", "time", (calls) => calls.continueOrPause(), {
     icon: "continue", keys: ["F5", "F8"], currentLabel: (calls) => say.COMMANDS[calls.isRunning() ? "time.pause" : "time.continue"] }),
-  command("time.over", "time", (calls) => calls.runToGoal({ kind: "over" }), { icon: "over", keys: ["F10"] }),
-  command("time.into", "time", (calls) => calls.step(), { icon: "into", keys: ["F11"] }),
-  command("time.out", "time", (calls) => calls.runToGoal({ kind: "out" }), { icon: "out", keys: ["Shift+F11"] }),
-  command("time.stepBack", "time", (calls) => calls.goBack({ kind: "instruction" }), { icon: "back", keys: ["Ctrl+F11"] }),
-  command("time.lastPause", "time", (calls) => calls.goBack({ kind: "stop" }), { keys: ["Shift+F8"] }),
-  command("time.reverse", "time", (calls) => calls.goBack({ kind: "arrival", place: "" })),
-  command("time.redo", "time", (calls) => calls.goForward(), {
+  makeCommand("time.over", "time", (calls) => calls.runToGoal({ kind: "over" }), { icon: "over", keys: ["F10"] }),
+  makeCommand("time.into", "time", (calls) => calls.step(), { icon: "into", keys: ["F11"] }),
+  makeCommand("time.out", "time", (calls) => calls.runToGoal({ kind: "out" }), { icon: "out", keys: ["Shift+F11"] }),
+  makeCommand("time.stepBack", "time", (calls) => calls.goBack({ kind: "instruction" }), { icon: "back", keys: ["Ctrl+F11"] }),
+  makeCommand("time.lastPause", "time", (calls) => calls.goBack({ kind: "stop" }), { keys: ["Shift+F8"] }),
+  makeCommand("time.reverse", "time", (calls) => calls.goBack({ kind: "arrival", place: "" })),
+  makeCommand("time.redo", "time", (calls) => calls.goForward(), {
     unavailableReason: (calls) => (calls.canGoForward() ? "" : say.NOTHING_UNDONE) }),
-  command("time.toCursor", "time", (calls) => calls.runToCursor(), { keys: ["Ctrl+F10"], place: "source" }),
-  command("time.count", "time", (calls) => calls.focusField("step-count", "history")),
-  command("time.untilChange", "time", (calls) => calls.focusField("change-place", "history")),
-  buttonCommand("time.backToChange", "time", "back-change", "history"),
-  command("time.reset", "time", (calls) => calls.sendLine("reset\n"), { icon: "reset" }),
-  command("time.test", "time", (calls) => calls.toggleTestPin(), {
+  makeCommand("time.toCursor", "time", (calls) => calls.runToCursor(), { keys: ["Ctrl+F10"], place: "source" }),
+  makeCommand("time.count", "time", (calls) => calls.focusField("step-count", "history")),
+  makeCommand("time.untilChange", "time", (calls) => calls.focusField("change-place", "history")),
+  makeButtonCommand("time.backToChange", "time", "back-change", "history"),
+  makeCommand("time.reset", "time", (calls) => calls.sendLine("reset\n"), { icon: "reset" }),
+  makeCommand("time.test", "time", (calls) => calls.toggleTestPin(), {
     unavailableReason: (calls) => (calls.isButtonAvailable("test") ? "" : say.NO_TEST_PIN) }),
 ];
 
 /** @type {Command[]} */
 const PROJECT_COMMANDS = [
-  command("project.open", "project", (calls) => calls.openFile(), { icon: "open", keys: ["Ctrl+O"] }),
-  command("project.save", "project", (calls) => calls.saveProject(), { icon: "save", keys: ["Ctrl+S"] }),
-  command("project.saveSession", "project", (calls) => calls.saveSession(), { icon: "file" }),
-  command("project.export", "project", (calls) => calls.exportFiles(), { icon: "export" }),
-  command("project.print", "project", (calls) => calls.print(), { icon: "print" }),
-  command("project.all", "project", (calls) => calls.openProjects(), { icon: "projects" }),
-  command("project.examples", "project", (calls) => calls.openExamples(), { icon: "examples" }),
-  command("project.rename", "project", (calls) => calls.focusField("name", "")),
-  command("project.share", "project", (calls) => calls.share(), { icon: "share" }),
+  makeCommand("project.open", "project", (calls) => calls.openFile(), { icon: "open", keys: ["Ctrl+O"] }),
+  makeCommand("project.save", "project", (calls) => calls.saveProject(), { icon: "save", keys: ["Ctrl+S"] }),
+  makeCommand("project.saveSession", "project", (calls) => calls.saveSession(), { icon: "file" }),
+  makeCommand("project.export", "project", (calls) => calls.exportFiles(), { icon: "export" }),
+  makeCommand("project.print", "project", (calls) => calls.print(), { icon: "print" }),
+  makeCommand("project.all", "project", (calls) => calls.openProjects(), { icon: "projects" }),
+  makeCommand("project.examples", "project", (calls) => calls.openExamples(), { icon: "examples" }),
+  makeCommand("project.rename", "project", (calls) => calls.focusField("name", "")),
+  makeCommand("project.share", "project", (calls) => calls.share(), { icon: "share" }),
 ];
 
 /** @type {Command[]} */
 const SHOW_COMMANDS = [
-  command("settings.palette", "show", (calls) => calls.openPalette(">"), { icon: "search", keys: ["Ctrl+Shift+P", "Ctrl+K"] }),
-  command("go.to", "show", (calls) => calls.openPalette(""), { icon: "goTo", keys: ["Ctrl+P"] }),
-  command("go.notices", "show", (calls) => calls.openNotices(), { icon: "notices",
+  makeCommand("settings.palette", "show", (calls) => calls.openPalette(">"), { icon: "search", keys: ["Ctrl+Shift+P", "Ctrl+K"] }),
+  makeCommand("go.to", "show", (calls) => calls.openPalette(""), { icon: "goTo", keys: ["Ctrl+P"] }),
+  makeCommand("go.notices", "show", (calls) => calls.openNotices(), { icon: "notices",
     unavailableReason: (calls) => (calls.hasNotices() ? "" : say.NO_NOTICES) }),
 ];
 
 /** @type {Command[]} */
 const BOARD_COMMANDS = [
-  command("board.apply", "board", (calls) => calls.sendText("board"), { keys: ["Ctrl+Enter"], place: "board" }),
-  command("board.type", "board", (calls) => calls.toggleCheckBox("typing")),
-  buttonCommand("board.sound", "board", "sound-button", "front", say.NO_BUZZER),
-  buttonCommand("board.tear", "board", "clear-printout", "front", say.NO_PRINTER),
-  buttonCommand("board.first", "board", "first-board", "front", say.HAS_BOARD),
-  buttonCommand("board.draw", "board", "first-drawing", "front", say.HAS_BOARD),
+  makeCommand("board.apply", "board", (calls) => calls.sendText("board"), { keys: ["Ctrl+Enter"], place: "board" }),
+  makeCommand("board.type", "board", (calls) => calls.toggleCheckBox("typing")),
+  makeButtonCommand("board.sound", "board", "sound-button", "front", say.NO_BUZZER),
+  makeButtonCommand("board.tear", "board", "clear-printout", "front", say.NO_PRINTER),
+  makeButtonCommand("board.first", "board", "first-board", "front", say.HAS_BOARD),
+  makeButtonCommand("board.draw", "board", "first-drawing", "front", say.HAS_BOARD),
 ];
 
 /** @type {Command[]} */
 const TEXT_COMMANDS = [
-  command("text.assembleAndRun", "text", (calls) => calls.sendText("program"), { icon: "assemble", keys: ["Ctrl+Enter"], place: "source" }),
-  buttonCommand("text.assemble", "text", "assemble-only", "program"),
-  buttonCommand("text.disassemble", "text", "from-rom", "program"),
-  textCommand("text.find", "find", ["Ctrl+F"]),
-  textCommand("text.replace", "replace", ["Ctrl+H"]),
-  textCommand("text.line", "line", ["Ctrl+G"]),
-  textCommand("text.comment", "comment", ["Ctrl+/"]),
-  textCommand("text.complete", "complete", ["Ctrl+Space"]),
-  textCommand("text.define", "define", ["F12"], true),
-  textCommand("text.uses", "uses", ["Shift+F12"], true),
-  textCommand("text.rename", "rename", ["F2"], true),
-  textCommand("text.fold", "fold", ["Ctrl+Shift+["]),
-  textCommand("text.unfold", "unfold", ["Ctrl+Shift+]"]),
-  textCommand("text.foldAll", "foldAll", ["Ctrl+Alt+Shift+["]),
-  textCommand("text.unfoldAll", "unfoldAll", ["Ctrl+Alt+Shift+]"]),
-  textCommand("text.undo", "undo", ["Ctrl+Z"]),
-  textCommand("text.redo", "redo", ["Ctrl+Y"]),
-  buttonCommand("text.smaller", "text", "text-smaller", ""),
-  buttonCommand("text.larger", "text", "text-larger", ""),
-  command("text.wrap", "text", (calls) => calls.toggleCheckBox("text-wrap")),
+  makeCommand("text.assembleAndRun", "text", (calls) => calls.sendText("program"), {
+    icon: "assemble", keys: ["Ctrl+Enter"], place: "source" }),
+  makeButtonCommand("text.assemble", "text", "assemble-only", "program"),
+  makeButtonCommand("text.disassemble", "text", "from-rom", "program"),
+  makeTextCommand("text.find", "find", ["Ctrl+F"]),
+  makeTextCommand("text.replace", "replace", ["Ctrl+H"]),
+  makeTextCommand("text.line", "line", ["Ctrl+G"]),
+  makeTextCommand("text.comment", "comment", ["Ctrl+/"]),
+  makeTextCommand("text.complete", "complete", ["Ctrl+Space"]),
+  makeTextCommand("text.define", "define", ["F12"], true),
+  makeTextCommand("text.uses", "uses", ["Shift+F12"], true),
+  makeTextCommand("text.rename", "rename", ["F2"], true),
+  makeTextCommand("text.fold", "fold", ["Ctrl+Shift+["]),
+  makeTextCommand("text.unfold", "unfold", ["Ctrl+Shift+]"]),
+  makeTextCommand("text.foldAll", "foldAll", ["Ctrl+Alt+Shift+["]),
+  makeTextCommand("text.unfoldAll", "unfoldAll", ["Ctrl+Alt+Shift+]"]),
+  makeTextCommand("text.undo", "undo", ["Ctrl+Z"]),
+  makeTextCommand("text.redo", "redo", ["Ctrl+Y"]),
+  makeButtonCommand("text.smaller", "text", "text-smaller", ""),
+  makeButtonCommand("text.larger", "text", "text-larger", ""),
+  makeCommand("text.wrap", "text", (calls) => calls.toggleCheckBox("text-wrap")),
 ];
 
 /** @type {Command[]} */
 const DEBUG_COMMANDS = [
-  command("debug.breakpoint", "debug", (calls) => calls.toggleOrEditBreakpoint(), { icon: "breakpoint", keys: ["F9"] }),
-  command("debug.condition", "debug", (calls) => calls.toggleOrEditBreakpoint("condition"), { keys: ["Shift+F9"] }),
-  command("debug.hitCount", "debug", (calls) => calls.toggleOrEditBreakpoint("from")),
-  command("debug.log", "debug", (calls) => calls.toggleOrEditBreakpoint("note")),
-  buttonCommand("debug.allOn", "debug", "breakpoints-on", "breakpoints", say.NO_BREAKPOINTS),
-  buttonCommand("debug.allOff", "debug", "breakpoints-off", "breakpoints", say.NO_BREAKPOINTS),
-  buttonCommand("debug.hits", "debug", "breakpoints-hits", "breakpoints", say.NO_BREAKPOINTS),
-  buttonCommand("debug.removeAll", "debug", "breakpoints-remove", "breakpoints", say.NO_BREAKPOINTS),
-  command("debug.watch", "debug", (calls) => calls.focusField("watched-field", "watched")),
-  command("debug.heat", "debug", (calls) => calls.focusField("heat", "memory")),
-  command("debug.console", "debug", (calls) => calls.focusField("lines", "talk")),
-  command("debug.goTo", "debug", (calls) => calls.focusField("go-to", "listing")),
-  buttonCommand("debug.there", "debug", "break-there", "listing"),
-  command("debug.follow", "debug", (calls) => calls.toggleCheckBox("follow")),
+  makeCommand("debug.breakpoint", "debug", (calls) => calls.toggleOrEditBreakpoint(), { icon: "breakpoint", keys: ["F9"] }),
+  makeCommand("debug.condition", "debug", (calls) => calls.toggleOrEditBreakpoint("condition"), { keys: ["Shift+F9"] }),
+  makeCommand("debug.hitCount", "debug", (calls) => calls.toggleOrEditBreakpoint("from")),
+  makeCommand("debug.log", "debug", (calls) => calls.toggleOrEditBreakpoint("note")),
+  makeButtonCommand("debug.allOn", "debug", "breakpoints-on", "breakpoints", say.NO_BREAKPOINTS),
+  makeButtonCommand("debug.allOff", "debug", "breakpoints-off", "breakpoints", say.NO_BREAKPOINTS),
+  makeButtonCommand("debug.hits", "debug", "breakpoints-hits", "breakpoints", say.NO_BREAKPOINTS),
+  makeButtonCommand("debug.removeAll", "debug", "breakpoints-remove", "breakpoints", say.NO_BREAKPOINTS),
+  makeCommand("debug.watch", "debug", (calls) => calls.focusField("watched-field", "watched")),
+  makeCommand("debug.heat", "debug", (calls) => calls.focusField("heat", "memory")),
+  makeCommand("debug.console", "debug", (calls) => calls.focusField("lines", "talk")),
+  makeCommand("debug.goTo", "debug", (calls) => calls.focusField("go-to", "listing")),
+  makeButtonCommand("debug.there", "debug", "break-there", "listing"),
+  makeCommand("debug.follow", "debug", (calls) => calls.toggleCheckBox("follow")),
 ];
 
 /** @type {Command[]} */
 const TEST_COMMANDS = [
-  command("tests.run", "tests", (calls) => calls.sendText("tests"), { icon: "tests", keys: ["Ctrl+Enter"], place: "tests" }),
-  buttonCommand("tests.first", "tests", "first-test", "tests", say.HAS_TEXT),
-  buttonCommand("tests.clear", "tests", "clear-tests", "tests", say.NO_RESULTS),
-  command("properties.search", "tests", (calls) => calls.sendText("properties"), { keys: ["Ctrl+Enter"], place: "properties" }),
-  buttonCommand("properties.prove", "tests", "prove", "properties", "", { keys: ["Ctrl+Shift+Enter"], place: "properties" }),
-  buttonCommand("properties.first", "tests", "first-properties", "properties", say.HAS_TEXT),
-  buttonCommand("properties.clear", "tests", "clear-finds", "properties", say.NO_RESULTS),
+  makeCommand("tests.run", "tests", (calls) => calls.sendText("tests"), { icon: "tests", keys: ["Ctrl+Enter"], place: "tests" }),
+  makeButtonCommand("tests.first", "tests", "first-test", "tests", say.HAS_TEXT),
+  makeButtonCommand("tests.clear", "tests", "clear-tests", "tests", say.NO_RESULTS),
+  makeCommand("properties.search", "tests", (calls) => calls.sendText("properties"), { keys: ["Ctrl+Enter"], place: "properties" }),
+  makeButtonCommand("properties.prove", "tests", "prove", "properties", "", { keys: ["Ctrl+Shift+Enter"], place: "properties" }),
+  makeButtonCommand("properties.first", "tests", "first-properties", "properties", say.HAS_TEXT),
+  makeButtonCommand("properties.clear", "tests", "clear-finds", "properties", say.NO_RESULTS),
 ];
 
 /** @type {Command[]} */
 const WIRING_COMMANDS = [
-  buttonCommand("wiring.apply", "wiring", "drawing-wire", "wiring"),
-  buttonCommand("wiring.undo", "wiring", "drawing-undo", "wiring"),
-  buttonCommand("wiring.redo", "wiring", "drawing-redo", "wiring"),
-  buttonCommand("wiring.arrange", "wiring", "drawing-tidy", "wiring"),
-  command("wiring.scan", "wiring", (calls) => calls.insertKeyScan(), {
+  makeButtonCommand("wiring.apply", "wiring", "drawing-wire", "wiring"),
+  makeButtonCommand("wiring.undo", "wiring", "drawing-undo", "wiring"),
+  makeButtonCommand("wiring.redo", "wiring", "drawing-redo", "wiring"),
+  makeButtonCommand("wiring.arrange", "wiring", "drawing-tidy", "wiring"),
+  makeCommand("wiring.scan", "wiring", (calls) => calls.insertKeyScan(), {
     unavailableReason: (calls) => (calls.hasKeys() ? "" : say.NO_KEYS) }),
-  buttonCommand("wiring.larger", "wiring", "picture-larger", "wiring"),
-  buttonCommand("wiring.smaller", "wiring", "picture-smaller", "wiring"),
-  buttonCommand("wiring.fit", "wiring", "picture-fit", "wiring"),
+  makeButtonCommand("wiring.larger", "wiring", "picture-larger", "wiring"),
+  makeButtonCommand("wiring.smaller", "wiring", "picture-smaller", "wiring"),
+  makeButtonCommand("wiring.fit", "wiring", "picture-fit", "wiring"),
 ];
 
 /**
@@ -241,38 +242,38 @@ const WIRING_COMMANDS = [
  * @param {CommandId} id
  * @param {string} button the id of the button
  */
-const waveCommand = (id, button) => buttonCommand(id, "waves", button, "waves", say.NO_WAVES);
+const makeWaveCommand = (id, button) => makeButtonCommand(id, "waves", button, "waves", say.NO_WAVES);
 
 /** @type {Command[]} */
 const WAVE_COMMANDS = [
-  buttonCommand("waves.record", "waves", "record", "waves", "", { icon: "record" }),
-  command("waves.trigger", "waves", (calls) => calls.focusField("trigger", "waves")),
-  waveCommand("waves.save", "save-waves"),
-  waveCommand("waves.png", "save-png"),
-  waveCommand("waves.svg", "save-svg"),
-  waveCommand("waves.in", "zoom-in"),
-  waveCommand("waves.out", "zoom-out"),
-  waveCommand("waves.all", "zoom-all"),
-  waveCommand("waves.before", "edge-before"),
-  waveCommand("waves.after", "edge-after"),
-  waveCommand("waves.a", "cursor-a"),
-  waveCommand("waves.b", "cursor-b"),
-  waveCommand("waves.instruction", "wave-go-to"),
-  command("waves.search", "waves", (calls) => calls.focusField("wave-search", "waves"), {
+  makeButtonCommand("waves.record", "waves", "record", "waves", "", { icon: "record" }),
+  makeCommand("waves.trigger", "waves", (calls) => calls.focusField("trigger", "waves")),
+  makeWaveCommand("waves.save", "save-waves"),
+  makeWaveCommand("waves.png", "save-png"),
+  makeWaveCommand("waves.svg", "save-svg"),
+  makeWaveCommand("waves.in", "zoom-in"),
+  makeWaveCommand("waves.out", "zoom-out"),
+  makeWaveCommand("waves.all", "zoom-all"),
+  makeWaveCommand("waves.before", "edge-before"),
+  makeWaveCommand("waves.after", "edge-after"),
+  makeWaveCommand("waves.a", "cursor-a"),
+  makeWaveCommand("waves.b", "cursor-b"),
+  makeWaveCommand("waves.instruction", "wave-go-to"),
+  makeCommand("waves.search", "waves", (calls) => calls.focusField("wave-search", "waves"), {
     unavailableReason: (calls) => (calls.isButtonAvailable("zoom-in") ? "" : say.NO_WAVES) }),
-  waveCommand("waves.findBefore", "find-before"),
-  waveCommand("waves.findAfter", "find-after"),
-  buttonCommand("waves.changing", "waves", "waves-changing", "waves"),
-  buttonCommand("waves.every", "waves", "waves-all", "waves"),
-  buttonCommand("waves.none", "waves", "waves-none", "waves"),
+  makeWaveCommand("waves.findBefore", "find-before"),
+  makeWaveCommand("waves.findAfter", "find-after"),
+  makeButtonCommand("waves.changing", "waves", "waves-changing", "waves"),
+  makeButtonCommand("waves.every", "waves", "waves-all", "waves"),
+  makeButtonCommand("waves.none", "waves", "waves-none", "waves"),
 ];
 
 /** @type {Command[]} */
 const HELP_COMMANDS = [
-  command("help.open", "help", (calls) => calls.toggleHelp(), { icon: "help", keys: ["F1"] }),
-  command("help.keys", "help", (calls) => calls.openHelp(KEYBOARD)),
-  command("help.welcome", "help", (calls) => calls.openWelcome(), { icon: "lamp" }),
-  buttonCommand("help.tour", "help", "tour-begin", "", "", { icon: "lamp" }),
+  makeCommand("help.open", "help", (calls) => calls.toggleHelp(), { icon: "help", keys: ["F1"] }),
+  makeCommand("help.keys", "help", (calls) => calls.openHelp(KEYBOARD)),
+  makeCommand("help.welcome", "help", (calls) => calls.openWelcome(), { icon: "lamp" }),
+  makeButtonCommand("help.tour", "help", "tour-begin", "", "", { icon: "lamp" }),
 ];
 
 /**
@@ -284,12 +285,12 @@ const HELP_COMMANDS = [
  * @param {IconName} [icon]
  * @returns {Command}
  */
-export const labelledCommand = (id, label, group, action, icon) => (
+export const makeLabelledCommand = (id, label, group, action, icon) => (
   { id, label, group, keys: [], place: "everywhere", act: action, unavailableReason: alwaysAvailable, icon });
 
 /** @type {Command[]} */
 const PANEL_COMMANDS = [...Object.entries(say.TEXTS), ...Object.entries(say.PANELS)].map(([name, label]) => (
-  labelledCommand(`show.${name}`, say.showText(label), "show", (calls) => calls.show(name))));
+  makeLabelledCommand(`show.${name}`, say.showText(label), "show", (calls) => calls.show(name))));
 
 /**
  * The commands that show, hide and maximise panels, and the command that restores the initial layout.
@@ -297,17 +298,17 @@ const PANEL_COMMANDS = [...Object.entries(say.TEXTS), ...Object.entries(say.PANE
  */
 const LAYOUT_COMMANDS = [
   ...Object.entries(PANELS).flatMap(([id, name]) => [
-    labelledCommand(`panel.${id}`, say.togglePanel(name), "show", (calls) => calls.togglePanel(id)),
-    labelledCommand(`full.${id}`, say.fullPanel(name), "show", (calls) => calls.toggleMaximisedPanel(id)),
+    makeLabelledCommand(`panel.${id}`, say.togglePanel(name), "show", (calls) => calls.togglePanel(id)),
+    makeLabelledCommand(`full.${id}`, say.fullPanel(name), "show", (calls) => calls.toggleMaximisedPanel(id)),
   ]),
-  labelledCommand("layout.reset", RESET_LAYOUT, "show", (calls) => calls.resetLayout()),
+  makeLabelledCommand("layout.reset", RESET_LAYOUT, "show", (calls) => calls.resetLayout()),
 ];
 
 /** @type {Command[]} */
 const SETTING_COMMANDS = [
-  ...SPEEDS.map(({ id, label }) => labelledCommand(`speed.${id}`, say.atSpeed(label), "settings", (calls) => calls.setSpeed(id))),
+  ...SPEEDS.map(({ id, label }) => makeLabelledCommand(`speed.${id}`, say.atSpeed(label), "settings", (calls) => calls.setSpeed(id))),
   ...Object.entries(say.THEMES).map(([name, label]) => (
-    labelledCommand(`theme.${name}`, label, "settings", (calls) => calls.setTheme(/** @type {Theme} */ (name)), "theme"))),
+    makeLabelledCommand(`theme.${name}`, label, "settings", (calls) => calls.setTheme(/** @type {Theme} */ (name)), "theme"))),
 ];
 
 /** The commands that do not depend on the session, in the order in which lists show them. */

@@ -2,7 +2,7 @@
 
 import { element } from "../ui/dom.js";
 import { icon } from "../ui/icons.js";
-import { putBelow } from "../ui/popup_message.js";
+import { placeBelow } from "../ui/popup_message.js";
 
 /**
  * A menu item: its id, label, icon, key binding and action. For an item in a set of alternatives, `isChosen` returns true if the item is
@@ -97,7 +97,7 @@ class MenuList {
  * @param {HTMLElement} node
  * @param {() => void} onLeave
  */
-function listenToLeaving(node, onLeave) {
+function listenForLeaving(node, onLeave) {
   addEventListener("pointerdown", ({ target }) => target instanceof Node && !node.contains(target) && onLeave(), true);
   node.addEventListener("focusout", ({ relatedTarget }) => {
     if (relatedTarget instanceof Node && !node.contains(relatedTarget)) onLeave();
@@ -126,7 +126,7 @@ export class MenuView {
     this.show(false);
     button.addEventListener("click", (event) => this.toggle(event.detail === 0));
     this.node.addEventListener("keydown", (event) => this.handleKey(event));
-    listenToLeaving(this.node, () => this.show(false));
+    listenForLeaving(this.node, () => this.show(false));
   }
 
   /** @param {boolean} isOpen */
@@ -167,7 +167,7 @@ export class ContextMenu {
     /** @type {Element | null} the element that had the focus before the menu opened */
     this.priorFocus = null;
     node.addEventListener("keydown", (event) => this.menu.handleKey(event));
-    listenToLeaving(node, () => this.menu.show(false));
+    listenForLeaving(node, () => this.menu.show(false));
   }
 
   /**
@@ -179,7 +179,7 @@ export class ContextMenu {
     this.menu.fill(items);
     this.menu.show(true);
     const { node } = this.menu;
-    putBelow(node, { left, bottom: Math.max(0, Math.min(bottom, innerHeight - node.offsetHeight)) }, 0);
+    placeBelow(node, { left, bottom: Math.max(0, Math.min(bottom, innerHeight - node.offsetHeight)) }, 0);
     this.menu.focus(0);
   }
 

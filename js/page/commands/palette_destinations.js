@@ -15,7 +15,7 @@ import * as say from "../../words/page_commands.js";
  * @property {() => SourceMap | null} map Returns the source map of the program in ROM, or null if ROM does not match the source.
  * @property {() => string[]} examples Returns the names of the examples.
  * @property {() => { id: string, name: string }[]} projects Returns the ids and names of the saved projects.
- * @property {(name: string) => void} show Brings a text to the front, by the name of its tab.
+ * @property {(name: string) => void} show Brings the tab with this name to the front.
  * @property {(line: number) => void} showLine Shows a line of the source. Lines count from 1.
  * @property {(address: number) => void} showAddress Shows an address in the source and in the disassembly.
  * @property {(name: string) => void} openExample Opens a new session from the example with this name.

@@ -17,7 +17,7 @@ import * as say from "../../words/page_commands.js";
 export const COMMAND_PREFIX = ">";
 /** The maximum number of entries that are drawn. */
 const MAX_DRAWN_ENTRIES = 500;
-/** The number of entries that Page Up or Page Down moves the selection. */
+/** The number of entries in a step of Page Up or Page Down. */
 const PAGE_STEP = 8;
 
 export class PaletteView {
@@ -90,7 +90,7 @@ export class PaletteView {
     return option;
   }
 
-  /** Lists the destinations again. The same index stays selected. */
+  /** Lists the destinations again, and keeps the selected index. */
   refresh() {
     if (!this.dialog.open || this.searchesCommands) return;
     const { selectedIndex } = this;

@@ -35,7 +35,7 @@ import { PictureZoom } from "./picture_zoom.js";
 /** @typedef {DrawingCallbacks & DrawingPageCalls} PictureCalls */
 
 /** The delay in milliseconds between the last edit and the update of the picture. */
-const DRAW_DELAY = 300;
+const DRAW_DELAY_MS = 300;
 
 export class DrawingController {
   /**
@@ -57,12 +57,12 @@ export class DrawingController {
 
   makeView() {
     return new DrawingView(this.picture, {
-      performAction: (action) => this.reportFailure(this.drawing.performInOrder(action)),
-      undoOrRedo: (direction) => this.reportFailure(this.drawing.undoOrRedo(direction)),
-      applyBoard: () => this.reportFailure(this.applyBoard()),
+      performAction: (action) => this.reportFailureOf(this.drawing.performInOrder(action)),
+      undoOrRedo: (direction) => this.reportFailureOf(this.drawing.undoOrRedo(direction)),
+      applyBoard: () => this.reportFailureOf(this.applyBoard()),
       showPartLines: this.calls.showPartLines,
       arrangeParts: () => this.arrangeParts(),
-      dropPart: (action, point) => this.reportFailure(this.dropPart(action, point)),
+      dropPart: (action, point) => this.reportFailureOf(this.dropPart(action, point)),
       insertKeyScan: () => {
         if (this.view.lastState) this.calls.insertKeyScan(this.view.lastState.board);
       },
@@ -72,20 +72,20 @@ export class DrawingController {
   makeInput() {
     const { drawing } = this;
     return new PictureInput(this.picture, {
-      pressItem: (name) => this.reportFailure(drawing.handleClick(name)),
+      pressItem: (name) => this.reportFailureOf(drawing.handleClick(name)),
       drawWire: (from, to) => {
         drawing.wireStart = from;
-        this.reportFailure(drawing.endWire(to));
+        this.reportFailureOf(drawing.endWire(to));
       },
       movePart: (part, point) => this.movePart(part, point),
       handleDrop: () => {
-        this.view.lastDrawnInput = "";
+        this.view.lastDrawnData = "";
         this.view.showPicture();
         this.storePositions();
       },
-      deleteItem: (name) => this.reportFailure(drawing.performInOrder({ kind: "delete", part: name })),
+      deleteItem: (name) => this.reportFailureOf(drawing.performInOrder({ kind: "delete", part: name })),
       cancelAction: () => drawing.cancelWire(),
-      undoOrRedo: (direction) => this.reportFailure(drawing.undoOrRedo(direction)),
+      undoOrRedo: (direction) => this.reportFailureOf(drawing.undoOrRedo(direction)),
     });
   }
 
@@ -100,10 +100,10 @@ export class DrawingController {
   }
 
   /**
-   * Reports the error if some work fails.
+   * Reports the error if a promise is rejected.
    * @param {Promise<void>} work
    */
-  reportFailure(work) {
+  reportFailureOf(work) {
     work.catch(this.calls.reportFailure);
   }
 
@@ -116,19 +116,19 @@ export class DrawingController {
 
   /** Draws the board from its text, if the Wiring tab is in front. */
   updateFromText() {
-    if (this.calls.isInFront()) this.reportFailure(this.drawing.refresh());
+    if (this.calls.isInFront()) this.reportFailureOf(this.drawing.refresh());
   }
 
   /**
-   * Draws the picture again DRAW_DELAY milliseconds after the last edit, if the board's text has changed and the Wiring tab is in front.
+   * Draws the picture again DRAW_DELAY_MS milliseconds after the last edit, if the board's text has changed and the Wiring tab is in front.
    */
   handleEdit() {
     clearTimeout(this.drawTimer);
-    this.drawTimer = window.setTimeout(() => this.drawing.text !== this.calls.text() && this.updateFromText(), DRAW_DELAY);
+    this.drawTimer = window.setTimeout(() => this.drawing.text !== this.calls.text() && this.updateFromText(), DRAW_DELAY_MS);
   }
 
-  /** Forgets the drawing, because another session has been opened. Loads the positions of the parts that were moved in that session. */
-  openSession() {
+  /** Discards the drawing, because another session has been opened. Loads the positions of the parts that were moved in that session. */
+  handleSessionOpening() {
     this.drawing.reset();
     this.drawing.movedParts.load(this.storedPositions);
   }
@@ -143,8 +143,8 @@ export class DrawingController {
   }
 
   /**
-   * Adds a part from the shelf and focuses it. The part's title is at `point` in the picture; if `point` is null, the part is at its
-   * default position. If the new part becomes an element of an existing part, such as a lamp in a row of lamps, `point` is ignored.
+   * Adds a part from the shelf and focuses it. Puts the part's title at `point` in the picture, or the part at its default position if
+   * `point` is null. Ignores `point` if the new part becomes an element of an existing part, such as a lamp in a row of lamps.
    * @param {import("../../core/drawing/drawing_actions.js").DrawingAction} action
    * @param {import("../../core/board/wiring.js").Point | null} point
    */
@@ -167,7 +167,7 @@ export class DrawingController {
     this.drawing.showMessage(await this.calls.applyBoard());
   }
 
-  /** The positions of dragged parts that are stored with the session. */
+  /** The positions of dragged parts, as stored with the session. */
   get storedPositions() {
     const session = this.calls.session();
     return (session && session.record.places) || [];

@@ -49,7 +49,7 @@ export class DrawingView {
     /** @type {Map<ShelfPart, HTMLButtonElement>} */
     this.shelf = new Map();
     /** The data from which the picture was last drawn, as JSON, to detect changes. */
-    this.lastDrawnInput = "";
+    this.lastDrawnData = "";
     /** @type {import("../../core/board/wiring.js").Positions} the positions of the parts that the user has moved */
     this.movedParts = new Map();
     /** @type {DrawingState | null} */
@@ -82,7 +82,7 @@ export class DrawingView {
     for (const [part, [word, title]] of /** @type {[ShelfPart, [string, string]][]} */ (Object.entries(say.SHELF))) {
       const node = element("button", { type: "button", id: `shelf-${part}`, title }, word);
       drag.listen(node, part);
-      onClick(node, () => this.add(part));
+      onClick(node, () => this.addPart(part));
       this.shelf.set(part, node);
     }
     const displays = block("shelf-displays");
@@ -94,7 +94,7 @@ export class DrawingView {
   }
 
   /** @param {ShelfPart} part */
-  add(part) {
+  addPart(part) {
     const { lastState: state } = this;
     const lineButton = state && state.fields.buttons.find(({ action }) => action.kind === "add" && action.part === part);
     this.calls.performAction(lineButton ? lineButton.action : this.makeAddAction(part));
@@ -134,9 +134,9 @@ export class DrawingView {
     const count = board.lamps.length;
     const names = createLampLabels(face, count);
     const appearance = { names, colours: lampColours(face, count), test: face.test, buzzer: findBuzzer(board, face) };
-    const drawnInput = JSON.stringify([board, appearance, isWired, [...movedParts]]);
-    if (drawnInput !== this.lastDrawnInput) this.picture.draw(board, appearance, { moved: movedParts, isWired });
-    this.lastDrawnInput = drawnInput;
+    const drawingData = JSON.stringify([board, appearance, isWired, [...movedParts]]);
+    if (drawingData !== this.lastDrawnData) this.picture.draw(board, appearance, { moved: movedParts, isWired });
+    this.lastDrawnData = drawingData;
     this.picture.showSelection(selected, wireStart, ends);
   }
 
@@ -150,7 +150,7 @@ export class DrawingView {
   }
 
   /**
-   * Shows the fields of the selection. If their layout is unchanged, the fields on the page stay, so that typing is not interrupted.
+   * Shows the fields of the selection. If the layout of the fields is unchanged, keeps their elements, so that typing is not interrupted.
    * @param {DrawingState} state
    */
   showFields({ fields: { title, part, fields, buttons }, error }) {
@@ -172,7 +172,7 @@ export class DrawingView {
   }
 
   /**
-   * Replaces the fields. If a field or button had the focus, the new one with the same label receives it.
+   * Replaces the fields. If a field or button had the focus, focuses the new field or button with the same label.
    * @param {string} title
    * @param {string} part
    * @param {Field[]} fields
@@ -186,11 +186,11 @@ export class DrawingView {
     const head = element("b", {}, title);
     this.fields = fields.map((description, index) => this.makeFieldNode(description, index, isDisabled));
     const rows = this.fields.map((node, index) => element("label", {}, `${fields[index].label} `, node));
-    const endButtons = buttons.map(({ label, action }) => (
+    const buttonNodes = buttons.map(({ label, action }) => (
       this.makeButtonNode(label, () => this.calls.performAction(action), isDisabled)));
-    if (part === "keys") endButtons.push(this.makeButtonNode(say.INSERT_SCAN, () => this.calls.insertKeyScan(), isDisabled));
-    if (part) endButtons.push(this.makeButtonNode(say.SHOW_IN_BOARD, () => this.calls.showPartLines(part), false));
-    root.replaceChildren(head, ...endButtons, ...(endButtons.length > 0 ? [element("hr")] : []), ...rows);
+    if (part === "keys") buttonNodes.push(this.makeButtonNode(say.INSERT_SCAN, () => this.calls.insertKeyScan(), isDisabled));
+    if (part) buttonNodes.push(this.makeButtonNode(say.SHOW_IN_BOARD, () => this.calls.showPartLines(part), false));
+    root.replaceChildren(head, ...buttonNodes, ...(buttonNodes.length > 0 ? [element("hr")] : []), ...rows);
     const nodes = [...root.querySelectorAll("input, select, button")];
     const focusTarget = focusedLabel && nodes.find((node) => node.getAttribute("aria-label") === focusedLabel);
     if (focusTarget instanceof HTMLElement) focusTarget.focus();

@@ -47,7 +47,7 @@ export class PictureInput {
     root.addEventListener("pointermove", (event) => this.handlePointerMove(event));
     root.addEventListener("pointerup", (event) => this.handlePointerUp(event));
     root.addEventListener("pointercancel", () => this.handlePointerCancel());
-    root.addEventListener("keydown", (event) => this.onKeyDown(event));
+    root.addEventListener("keydown", (event) => this.handleKeyDown(event));
     // A screen reader clicks without a pointer.
     root.addEventListener("click", (event) => event.detail === 0 && this.press(view.nameAt(/** @type {Element} */ (event.target))));
   }
@@ -88,7 +88,7 @@ export class PictureInput {
     }
     const point = view.toPicturePoint(event);
     if (!heldItem.isDragged && Math.hypot(point.x - heldItem.downPoint.x, point.y - heldItem.downPoint.y) < DRAG_DISTANCE) return;
-    // A finger on a part scrolls the picture; a finger on a pin draws a wire.
+    // A touch that begins on a part scrolls the picture. A touch that begins on a pin draws a wire.
     if (heldItem.name === "" || (heldItem.isPart && event.pointerType === "touch")) return;
     if (!heldItem.isDragged && !heldItem.isPart && this.startPin !== heldItem.name) this.calls.pressItem(heldItem.name);
     heldItem.isDragged = true;
@@ -131,7 +131,7 @@ export class PictureInput {
   }
 
   /** @param {KeyboardEvent} event */
-  onKeyDown(event) {
+  handleKeyDown(event) {
     if (!this.handleKey(event)) return;
     event.preventDefault();
     event.stopPropagation();

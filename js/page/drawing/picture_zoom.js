@@ -56,8 +56,8 @@ export class PictureZoom {
     const { min, max } = this.bounds;
     root.style.setProperty("--picture-zoom", String(Math.min(max, Math.max(min, scale * factor))));
     root.classList.add("zoomed");
-    const growth = this.scale / scale;
-    root.scrollTo((scrollLeft + fixedPoint.x) * growth - fixedPoint.x, (scrollTop + fixedPoint.y) * growth - fixedPoint.y);
+    const scaleRatio = this.scale / scale;
+    root.scrollTo((scrollLeft + fixedPoint.x) * scaleRatio - fixedPoint.x, (scrollTop + fixedPoint.y) * scaleRatio - fixedPoint.y);
     this.showBounds();
   }
 

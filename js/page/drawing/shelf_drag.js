@@ -29,7 +29,7 @@ export class ShelfDrag {
     this.calls = calls;
     /** @type {HeldPart | null} */
     this.heldPart = null;
-    /** True after a drag, so that the click that follows the drag is ignored. */
+    /** True after a drag, until the click that follows the drag has been ignored. */
     this.wasDragged = false;
     /** The image of the dragged part, next to the pointer. */
     this.dragImage = element("div", { id: "shelf-ghost", hidden: true });

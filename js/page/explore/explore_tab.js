@@ -40,7 +40,7 @@ import * as say from "../../words/explore.js";
  * @property {ProofsCalls["prove"]} prove Proves properties.
  * @property {ProofsCalls["open"]} openWithLines Opens a new session with the texts of a proof, and executes lines in it.
  * @property {(test: string) => string} addTest Adds a test to the text in the Tests tab. Returns the message about the result.
- * @property {(label: string, isGood?: boolean) => void} showMark Shows a short mark on the tab; "" removes it. If `isGood`, the mark
+ * @property {(label: string, isSuccess?: boolean) => void} showMark Shows a short mark on the tab; "" removes it. If `isSuccess`, the mark
  *   reports a success.
  * @property {() => void} handleEdit Handles an edit of the properties.
  * @property {(error: unknown) => void} reportFailure Reports an error that a call threw.
@@ -73,7 +73,7 @@ export class ExploreTab {
     });
     this.editor = this.textTab.editor;
     this.view = new ExploreView({
-      goTo: (line) => this.editor.editor.select({ from: line, to: line }),
+      goTo: (line) => this.editor.editor.selectLines({ from: line, to: line }),
       goToSource: (line) => this.goToSource(line),
       openCounterexample: (property) => this.openCounterexample(property),
       addTest: (property) => this.addTest(property),
@@ -89,7 +89,7 @@ export class ExploreTab {
     this.exploreButton = new Cell(button("explore"));
     this.exploreButton.set(say.EXPLORE);
     onClick(button("clear-finds"), () => this.clear());
-    /** The number of errors in the properties, as last reported by `showMark`. */
+    /** The number of errors in the properties, as shown on the tab. */
     this.errorCount = 0;
     this.proofs = this.makeProofs();
   }
@@ -100,7 +100,7 @@ export class ExploreTab {
     return new Proofs({
       texts: () => this.texts,
       prove: calls.prove,
-      goTo: (line) => editor.editor.select({ from: line, to: line }),
+      goTo: (line) => editor.editor.selectLines({ from: line, to: line }),
       showMessage: (message) => editor.showMessage(message),
       showErrors: (errors) => this.showErrors(errors),
       open: calls.openWithLines,
@@ -131,20 +131,20 @@ export class ExploreTab {
     this.errorCount = count;
     const reportMark = currentResults && currentResults.report ? reportTabMark(currentResults.report) : "";
     if (count > 0) this.calls.showMark(formatErrorCount(count));
-    else this.calls.showMark(reportMark || this.proofs.mark, reportMark === "" && this.proofs.isGood);
+    else this.calls.showMark(reportMark || this.proofs.tabMark, reportMark === "" && this.proofs.hasDesiredVerdicts);
   }
 
   /**
    * Handles the opening of another session: stops the search and shows the earlier results of the opened session.
    * @param {string} sessionId the id of the opened session
    */
-  openSession(sessionId) {
+  handleSessionOpening(sessionId) {
     this.stopSearch();
     this.sessionId = sessionId;
     this.view.clear();
     this.show();
-    this.proofs.openSession(sessionId);
-    this.textTab.offerFirstText();
+    this.proofs.handleSessionOpening(sessionId);
+    this.textTab.updateFirstTextOffer();
   }
 
   /** Stops the search, and clears the counterexamples and the verdicts. */
@@ -236,16 +236,16 @@ export class ExploreTab {
     this.resultsBySession.set(sessionId, results);
     this.view.clear();
     this.show();
-    let searchEnd = /** @type {TaskResult} */ ({ errors: [], isStopped: true });
+    let taskResult = /** @type {TaskResult} */ ({ errors: [], isStopped: true });
     try {
-      searchEnd = await this.calls.explore(texts, options, controller.signal, (progress) => this.handleProgress(results, progress));
+      taskResult = await this.calls.explore(texts, options, controller.signal, (progress) => this.handleProgress(results, progress));
     } finally {
       this.controller = null;
-      results.isStopped = searchEnd.isStopped;
+      results.isStopped = taskResult.isStopped;
       if (!results.report) this.resultsBySession.delete(sessionId);
       this.show();
     }
-    if (searchEnd.errors.length > 0) this.showErrors(searchEnd.errors);
+    if (taskResult.errors.length > 0) this.showErrors(taskResult.errors);
     else if (!results.report) this.editor.showMessage(say.STOPPED_EARLY);
   }
 

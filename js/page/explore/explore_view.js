@@ -78,8 +78,8 @@ export class ExploreView {
       const label = new Cell(findDescendant(root, "span", HTMLElement));
       return { name, root, bar: findDescendant(root, "progress", HTMLProgressElement), label };
     });
-    this.neverRunBlock = block("never-run");
-    /** The line numbers in the list of lines that never ran, to detect changes. */
+    this.unexecutedBlock = block("never-run");
+    /** The line numbers in the list of unexecuted lines, to detect changes. */
     this.listedLineNumbers = "";
     /** @type {PropertyRow[]} */
     this.rows = [];
@@ -90,7 +90,7 @@ export class ExploreView {
     this.rows = [];
     this.list.replaceChildren();
     this.statistics.set("");
-    this.listNeverRunLines([]);
+    this.listUnexecutedLines([]);
   }
 
   /**
@@ -125,17 +125,17 @@ export class ExploreView {
       label.set(text);
     }
     // The list would change continuously during a search, so it is empty until the end.
-    this.listNeverRunLines(isRunning || !hasStarted ? [] : coverage.unexecutedLines);
+    this.listUnexecutedLines(isRunning || !hasStarted ? [] : coverage.unexecutedLines);
   }
 
-  /** @param {number[]} lines the lines that never ran */
-  listNeverRunLines(lines) {
+  /** @param {number[]} lines the source lines that the search has not executed */
+  listUnexecutedLines(lines) {
     const key = lines.join(" ");
     if (key === this.listedLineNumbers) return;
     this.listedLineNumbers = key;
     const moreText = lines.length > MAX_LISTED_LINES ? moreItems(lines.length - MAX_LISTED_LINES) : "";
     const buttons = lines.slice(0, MAX_LISTED_LINES).flatMap((line) => [
       " ", makeButton(String(line), () => this.calls.goToSource(line), { className: "name", ariaLabel: say.lineOfSource(line) })]);
-    this.neverRunBlock.replaceChildren(...(lines.length === 0 ? [] : [say.NEVER_RUN, ...buttons, moreText]));
+    this.unexecutedBlock.replaceChildren(...(lines.length === 0 ? [] : [say.NEVER_RUN, ...buttons, moreText]));
   }
 }

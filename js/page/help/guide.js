@@ -51,7 +51,7 @@ export class Guide {
     });
     this.tour = new TourView({
       openExample: (example) => this.openTourExample(example),
-      putProgram: (program) => this.putProgram(program),
+      replaceProgram: (program) => this.replaceProgram(program),
       isProgramInSource: (program) => calls.program() === program,
       reveal: calls.reveal,
       executeAction: (action) => runAction(action, calls.storyCalls),
@@ -73,7 +73,7 @@ export class Guide {
   }
 
   /**
-   * Opens an example's story next to the current session, or reports that the example has no story.
+   * Opens an example's story next to the current session. If the example has no story, reports that.
    * @param {string} name the name of the example
    * @param {Example[]} examples
    */
@@ -90,10 +90,10 @@ export class Guide {
   }
 
   /**
-   * Shows the source and replaces it with a program. If the old source is not a text of the tour, a message offers undo.
+   * Shows the source and replaces it with a program. If the old source is not a program of the tour, a message offers to restore it.
    * @param {string} program
    */
-  putProgram(program) {
+  replaceProgram(program) {
     const { calls } = this;
     calls.showSource();
     if (isTourText(calls.program())) calls.replaceSource(program);

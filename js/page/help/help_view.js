@@ -69,7 +69,7 @@ export class HelpView {
     this.isOpen = false;
     this.root.hidden = true;
     this.helpButton.setAttribute("aria-expanded", "false");
-    // On a phone, the help button is in the closed menu. The menu button receives the focus instead.
+    // On a phone, the help button is in a menu, which is closed. Then focus the menu button instead.
     (this.helpButton.offsetParent ? this.helpButton : button("menu-button")).focus();
   }
 

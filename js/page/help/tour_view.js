@@ -1,4 +1,4 @@
-// The panel next to the bench that shows a step-by-step tour: that of the first program, or an example's story.
+// The panel next to the bench that shows a step-by-step tour with the first program, or the story of an example.
 
 import { PointerRing } from "./pointer_ring.js";
 import { Cell, block, button, element, onClick } from "../ui/dom.js";
@@ -17,7 +17,7 @@ import * as say from "../../words/help.js";
  * @typedef {object} TourCalls
  * @property {(example: Example) => Promise<boolean>} openExample Opens a new session from an example. Resolves to true if the session was
  *   created.
- * @property {(program: string) => void} putProgram Replaces the source with a program.
+ * @property {(program: string) => void} replaceProgram Replaces the source with a program.
  * @property {(action: import("../../core/help/story.js").StoryAction) => Promise<string>} executeAction Executes the action of a story's
  *   link. Resolves to the reason why the action failed, or to "".
  * @property {(program: string) => boolean} isProgramInSource Returns true if the source is `program`.
@@ -52,7 +52,7 @@ export class TourView {
     this.ring = new PointerRing();
     for (const name of ["tour-begin", "first-program", "hello-program"]) onClick(button(name), () => this.startTour());
     onClick(button("tour-close"), () => this.close());
-    onClick(this.putButton, () => calls.putProgram(this.progress.step.program));
+    onClick(this.putButton, () => calls.replaceProgram(this.progress.step.program));
     onClick(this.nextButton, () => (this.isLastStep ? this.close() : this.show(this.progress.stepIndex + 1)));
     onClick(button("tour-back"), () => this.show(Math.max(0, this.progress.stepIndex - 1)));
   }
@@ -97,7 +97,7 @@ export class TourView {
     this.program.node.hidden = program === "";
     this.putButton.hidden = program === "";
     this.nextButton.textContent = this.isLastStep ? say.FINISH : say.NEXT_STEP;
-    this.showDone();
+    this.showStepDone();
     this.pointAtTarget();
   }
 
@@ -126,7 +126,7 @@ export class TourView {
     return node;
   }
 
-  showDone() {
+  showStepDone() {
     const { isDone } = this.progress;
     this.status.set(isDone ? (this.isLastStep ? say.LAST_STEP_DONE : say.DONE) : "");
     this.root.classList.toggle("done", isDone);
@@ -137,20 +137,20 @@ export class TourView {
   handleLamps(lamps) {
     if (!this.isOn || this.progress.isDone) return;
     this.progress.recordLamps(lamps);
-    this.showDone();
+    this.showStepDone();
   }
 
   /** @param {number} keyCount the number of keys that are down */
   handleKeyCount(keyCount) {
     if (!this.isOn || this.progress.isDone) return;
     this.progress.recordKeys(keyCount);
-    this.showDone();
+    this.showStepDone();
   }
 
   /** @param {string} endReason the reason why the last run ended */
-  recordEnd(endReason) {
+  recordRunEnd(endReason) {
     if (!this.isOn || this.progress.isDone) return;
-    this.progress.recordEnd(endReason);
-    this.showDone();
+    this.progress.recordRunEnd(endReason);
+    this.showStepDone();
   }
 }

@@ -34,9 +34,9 @@ import { stoppedAt } from "../../words/stops.js";
  * @property {() => Promise<string>} save Saves the session. Resolves to the reason why it could not be saved, or to "".
  * @property {(entries: ServedInput[], saveError: string) => void} log Logs lines with their answers. `saveError` is the reason why the
  *   session could not be saved, or "".
- * @property {(tally: Tally) => void} countHits Shows the hit counts and log messages of breakpoints.
+ * @property {(tally: Tally) => void} handleTally Shows the hit counts and log messages of breakpoints.
  * @property {() => boolean} isRunning Returns true if time is running.
- * @property {() => void} forgetGoal Forgets the goal of the current run. Called after the command `reset`.
+ * @property {() => void} discardGoal Discards the goal of the current run. Called after the command `reset`.
  * @property {(stop: Stop) => string} describeStop Returns the message with the reason why a run stopped.
  * @property {(message: string) => void} showMessage Shows a message in the status line.
  * @property {(error: unknown) => void} reportFailure Reports an error that a call threw.
@@ -82,7 +82,7 @@ export class LineServer {
     const result = await this.performWork(say.SENDING_LINES, (options) => this.bench.call("serveTypedLines", [lines], options));
     if (!result) return null;
     const { id, cutLine, cycles, tally } = result.typedResult;
-    calls.countHits(tally);
+    calls.handleTally(tally);
     if (id !== 0 && !calls.isRunning()) {
       calls.showMessage(lineEnded(calls.describeStop({ reason: "break", id, cycles, endsAtReturn: false }), cutLine));
     }
@@ -124,7 +124,7 @@ export class LineServer {
 
   /**
    * Updates the status line after lines were executed: reports a reset, or the new program counter if it has changed while time is paused.
-   * After a reset, also forgets the goal of the run.
+   * After a reset, also discards the goal of the run.
    * @param {string} previousCounter the program counter before the lines, as three hexadecimal digits
    * @param {ServedInput[]} entries
    */
@@ -133,7 +133,7 @@ export class LineServer {
     const counter = calls.counter();
     const isReset = entries.some(({ line, answers }) => line.trim() === "reset" && parseRefusal(answers[0]) === null);
     const isRunning = calls.isRunning();
-    if (isReset) calls.forgetGoal();
+    if (isReset) calls.discardGoal();
     if (isReset) calls.showMessage(isRunning ? say.RESET_RUNNING : say.resetTo(counter));
     else if (counter !== previousCounter && !isRunning) calls.showMessage(stoppedAt(counter));
   }

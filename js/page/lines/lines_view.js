@@ -96,7 +96,7 @@ export class LinesView {
     return this.text.slice(this.text.lastIndexOf("\n") + 1);
   }
 
-  /** Completes the typed word if it begins exactly one command. */
+  /** Completes the typed word if exactly one command begins with it. */
   complete() {
     const words = new Set(findMatchingLines(this.commandForms, this.lastLine).map(({ form }) => form.split(" ")[0]));
     const [word] = words;

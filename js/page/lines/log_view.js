@@ -22,17 +22,17 @@ export class LogView {
     /** The runs since the last save. They appear in the log after the next save. */
     this.unloggedRuns = new RunLog();
     /**
-     * @type {{ entry: RunEntry, node: HTMLElement } | null} the last entry of the log if it reports runs; later runs are added to this
-     *   entry
+     * @type {{ entry: RunEntry, node: HTMLElement } | null} the last entry of the log if it reports runs, otherwise null; the runs that
+     *   follow are added to this entry
      */
-    this.lastRuns = null;
+    this.lastRunEntry = null;
   }
 
   /**
    * Collects runs, which appear in the log after the next save.
    * @param {RunEntry[]} entries
    */
-  collect(entries) {
+  collectRuns(entries) {
     this.unloggedRuns.add(entries);
   }
 
@@ -48,18 +48,18 @@ export class LogView {
   showRuns(entries, saveError) {
     if (entries.length === 0) return;
     const runLog = new RunLog();
-    const { lastRuns } = this;
+    const { lastRunEntry } = this;
     // Consecutive runs share one entry.
-    if (lastRuns && entries[0].runs > 0 && saveError === "" && lastRuns.node === this.block.lastElementChild) {
-      runLog.add([lastRuns.entry]);
-      lastRuns.node.remove();
+    if (lastRunEntry && entries[0].runs > 0 && saveError === "" && lastRunEntry.node === this.block.lastElementChild) {
+      runLog.add([lastRunEntry.entry]);
+      lastRunEntry.node.remove();
     }
     runLog.add(entries);
     const runEntries = runLog.take();
     this.add(runEntries.map((entry) => this.makeEntry(formatLogEntry(entry), [entry.answer], saveError)));
     const lastEntry = runEntries[runEntries.length - 1];
     const node = this.block.lastElementChild;
-    this.lastRuns = lastEntry.runs > 0 && saveError === "" && node instanceof HTMLElement ? { entry: lastEntry, node } : null;
+    this.lastRunEntry = lastEntry.runs > 0 && saveError === "" && node instanceof HTMLElement ? { entry: lastEntry, node } : null;
   }
 
   /**

@@ -76,7 +76,7 @@ export class BreakpointForm {
       event.stopPropagation();
       this.cancel();
     });
-    // The form stays open when it loses the focus, so that nothing moves under the pointer.
+    // The form stays open when it loses focus, so that nothing moves under the pointer.
     node.addEventListener("focusout", ({ relatedTarget }) => {
       if (!(relatedTarget instanceof Node && node.contains(relatedTarget))) this.applyFields();
     });
@@ -102,7 +102,7 @@ export class BreakpointForm {
       fields[fieldName].focus();
       fields[fieldName].select();
     };
-    // If the line is out of view, the form is not in the page yet and cannot be focused.
+    // If the line is scrolled out of view, the form is not in the page yet and cannot receive the focus.
     if (this.node.isConnected) focus();
     else this.calls.callWhenPlaced(focus);
   }

@@ -32,12 +32,13 @@ import * as say from "../../words/machine.js";
  * @property {() => { board: string, program: string }} texts Returns the current text of the board and of the source.
  * @property {(result: LinesReply) => Promise<void>} handleResult Saves, shows and logs the result of lines that set the bench's
  *   breakpoints.
- * @property {(result: LinesReply) => void} showSession Shows the session after breakpoints were set by a call that executed no lines.
+ * @property {(result: LinesReply) => void} showSession Shows the session after a call that set breakpoints without executing lines.
  * @property {(lines: Map<number, BreakpointMark>, addresses: Map<number, BreakpointMark>) => void} showMarks Shows marks at source lines
  *   and at addresses of the disassembly.
  * @property {(address: number) => void} goTo Shows an address in the source and in the disassembly.
  * @property {(line: number) => void} reveal Scrolls the source to a line.
- * @property {(line: number, node: HTMLElement | null) => void} showBelow Shows an element below a source line; null removes the element.
+ * @property {(line: number, node: HTMLElement | null) => void} showElementBelow Shows an element below a source line; null removes the
+ *   element.
  * @property {(action: () => void) => void} callAfterLayout Calls `action` after the next layout of the source.
  * @property {() => void} showSource Brings the source to the front.
  * @property {() => void} focusSource Moves the focus to the source.
@@ -100,13 +101,13 @@ export class BreakpointsController {
       showTypedTexts: (id, changes) => this.manager.saveTypedEdit(id, changes),
       waitForChanges: () => this.manager.requestsDone,
       placeForm: ({ id, line }, node) => {
-        calls.showBelow(line, line > 0 ? node : null);
+        calls.showElementBelow(line, line > 0 ? node : null);
         const root = this.view.rowElement(id);
         if (line === 0 && root && !root.contains(node)) root.append(node);
       },
       callWhenPlaced: calls.callAfterLayout,
       removeForm: (node) => {
-        calls.showBelow(0, null);
+        calls.showElementBelow(0, null);
         node.remove();
       },
       returnFocus: ({ id, line }) => (line > 0 ? calls.focusSource() : this.view.focus(id)),
@@ -140,11 +141,11 @@ export class BreakpointsController {
     this.menu.open([
       {
         label: breakpoint ? say.REMOVE_BREAKPOINT_ITEM : say.ADD_BREAKPOINT_ITEM, key: toggleKey,
-        act: makeAction(() => this.toggleLine(line)),
+        act: makeAction(() => this.toggleBreakpointAt(line)),
       },
-      { label: say.CONDITION, key: conditionKey, act: makeAction(() => this.editLine(line, "condition")) },
-      { label: say.HIT_COUNT, act: makeAction(() => this.editLine(line, "from")) },
-      { label: say.LOG_MESSAGE, act: makeAction(() => this.editLine(line, "note")) },
+      { label: say.CONDITION, key: conditionKey, act: makeAction(() => this.editBreakpointAt(line, "condition")) },
+      { label: say.HIT_COUNT, act: makeAction(() => this.editBreakpointAt(line, "from")) },
+      { label: say.LOG_MESSAGE, act: makeAction(() => this.editBreakpointAt(line, "note")) },
       ...(breakpoint ? [{
         label: breakpoint.isOn ? say.DISABLE_BREAKPOINT_ITEM : say.ENABLE_BREAKPOINT_ITEM,
         act: () => manager.change(breakpoint.id, { isOn: !breakpoint.isOn }),
@@ -190,7 +191,7 @@ export class BreakpointsController {
   }
 
   /** @param {number} line */
-  async toggleLine(line) {
+  async toggleBreakpointAt(line) {
     await this.calls.ensureSourceChecked();
     this.manager.toggleLine(line);
   }
@@ -200,14 +201,14 @@ export class BreakpointsController {
    * @param {number} line
    * @param {BreakpointField} fieldName
    */
-  async editLine(line, fieldName) {
+  async editBreakpointAt(line, fieldName) {
     await this.calls.ensureSourceChecked();
     const breakpoint = this.manager.findOrAddOnLine(line);
     if (breakpoint) this.edit(breakpoint, fieldName);
   }
 
   /**
-   * Updates the breakpoints after the source was loaded into ROM. Resolves when each breakpoint has the address of its line.
+   * Updates the addresses of the breakpoints after the source was loaded into ROM. Resolves when all addresses are up to date.
    * @param {boolean} wasReset true if the processor was reset, which also resets the hit counts
    */
   async handleAssembly(wasReset) {
@@ -217,10 +218,10 @@ export class BreakpointsController {
   }
 
   /**
-   * Updates the hit counts, and appends log messages to the log below the breakpoints.
+   * Updates the hit counts, and appends the log messages of breakpoints to the log below the list.
    * @param {Tally} tally the new hit counts and log messages
    */
-  countHits(tally) {
+  handleTally(tally) {
     this.manager.countHits(tally);
     this.view.log(tally, this.manager);
   }

@@ -1,5 +1,5 @@
 // The list of breakpoints and the log below it. An entry shows the breakpoint's mark, location and hit count, a check box that enables it,
-// and buttons that edit and remove it. Below are the breakpoint's condition and log message, and its error.
+// and buttons that edit and remove it. The entry's second line shows the breakpoint's condition, log message and error.
 
 import { formatCycles } from "../../core/time/cycles.js";
 import { addressWithName, lineReference } from "../../words/stops.js";
@@ -16,7 +16,7 @@ import * as say from "../../words/machine.js";
  * @typedef {import("../../core/machine/source_map.js").SourceMap} SourceMap
  * @typedef {import("../../core/debug/breakpoint_manager.js").BreakpointManager} BreakpointManager
  * @typedef {Pick<BreakpointManager, "list" | "errors" | "map">} ShownManager
- * @typedef {{ root: HTMLLIElement, enableBox: HTMLInputElement, mark: Cell, location: Cell, edit: HTMLButtonElement, hits: Cell,
+ * @typedef {{ root: HTMLLIElement, enableCheckBox: HTMLInputElement, mark: Cell, location: Cell, edit: HTMLButtonElement, hits: Cell,
  *   details: Cell, error: Cell }} Row
  */
 
@@ -30,7 +30,7 @@ import * as say from "../../words/machine.js";
  * @property {(isOn: boolean) => void} switchAll Enables or disables all breakpoints.
  * @property {() => void} removeAll Removes all breakpoints.
  * @property {() => void} resetHits Sets all hit counts to 0.
- * @property {(breakpoint: Breakpoint) => void} goTo Shows a breakpoint's address and source line. Either can be missing.
+ * @property {(breakpoint: Breakpoint) => void} goTo Shows a breakpoint's address and source line, or one of them if the other is missing.
  */
 
 /**
@@ -85,7 +85,7 @@ export class BreakpointsView {
   showRow(row, breakpoint, error, map) {
     const { isOn, hits } = breakpoint;
     const { mark, description } = breakpointMark(breakpoint, error);
-    row.enableBox.checked = isOn;
+    row.enableCheckBox.checked = isOn;
     row.mark.set(mark);
     row.mark.node.title = description;
     const location = formatLocation(breakpoint, map);
@@ -110,7 +110,7 @@ export class BreakpointsView {
    * @returns {Row}
    */
   makeRow(id, manager) {
-    const enableBox = element("input", { "type": "checkbox", "aria-label": say.ON, "autocomplete": "off" });
+    const enableCheckBox = element("input", { "type": "checkbox", "aria-label": say.ON, "autocomplete": "off" });
     const locationButton = element("button", { type: "button", className: "place" });
     const hitsNode = element("span", { className: "hits" });
     const [mark, location, hits, details, error] = [element("i", { "aria-hidden": "true" }), locationButton, hitsNode,
@@ -121,11 +121,11 @@ export class BreakpointsView {
     };
     const edit = makeButton(say.EDIT, withBreakpoint((breakpoint) => this.calls.edit(breakpoint)), { className: "edit" });
     const remove = makeButton("\u00D7", () => this.calls.remove(id), { "aria-label": say.REMOVE_BREAKPOINT, "title": say.REMOVE_TIP });
-    const root = element("li", {}, element("div", { className: "bar" }, enableBox, mark.node, location.node, hits.node, edit, remove),
+    const root = element("li", {}, element("div", { className: "bar" }, enableCheckBox, mark.node, location.node, hits.node, edit, remove),
       details.node, error.node);
-    enableBox.addEventListener("change", () => this.calls.change(id, { isOn: enableBox.checked }));
+    enableCheckBox.addEventListener("change", () => this.calls.change(id, { isOn: enableCheckBox.checked }));
     onClick(location.node, withBreakpoint((breakpoint) => this.calls.goTo(breakpoint)));
-    const row = { root, enableBox, mark, location, edit, hits, details, error };
+    const row = { root, enableCheckBox, mark, location, edit, hits, details, error };
     this.rows.set(id, row);
     return row;
   }

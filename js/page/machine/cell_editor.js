@@ -2,7 +2,7 @@
 // field.
 
 import { element } from "../ui/dom.js";
-import { putBelow } from "../ui/popup_message.js";
+import { placeBelow } from "../ui/popup_message.js";
 import * as say from "../../words/machine.js";
 
 /**
@@ -93,7 +93,7 @@ export class CellEditor {
     this.showMessage("");
     this.box.hidden = false;
     const { left, top } = cell.getBoundingClientRect();
-    putBelow(this.box, { left, bottom: top }, 0);
+    placeBelow(this.box, { left, bottom: top }, 0);
     this.field.focus();
     this.field.select();
   }

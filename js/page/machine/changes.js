@@ -20,13 +20,13 @@ export class Changes {
     cell.set(text);
   }
 
-  /** Clears the marks. Called for each snapshot while time is running. */
-  handleRunning() {
+  /** Clears the marks of changed values. Called for each snapshot while time is running. */
+  clearWhileRunning() {
     if (this.markedCells.size > 0) this.clear();
   }
 
   /** Marks the changed values. Called for each snapshot while time is paused. If nothing has changed, the earlier marks stay. */
-  handlePaused() {
+  markWhilePaused() {
     const changedCells = [...this.textsAtPause].filter(([cell, oldText]) => cell.text !== oldText).map(([cell]) => cell);
     if (changedCells.length === 0) return;
     this.clear();

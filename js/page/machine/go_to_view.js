@@ -23,7 +23,7 @@ export class GoToView {
     /** @type {SourceMap | null} */
     this.map = null;
     this.field.addEventListener("change", () => this.goToTypedAddress());
-    // Enter also works if the text is unchanged.
+    // If the text is unchanged, Enter causes no `change` event.
     this.field.addEventListener("keydown", (event) => event.key === "Enter" && this.goToTypedAddress());
     const breakpointButton = button("break-there");
     onClick(breakpointButton, () => {

@@ -32,12 +32,12 @@ import * as say from "../../words/machine.js";
  * @property {() => SourceMap | null} map Returns the source map of the program in ROM, or null if ROM does not match the source.
  */
 
-/** While time is paused, the delay in milliseconds between the last input or snapshot and the count of changes. */
+/** The delay in milliseconds after the last input or snapshot before changes are counted. Applies only while time is paused. */
 const COUNT_DELAY_MS = 300;
 /** The maximum number of cycles over which changes are counted. */
 const MAX_CYCLES = 10000000;
 /** The interval in milliseconds at which the cells are updated while time is running. */
-const DRAW_INTERVAL = 200;
+const DRAW_INTERVAL_MS = 200;
 
 export class HeatView {
   /**
@@ -108,12 +108,12 @@ export class HeatView {
    */
   handleFrame({ chipHeat, cycles }) {
     if (this.kindSelect.value === "") return;
-    // On a board without RAM, no new message replaces the message about the recorded past, which does not apply while time is running.
+    // Remove a message about the recorded past, which does not apply while time is running. On a board without RAM, no message replaces it.
     if (!chipHeat) this.showStatus("");
     const maxCycles = parseCount(this.cyclesField.value, MAX_CYCLES);
     if (!chipHeat || maxCycles === 0) return;
     this.recentHeat.add(chipHeat, cycles, maxCycles);
-    if (performance.now() - this.lastDrawTime < DRAW_INTERVAL) return;
+    if (performance.now() - this.lastDrawTime < DRAW_INTERVAL_MS) return;
     this.lastDrawTime = performance.now();
     this.heat = null;
     this.showCells(this.recentHeat.heat, describeChangesWhileRunning);
@@ -146,10 +146,10 @@ export class HeatView {
     clearTimeout(this.countTimer);
     this.request.abort();
     if (!this.isStale || this.kindSelect.value === "" || this.calls.isRunning()) return;
-    this.countTimer = window.setTimeout(() => this.startCount(), COUNT_DELAY_MS);
+    this.countTimer = window.setTimeout(() => this.startCounting(), COUNT_DELAY_MS);
   }
 
-  async startCount() {
+  async startCounting() {
     const cycles = this.parseCycleCount();
     if (cycles === 0) return;
     const request = new AbortController();

@@ -2,7 +2,7 @@
 // changed, and which line changed it. The bench searches the recorded past for this change.
 
 import { element } from "../ui/dom.js";
-import { putBelow } from "../ui/popup_message.js";
+import { placeBelow } from "../ui/popup_message.js";
 
 /**
  * @typedef {import("./cell_editor.js").EditableCell} EditableCell
@@ -69,6 +69,6 @@ export class LastChangeView {
     if (description === "" || request.signal.aborted || !cell.isConnected || this.calls.isRunning()) return;
     this.tip.textContent = description;
     this.tip.hidden = false;
-    putBelow(this.tip, cell.getBoundingClientRect(), TIP_DISTANCE);
+    placeBelow(this.tip, cell.getBoundingClientRect(), TIP_DISTANCE);
   }
 }

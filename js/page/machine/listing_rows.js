@@ -11,7 +11,7 @@ import * as say from "../../words/machine.js";
  * A row. `address` is the address of the row's instruction. `markedAddress` is the address of a breakpoint in that instruction, or
  * `address` if there is none.
  * @typedef {{ button: HTMLButtonElement, address: number, markedAddress: number, mark: Cell, bytes: Cell, labels: Cell,
- *   instruction: Cell, breakpointSwitch: Switch, nextSwitch: Switch }} Row
+ *   instruction: Cell, breakpointSwitch: Switch, counterSwitch: Switch }} Row
  */
 
 /**
@@ -61,14 +61,14 @@ export class ListingRows {
     const mark = new Cell(element("i", { "aria-hidden": "true" }));
     const [bytes, labels, instruction] = ["bytes", "labels", "instruction"].map((className) => new Cell(element("span", { className })));
     const button = element("button", { type: "button" }, mark.node, bytes.node, labels.node, instruction.node);
-    const nextSwitch = new Switch((isNext) => {
+    const counterSwitch = new Switch((isNext) => {
       button.classList.toggle("next", isNext);
       if (isNext) button.setAttribute("aria-current", "true");
       else button.removeAttribute("aria-current");
     });
     /** @type {Row} */
     const row = {
-      button, address: 0, markedAddress: 0, mark, bytes, labels, instruction, breakpointSwitch: makePressedSwitch(button), nextSwitch,
+      button, address: 0, markedAddress: 0, mark, bytes, labels, instruction, breakpointSwitch: makePressedSwitch(button), counterSwitch,
     };
     onClick(button, () => this.toggleBreakpoint(row.markedAddress));
     return row;
@@ -93,17 +93,17 @@ export class ListingRows {
       const line = lines[index];
       row.button.hidden = line === undefined;
       if (!line) return;
-      const lineMark = breakpoints.get(line.firstAddress);
-      const mark = lineMark || findSecondByteMark(line.secondAddress, breakpoints);
+      const firstByteMark = breakpoints.get(line.firstAddress);
+      const mark = firstByteMark || findSecondByteMark(line.secondAddress, breakpoints);
       const title = [mark ? mark.description : "", line.source].filter(Boolean).join("; ");
       row.address = line.address;
-      row.markedAddress = mark && !lineMark ? parseInt(line.secondAddress, 16) : line.address;
+      row.markedAddress = mark && !firstByteMark ? parseInt(line.secondAddress, 16) : line.address;
       row.bytes.set(line.bytes);
       row.labels.set(line.labels);
       row.instruction.set(line.instruction);
       if (row.button.title !== title) row.button.title = title;
       row.mark.set(mark ? mark.mark : "");
-      row.nextSwitch.set(line.address === counter);
+      row.counterSwitch.set(line.address === counter);
       row.breakpointSwitch.set(mark !== undefined);
     });
   }

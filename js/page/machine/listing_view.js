@@ -17,13 +17,13 @@ import { LAST_ADDRESS } from "../../core/bench/numbers.js";
 
 /** The assumed number of visible rows before the page has been laid out. */
 const DEFAULT_ROWS = 18;
-/** The number of bytes that are shown before the program counter if they fit. */
+/** The number of bytes before the program counter that are shown, if there is room. */
 const PRECEDING_BYTES = 10;
 /**
  * The interval in milliseconds between moves of the disassembly to the program counter while time is running fast. Between two moves, the
  * user can read the lines.
  */
-const FOLLOW_INTERVAL = 300;
+const FOLLOW_INTERVAL_MS = 300;
 
 export class ListingView {
   /**
@@ -37,8 +37,8 @@ export class ListingView {
     this.block = block("lines-of-program");
     this.followsCounter = true;
     /**
-     * The value of the program counter when the user went to another address. When the counter changes from this value, the disassembly
-     * follows it again. -1 if the disassembly is not waiting for such a change.
+     * The program counter at the moment when the user went to another address. As soon as the program counter differs from this value, the
+     * disassembly follows it again. -1 if the disassembly does not wait for a change of the counter.
      */
     this.counterAtLeave = -1;
     /** The first address to show while the disassembly does not follow the program counter. */
@@ -70,10 +70,10 @@ export class ListingView {
   }
 
   addListeners() {
-    const followBox = field("follow");
-    followBox.checked = this.followsCounter;
-    followBox.addEventListener("change", () => {
-      this.followsCounter = followBox.checked;
+    const followCheckBox = field("follow");
+    followCheckBox.checked = this.followsCounter;
+    followCheckBox.addEventListener("change", () => {
+      this.followsCounter = followCheckBox.checked;
       this.counterAtLeave = -1;
       this.rereadLines();
     });
@@ -97,24 +97,24 @@ export class ListingView {
    * Sets the disassembly's first address and stops following the program counter.
    * @param {number} address
    */
-  fixFirstAddress(address) {
+  setFirstAddress(address) {
     this.firstAddress = address;
     this.followsCounter = field("follow").checked = false;
   }
 
   /**
-   * Makes the disassembly begin at an address when `show` is next called. If the disassembly followed the counter, it will follow again
-   * when the counter changes, unless time is running fast.
+   * Makes the next call of `show` begin at an address. If the disassembly followed the program counter, it follows again as soon as the
+   * counter changes, unless time is running fast.
    * @param {number} address
    */
   goTo(address) {
     if (this.followsCounter && !this.isFast) this.counterAtLeave = this.counter;
-    this.fixFirstAddress(address);
+    this.setFirstAddress(address);
     this.discardLines();
   }
 
   /** @param {SourceMap | null} map */
-  nameLines(map) {
+  showLabels(map) {
     this.map = map;
     this.block.style.setProperty("--label-width", `${labelsWidth(map)}ch`);
     this.setLines(this.lines);
@@ -159,15 +159,15 @@ export class ListingView {
   }
 
   /**
-   * Returns true if other lines must be read. A disassembly that follows the counter is read again if the counter is not visible; while
-   * time is running fast, at most once per FOLLOW_INTERVAL. A disassembly that does not follow the counter is read again only if the
-   * counter points to the second byte of a line, and not while time is running fast.
+   * Returns true if the lines must be read again. If the disassembly follows the program counter, it reads new lines when the counter is
+   * not visible, but at most once per FOLLOW_INTERVAL_MS while time is running fast. Otherwise, it reads new lines when the counter points
+   * to the second byte of a line, but not while time is running fast.
    * @param {boolean} isFast
    */
   mustReadLines(isFast) {
     if (!this.followsCounter) return !isFast && isInsideLine(this.lines, this.counter);
     if (this.isCounterVisible(this.counter)) return false;
-    return !isFast || performance.now() - this.lastFollowTime > FOLLOW_INTERVAL;
+    return !isFast || performance.now() - this.lastFollowTime > FOLLOW_INTERVAL_MS;
   }
 
   /**
@@ -204,11 +204,11 @@ export class ListingView {
 
   /** @param {number} address */
   handleScroll(address) {
-    this.fixFirstAddress(Math.max(0, Math.min(address, LAST_ADDRESS)));
-    // Near the visible lines, use the start of one of their instructions as the anchor, so that the lines stay aligned.
-    const nearLine = this.lines.find((line) => line.address >= this.firstAddress);
-    const isNear = nearLine && Math.abs(this.lines[0].address - this.firstAddress) <= this.rows.count;
-    this.read({ from: this.firstAddress, anchor: nearLine && isNear ? nearLine.address : null }, true);
+    this.setFirstAddress(Math.max(0, Math.min(address, LAST_ADDRESS)));
+    // If the address is near the visible lines, read from the start of a visible instruction, so that instructions stay aligned.
+    const nextLine = this.lines.find((line) => line.address >= this.firstAddress);
+    const isNear = nextLine && Math.abs(this.lines[0].address - this.firstAddress) <= this.rows.count;
+    this.read({ from: this.firstAddress, anchor: nextLine && isNear ? nextLine.address : null }, true);
   }
 
   /**
@@ -235,20 +235,20 @@ export class ListingView {
   async moveBy(count) {
     const [topLine] = this.lines;
     if (count > 0) {
-      this.fixFirstAddress(this.lines[Math.min(count, this.lines.length - 1)].address);
+      this.setFirstAddress(this.lines[Math.min(count, this.lines.length - 1)].address);
       return this.read({ from: this.firstAddress, anchor: this.firstAddress });
     }
     // A line has at most two bytes, so the new top line is not before this address.
     const from = Math.max(0, topLine.address + 2 * count);
     const precedingLines = await this.reader.read({ from, anchor: topLine.address }, this.rows.count);
     const index = precedingLines.findIndex((line) => line.address >= topLine.address);
-    this.fixFirstAddress((precedingLines[Math.max(0, index + count)] || topLine).address);
+    this.setFirstAddress((precedingLines[Math.max(0, index + count)] || topLine).address);
     return this.read({ from: this.firstAddress, anchor: topLine.address });
   }
 
   /** @param {"first" | "last"} end */
   async moveFocusToEnd(end) {
-    this.fixFirstAddress(end === "first" ? 0 : LAST_ADDRESS);
+    this.setFirstAddress(end === "first" ? 0 : LAST_ADDRESS);
     if (await this.read({ from: this.firstAddress, anchor: null })) this.focusRow(end === "first" ? 0 : this.lines.length - 1);
   }
 

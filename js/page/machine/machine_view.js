@@ -101,7 +101,7 @@ export class PortsView {
     this.srcCells = new Map();
     /** @type {Cell[][]} */
     this.roms = [];
-    /** @type {{ bits: Cell[], oneSwitches: Switch[], shownBits: string }[]} */
+    /** @type {{ bits: Cell[], levelSwitches: Switch[], shownBits: string }[]} */
     this.chains = [];
   }
 
@@ -118,8 +118,8 @@ export class PortsView {
     for (const cell of this.roms.flat()) this.editor.makeReadOnly(cell.node, say.PORTS_ARE_READ_ONLY);
     this.chains = board.chains.map((chain) => {
       const bits = indices(chain.chips * 10).map(() => new Cell(element("i")));
-      const oneSwitches = bits.map(({ node }) => new Switch((isOne) => node.classList.toggle("one", isOne)));
-      return { bits, oneSwitches, shownBits: "" };
+      const levelSwitches = bits.map(({ node }) => new Switch((isOne) => node.classList.toggle("one", isOne)));
+      return { bits, levelSwitches, shownBits: "" };
     });
     const lines = this.chains.map(({ bits }, index) => this.makeChainLine(`chain ${index}`, findPlaceName(`chain${index}`), nodesOf(bits)));
     this.block.replaceChildren(this.srcList, ...(board.roms.length > 0 ? [this.makeRomTable(board.roms, findPlaceName)] : []), ...lines);
@@ -182,7 +182,7 @@ export class PortsView {
       if (chain.shownBits === bits) return;
       chain.shownBits = bits;
       chain.bits.forEach((cell, bit) => cell.set(bits[bit]));
-      chain.oneSwitches.forEach((oneSwitch, bit) => oneSwitch.set(bits[bit] === "1"));
+      chain.levelSwitches.forEach((levelSwitch, bit) => levelSwitch.set(bits[bit] === "1"));
     });
   }
 }

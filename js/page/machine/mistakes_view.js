@@ -33,8 +33,8 @@ export class MistakesView {
   }
 
   /**
-   * Clears the list when time resumes or another session is opened. Sends the chosen kinds to the bench again, because its worker may have
-   * been replaced.
+   * Clears the list when time resumes or another session is opened. Sends the chosen kinds to the bench again, because a new worker does
+   * not know them.
    */
   clear() {
     this.calls.stopAtMistakes([...this.stopKinds]);
@@ -55,9 +55,9 @@ export class MistakesView {
   makeRow({ kind, address, message }) {
     const button = element("button", { type: "button", className: "place" }, this.calls.describeAddress(address));
     onClick(button, () => this.calls.goTo(address));
-    const stopBox = element("input", { type: "checkbox", checked: this.stopKinds.has(kind), autocomplete: "off" });
-    stopBox.addEventListener("change", () => this.setStop(kind, stopBox.checked));
-    const label = element("label", { className: "check", title: say.stopsBefore(KINDS[kind]) }, stopBox, say.STOP_AT_THIS);
+    const stopCheckBox = element("input", { type: "checkbox", checked: this.stopKinds.has(kind), autocomplete: "off" });
+    stopCheckBox.addEventListener("change", () => this.setStopKind(kind, stopCheckBox.checked));
+    const label = element("label", { className: "check", title: say.stopsBefore(KINDS[kind]) }, stopCheckBox, say.STOP_AT_THIS);
     return element("li", {}, element("span", { className: "words" }, button, ` ${message}`), label);
   }
 
@@ -65,7 +65,7 @@ export class MistakesView {
    * @param {Kind} kind
    * @param {boolean} shouldStop
    */
-  setStop(kind, shouldStop) {
+  setStopKind(kind, shouldStop) {
     if (shouldStop) this.stopKinds.add(kind);
     else this.stopKinds.delete(kind);
     this.calls.storeKinds([...this.stopKinds].join(" "));

@@ -31,11 +31,11 @@ function makeNibbleLabels(register, names) {
   const [bank, chip, number] = register.split(".").map(Number);
   const registerIndex = chip * 4 + number;
   /** @type {(place: string, label: string) => string[]} */
-  const labelNames = (place, label) => (names.get(place) || []).map((name) => `${label} ${name}`);
+  const prefixNames = (place, label) => (names.get(place) || []).map((name) => `${label} ${name}`);
   return [
     ...indices(NIBBLES_PER_REGISTER).flatMap((nibble) => (
-      labelNames(`ram.${bank}.0x${hex(registerIndex * NIBBLES_PER_REGISTER + nibble, 2)}`, hex(nibble, 1)))),
-    ...indices(STATUS_CHARACTERS_PER_REGISTER).flatMap((index) => labelNames(`st.${bank}.${registerIndex}.${index}`, `status ${index}`)),
+      prefixNames(`ram.${bank}.0x${hex(registerIndex * NIBBLES_PER_REGISTER + nibble, 2)}`, hex(nibble, 1)))),
+    ...indices(STATUS_CHARACTERS_PER_REGISTER).flatMap((index) => prefixNames(`st.${bank}.${registerIndex}.${index}`, `status ${index}`)),
   ];
 }
 
@@ -58,7 +58,7 @@ export class RamView {
     this.changes = changes;
     this.editor = editor;
     this.toggleWatch = toggleWatch;
-    /** @type {Map<string, Switch>} the watch mark of each nibble, by the nibble's name in the bench's answers, for example `0.1F` */
+    /** @type {Map<string, Switch>} the watch marks of the nibbles, by the nibble's name in the bench's answers, for example `0.1F` */
     this.watchSwitches = new Map();
     /** @type {Map<string, ShownRegister>} the registers, by `bank.chip.register` */
     this.registers = new Map();

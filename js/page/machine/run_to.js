@@ -11,7 +11,7 @@ import { formatKey } from "../commands/keys.js";
  */
 export function listenForRunToLine(root, addressAt, runTo) {
   /** @param {Event} event */
-  const runToEventLine = (event) => {
+  const runToLineOf = (event) => {
     const address = event.target instanceof Node ? addressAt(event.target) : null;
     if (address === null) return;
     event.preventDefault();
@@ -19,11 +19,11 @@ export function listenForRunToLine(root, addressAt, runTo) {
     runTo(address);
   };
   root.addEventListener("click", (event) => {
-    if (event.ctrlKey || event.metaKey) runToEventLine(event);
+    if (event.ctrlKey || event.metaKey) runToLineOf(event);
   }, { capture: true });
-  root.addEventListener("contextmenu", runToEventLine);
+  root.addEventListener("contextmenu", runToLineOf);
   root.addEventListener("keydown", (event) => {
-    if (event.key === "Enter" && (event.ctrlKey || event.metaKey)) runToEventLine(event);
+    if (event.key === "Enter" && (event.ctrlKey || event.metaKey)) runToLineOf(event);
   }, { capture: true });
 }
 

@@ -11,7 +11,8 @@ import * as say from "../../words/machine.js";
  * @typedef {import("./changes.js").Changes} Changes
  * @typedef {import("../../core/machine/return_addresses.js").AddressNote} AddressNote
  * @typedef {import("../../core/machine/source_map.js").SourceMap} SourceMap
- * @typedef {{ button: HTMLButtonElement, value: Cell, note: Cell, liveSwitch: Switch }} Row `liveSwitch`: off if the address is stale
+ * @typedef {{ button: HTMLButtonElement, value: Cell, note: Cell, liveSwitch: Switch }} Row a row of the call stack; `liveSwitch` is off if
+ *   the row's return address is stale
  */
 
 /** The columns of the first ROM byte in a line of the bench's answer to `list`. The end is exclusive. */
@@ -78,7 +79,7 @@ export class StackView {
     this.addresses = addressTexts.map((addressText) => parseInt(addressText, 16));
   }
 
-  /** Makes the next call of `explain` read ROM again, because the contents of ROM may have changed. */
+  /** Makes the next call of `updateNotes` read ROM again, because the contents of ROM may have changed. */
   invalidateNotes() {
     this.describedAddresses = "";
   }
@@ -88,7 +89,7 @@ export class StackView {
    * @param {SourceMap | null} map the source map of the program in ROM; null if ROM does not match the source
    * @param {boolean} isRunning
    */
-  async explain(map, isRunning) {
+  async updateNotes(map, isRunning) {
     if (isRunning) {
       this.clear();
       return;

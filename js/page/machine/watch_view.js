@@ -35,9 +35,9 @@ export class WatchView {
     this.rows = [];
     // The field is not in a form, because Firefox would search each text field of a form for a user name and delay the start of the page.
     field("watched-field").addEventListener("keydown", ({ key, isComposing }) => {
-      if (key === "Enter" && !isComposing) this.add();
+      if (key === "Enter" && !isComposing) this.addTypedExpression();
     });
-    onClick(findDescendant(block("watched-form"), "button", HTMLButtonElement), () => this.add());
+    onClick(findDescendant(block("watched-form"), "button", HTMLButtonElement), () => this.addTypedExpression());
   }
 
   /** @param {unknown} texts the expressions that were saved with a session, not yet validated */
@@ -47,7 +47,7 @@ export class WatchView {
     this.setExpressions(expressions);
   }
 
-  add() {
+  addTypedExpression() {
     const input = field("watched-field");
     const { watch: expression, error } = parseWatch(input.value, this.calls.names());
     const isFull = this.expressions.length >= MAX_WATCH_EXPRESSIONS;

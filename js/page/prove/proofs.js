@@ -72,7 +72,7 @@ export class Proofs {
    * Handles the opening of another session: cancels the proof and shows the earlier results of the opened session.
    * @param {string} sessionId the id of the opened session
    */
-  openSession(sessionId) {
+  handleSessionOpening(sessionId) {
     this.cancel();
     this.sessionId = sessionId;
     this.view.clear();
@@ -95,16 +95,16 @@ export class Proofs {
   /** The verdicts that apply to the current texts. */
   get currentVerdicts() {
     const { currentResults } = this;
-    return currentResults ? currentResults.progress.verdicts.filter(this.currentVerdictFilter(currentResults)) : [];
+    return currentResults ? currentResults.progress.verdicts.filter(this.makeCurrentVerdictFilter(currentResults)) : [];
   }
 
   /** The short mark that the tab shows for the current verdicts. */
-  get mark() {
+  get tabMark() {
     return this.currentResults ? proofsTabMark(this.currentVerdicts) : "";
   }
 
   /** True if no property has a counterexample, and no goal is proved unreachable. Only current verdicts count. */
-  get isGood() {
+  get hasDesiredVerdicts() {
     return this.currentVerdicts.every((propertyVerdict) => propertyVerdict.verdict.kind === "open" || isDesiredVerdict(propertyVerdict));
   }
 
@@ -113,7 +113,7 @@ export class Proofs {
    * @param {ProofResults} currentResults
    * @returns {(propertyVerdict: PropertyVerdict) => boolean}
    */
-  currentVerdictFilter(currentResults) {
+  makeCurrentVerdictFilter(currentResults) {
     const currentTexts = this.calls.texts();
     return (propertyVerdict) => isStillValid(propertyVerdict, currentResults.texts, currentTexts);
   }
@@ -123,7 +123,7 @@ export class Proofs {
     const isRunning = this.controller !== null;
     this.button.set(isRunning ? say.CANCEL : say.PROVE);
     if (currentResults) {
-      this.view.show(currentResults.progress, currentResults.maxStates, isRunning, this.currentVerdictFilter(currentResults));
+      this.view.show(currentResults.progress, currentResults.maxStates, isRunning, this.makeCurrentVerdictFilter(currentResults));
     }
     this.calls.handleVerdictChange();
   }
@@ -161,22 +161,22 @@ export class Proofs {
     this.resultsBySession.set(sessionId, results);
     this.view.clear();
     this.show();
-    let proofEnd = /** @type {TaskResult} */ ({ errors: [], isStopped: true });
+    let taskResult = /** @type {TaskResult} */ ({ errors: [], isStopped: true });
     try {
-      proofEnd = await calls.prove(texts, maxStates, controller.signal, (progress) => {
+      taskResult = await calls.prove(texts, maxStates, controller.signal, (progress) => {
         results.progress = progress;
         if (results === this.currentResults) this.show();
       });
     } finally {
       this.controller = null;
       if (results.progress.verdicts.length === 0) this.resultsBySession.delete(sessionId);
-      if (sessionId === this.sessionId) this.finish(results, proofEnd);
+      if (sessionId === this.sessionId) this.finish(results, taskResult);
     }
   }
 
   /**
    * @param {ProofResults} results
-   * @param {TaskResult} proofEnd
+   * @param {TaskResult} taskResult
    */
   finish({ progress: { verdicts } }, { errors, isStopped }) {
     if (verdicts.length === 0) this.view.clear();

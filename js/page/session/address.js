@@ -1,7 +1,7 @@
-// The page's address. The text after `#` names a saved session or an example, or contains the texts that a link shares. The text after `?`
+// The page's URL. The text after `#` names a saved session or an example, or contains the texts that a link shares. The text after `?`
 // names the example whose story the page opens.
 
-/** @typedef {"session" | "example" | "link"} AddressKind */
+/** @typedef {"session" | "example" | "link"} FragmentKind */
 
 /** @param {string} text */
 function decodeText(text) {
@@ -13,22 +13,22 @@ function decodeText(text) {
 }
 
 /**
- * Returns the name of the example whose story the address requests, or "" if it requests no story. The address can contain the example's
- * name or the name of its folder.
+ * Returns the name of the example whose story the URL requests, or "" if the URL requests no story. The URL can contain the example's name
+ * or the name of the example's folder.
  * @param {string} search
  */
 export function readRequestedStory(search) {
   return new URLSearchParams(search).get("story")?.replace(/_/g, " ") || "";
 }
 
-/** Removes the name of the story from the page's address. */
-export function forgetStory() {
-  const address = new URL(location.href);
-  address.search = "";
+/** Removes the name of the story from the page's URL. */
+export function removeStoryFromUrl() {
+  const url = new URL(location.href);
+  url.search = "";
   try {
-    history.replaceState(null, "", address);
+    history.replaceState(null, "", url);
   } catch {
-    // Some browsers do not let a page change the address of a local file. A reload then opens the story again.
+    // Some browsers do not let a page change the URL of a local file. A reload then opens the story again.
   }
 }
 
@@ -36,15 +36,15 @@ export function forgetStory() {
  * Parses the fragment of a URL. Ignores trailing spaces, which users sometimes copy together with a URL. `kind` is "" if the fragment is of
  * no known kind.
  * @param {string} hash
- * @returns {{ kind: AddressKind | "", value: string }}
+ * @returns {{ kind: FragmentKind | "", value: string }}
  */
 export function readUrlFragment(hash) {
   const [, kind, value] = /^#(session|example|link)=(.*?)(?:%20|%09|%0A|%0D|\s)*$/i.exec(hash) || [];
-  return { kind: /** @type {AddressKind | ""} */ (kind || ""), value: kind === "example" ? decodeText(value) : value || "" };
+  return { kind: /** @type {FragmentKind | ""} */ (kind || ""), value: kind === "example" ? decodeText(value) : value || "" };
 }
 
 /**
- * @param {AddressKind} kind
+ * @param {FragmentKind} kind
  * @param {string} value
  */
 export function formatUrlFragment(kind, value) {

@@ -91,8 +91,8 @@ export class CurrentSession {
   }
 
   /**
-   * Shows the elements of the page. For the first session, they stay invisible until the page shows the program's names, because the names
-   * change the layout.
+   * Shows the elements of the page. Before the first session is shown, the elements stay invisible until the page shows the program's
+   * names, because the names change the layout.
    */
   async showElements() {
     const isFirstSession = block("bench").hidden;
@@ -122,7 +122,7 @@ export class CurrentSession {
    */
   async open(record) {
     try {
-      return await this.requestOpening(record);
+      return await this.openInBench(record);
     } catch (error) {
       if (this.session) this.calls.showPaused(say.PAUSED);
       throw error;
@@ -133,7 +133,7 @@ export class CurrentSession {
    * @param {SessionRecord} record
    * @returns {Promise<PageState>}
    */
-  requestOpening({ file, cycles = ZERO_COUNTS, printed }) {
+  openInBench({ file, cycles = ZERO_COUNTS, printed }) {
     return this.bench.call("open", [file, cycles.total, cycles.reset, printed || null]);
   }
 
@@ -147,8 +147,8 @@ export class CurrentSession {
   }
 
   /**
-   * Shows the session's name in the name field and in the window title. Puts the session's address into the address bar, or the example's
-   * address if the session is an unchanged example.
+   * Shows the session's name in the name field and in the window title. Puts the session's URL into the address bar, or the example's URL
+   * if the session is an unchanged example.
    */
   showName() {
     if (!this.session) return;

@@ -2,7 +2,7 @@
 
 import { element } from "../ui/dom.js";
 
-/** The time in milliseconds for which the browser can read the file's bytes. */
+/** The time in milliseconds after which the URL of a download is revoked. */
 const URL_LIFETIME_MS = 10000;
 
 /**

@@ -37,8 +37,8 @@ async function readEntries(folder) {
 }
 
 /**
- * Adds the files of a folder and of its subfolders to `files`. The keys are the paths. Skips subfolders below MAX_DEPTH and subfolders
- * whose names begin with a dot. Stops at MAX_FILES files.
+ * Adds the files of a folder and of its subfolders to `files`, by path. Skips subfolders below MAX_DEPTH and subfolders whose names begin
+ * with a dot. Stops at MAX_FILES files.
  * @param {FileSystemDirectoryEntry} folder
  * @param {string} pathPrefix the folder's path in the dropped folder, with a trailing slash
  * @param {Map<string, File>} files

@@ -23,7 +23,7 @@ import * as say from "../../words/session.js";
  * The callbacks of LinkSharing.
  * @typedef {object} LinkSharingCalls
  * @property {() => Texts | null} currentTexts Returns the name and the texts of the current session, or null if there is none.
- * @property {() => void} showSessionAddress Puts the address of the current session into the address bar.
+ * @property {() => void} showSessionUrl Puts the URL of the current session into the address bar.
  * @property {(texts: Texts, file: Uint8Array, runs: boolean) => Promise<boolean>} openTexts Opens a new session from texts and a file. If
  *   `runs` is true, time starts when the session is opened. Resolves to true if the session was created.
  * @property {() => void} save Saves the project as a file. Called if the link would be too long.
@@ -66,27 +66,30 @@ export class LinkSharing {
       this.notice.show(say.noLinkMessage(lengthError), "refusal");
       return;
     }
-    const address = location.href.replace(/#.*$/, "") + formatUrlFragment("link", await toLink(texts));
-    const size = say.characterCountText(address.length.toLocaleString("en"));
-    if (address.length > MAX_LINK_LENGTH) {
-      await this.offerFile(size);
+    const url = location.href.replace(/#.*$/, "") + formatUrlFragment("link", await toLink(texts));
+    const lengthText = say.characterCountText(url.length.toLocaleString("en"));
+    if (url.length > MAX_LINK_LENGTH) {
+      await this.offerFile(lengthText);
       return;
     }
     const messages = [`${describeContents(texts)}${location.protocol === "file:" ? say.LINK_FROM_FILE : ""}`];
-    if (address.length > MAX_SAFE_LINK_LENGTH) messages.push(say.LONG_LINK_WARNING);
+    if (url.length > MAX_SAFE_LINK_LENGTH) messages.push(say.LONG_LINK_WARNING);
     try {
-      await navigator.clipboard.writeText(address);
-      this.notice.show(say.linkCopied(size, messages.join(" ")), "share");
+      await navigator.clipboard.writeText(url);
+      this.notice.show(say.linkCopied(lengthText, messages.join(" ")), "share");
     } catch {
-      await this.showLink(address, messages);
+      await this.showLink(url, messages);
     }
   }
 
-  /** @param {string} size the length of the link, formatted for the user */
-  async offerFile(size) {
+  /**
+   * Offers to save the project as a file, because the link is too long.
+   * @param {string} lengthText the length of the link, formatted for the user
+   */
+  async offerFile(lengthText) {
     const isAccepted = await this.confirmDialog.ask({
       title: say.TOO_LONG_FOR_LINK,
-      paragraphs: [say.linkTooLongMessage(size, MAX_LINK_LENGTH.toLocaleString("en"))],
+      paragraphs: [say.linkTooLongMessage(lengthText, MAX_LINK_LENGTH.toLocaleString("en"))],
       acceptLabel: say.SAVE_PROJECT,
       declineLabel: say.LEAVE_IT,
     });
@@ -95,11 +98,11 @@ export class LinkSharing {
 
   /**
    * Shows the link for the user to copy. Called if the browser cannot copy the link.
-   * @param {string} address
+   * @param {string} url
    * @param {string[]} messages
    */
-  async showLink(address, messages) {
-    const textArea = element("textarea", { id: "link", rows: 4, readOnly: true, value: address, autofocus: true });
+  async showLink(url, messages) {
+    const textArea = element("textarea", { id: "link", rows: 4, readOnly: true, value: url, autofocus: true });
     textArea.setAttribute("aria-label", say.THE_LINK);
     const answer = this.confirmDialog.ask({
       title: say.COPY_LINK,
@@ -130,7 +133,7 @@ export class LinkSharing {
     } catch (error) {
       this.notice.show(say.linkNotOpened(this.errorMessages.errorMessage(error)), "session");
     } finally {
-      this.calls.showSessionAddress();
+      this.calls.showSessionUrl();
     }
   }
 

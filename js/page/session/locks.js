@@ -8,23 +8,23 @@ const RETRY_DELAY_MS = 150;
 /**
  * The name of a lock that the page requests only to find out whether locks work. A browser that blocks site data rejects all lock requests.
  */
-const PROBE_NAME = "fethsaim probe";
+const PROBE_LOCK_NAME = "fethsaim probe";
 
 /** @typedef {() => void} Release releases a lock */
 
 export class Locks {
-  /** Resolves to the browser's locks, or to substitutes that are always free if the browser has no working locks. */
+  /** Resolves to the browser's locks. If the browser has no working locks, resolves to substitutes that never block. */
   static async find() {
     if (!navigator.locks) return new Locks(null);
     try {
-      await withTimeout(navigator.locks.request(PROBE_NAME, { mode: "shared" }, () => {}));
+      await withTimeout(navigator.locks.request(PROBE_LOCK_NAME, { mode: "shared" }, () => {}));
       return new Locks(navigator.locks);
     } catch {
       return new Locks(null);
     }
   }
 
-  /** @param {LockManager | null} manager null if the browser has no working locks; every lock is then free */
+  /** @param {LockManager | null} manager null if the browser has no working locks; every lock can then be acquired */
   constructor(manager) {
     this.manager = manager;
     this.areAvailable = manager !== null;

@@ -19,7 +19,7 @@ let createdCount = 0;
  * @param {Uint8Array} file
  * @param {{ boardText: string, programText: string, testText?: string, propertiesText?: string, breakpoints?: SessionRecord["breakpoints"],
  *   watched?: SessionRecord["watched"], wired?: SessionRecord["wired"] }} content
- * @param {boolean} runs true if time starts when the session is opened
+ * @param {boolean} runs true if time must start as soon as the session is opened
  * @returns {SessionRecord}
  */
 export function createSessionRecord(name, file, content, runs = false) {
@@ -47,7 +47,7 @@ export class OpenSession {
     if (record.revision > 0) this.unsavedTexts.markStored(record);
     /** @type {Promise<string>} the write in progress */
     this.currentWrite = Promise.resolve("");
-    /** @type {Promise<string> | null} the next write after the one in progress; null if there is none */
+    /** @type {Promise<string> | null} the write that starts when the current write ends; null if none is waiting */
     this.nextWrite = null;
   }
 
@@ -69,11 +69,11 @@ export class OpenSession {
    * @returns {Promise<string>}
    */
   save() {
-    return this.isUntouched ? Promise.resolve("") : withTimeout(this.writeNext()).catch(describeStoreError);
+    return this.isUntouched ? Promise.resolve("") : withTimeout(this.queueWrite()).catch(describeStoreError);
   }
 
   /** @returns {Promise<string>} */
-  writeNext() {
+  queueWrite() {
     if (this.nextWrite === null) {
       this.nextWrite = this.currentWrite.then(() => {
         this.nextWrite = null;
@@ -87,7 +87,7 @@ export class OpenSession {
   /**
    * Writes the session when the user leaves the page and the page cannot wait. Also saves the texts in local storage. An unchanged example
    * is not written. Writes nothing if the store must first answer a read. That answer would arrive too late, and the unfinished write would
-   * block other pages. Resolves as `save` does.
+   * block other pages. Resolves to the same values as `save`.
    */
   saveNow() {
     if (!this.store.isAtomic || this.isUntouched) return Promise.resolve("");

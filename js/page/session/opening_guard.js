@@ -7,7 +7,7 @@ import { getBrowserStore } from "../ui/preferences.js";
 /** @typedef {Pick<Storage, "getItem" | "setItem" | "removeItem">} FlagStore */
 
 const KEY_PREFIX = "fethsaim.opening.";
-/** The time in milliseconds for which the page must still respond after it has opened a session. The session then counts as harmless. */
+/** If the page still responds this number of milliseconds after it has opened a session, the session counts as harmless. */
 const HARMLESS_AFTER_MS = 1000;
 /**
  * The time in milliseconds during which an opening counts as recent. A user who leaves the page within this time has not seen it hang.
@@ -72,7 +72,7 @@ export class OpeningGuard {
   }
 
   /**
-   * Clears the flag of a session whose opening has not made the page hang, or of a deleted session.
+   * Clears a session's flag, because its opening has not made the page hang, or because the session was deleted.
    * @param {string} id
    */
   clearFlag(id) {
@@ -89,7 +89,7 @@ export class OpeningGuard {
     for (const name of LEAVE_EVENTS) target.addEventListener(name, () => this.handleLeave());
   }
 
-  /** Clears the flags of openings that have ended or are recent, because a page that still runs this function has not hung. */
+  /** Clears the flags of openings that have ended or are recent, because a page that can still execute this function has not hung. */
   handleLeave() {
     for (const [id, { time, isEnded }] of this.pendingOpenings) if (isEnded || this.isRecent(time)) this.clearFlag(id);
   }

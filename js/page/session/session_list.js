@@ -73,8 +73,8 @@ export class SessionList {
   makeEntry(record) {
     const isCurrent = this.calls.isCurrent(record.id);
     const { name, id } = record;
-    const openText = isCurrent ? say.SHOWN : say.OPEN;
-    const openButton = this.calls.makeButton(openText, say.openNamed(name), () => this.calls.runAndClose(() => this.calls.open(id)));
+    const openLabel = isCurrent ? say.SHOWN : say.OPEN;
+    const openButton = this.calls.makeButton(openLabel, say.openNamed(name), () => this.calls.runAndClose(() => this.calls.open(id)));
     openButton.disabled = isCurrent;
     const copyButton = this.calls.makeButton(say.COPY, say.copyNamed(name), () => this.calls.runAndClose(() => this.calls.copy(id)));
     const deleteButton = this.calls.makeButton(say.DELETE, say.deleteNamed(name), () => this.remove([record]));

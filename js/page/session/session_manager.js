@@ -63,7 +63,7 @@ export class SessionManager {
    */
   async savedSessions() {
     try {
-      return (await this.store.all()).sort((a, b) => b.changed - a.changed);
+      return (await this.store.getAll()).sort((a, b) => b.changed - a.changed);
     } catch (error) {
       this.calls.showNotice(say.cannotReadKeptMessage(describeStoreError(error)));
       return [];
@@ -87,7 +87,7 @@ export class SessionManager {
    * @param {NoticeAction[]} actions buttons for alternative actions
    * @returns {false}
    */
-  rejectAction(message, ...actions) {
+  reportRejection(message, ...actions) {
     this.calls.showNotice(message, ...actions);
     return false;
   }
@@ -99,13 +99,13 @@ export class SessionManager {
    */
   async open(id) {
     const release = await this.locks.acquire(id);
-    if (!release) return this.rejectAction(say.IN_ANOTHER_TAB, { label: say.OPEN_A_COPY, act: () => this.copy(id) });
+    if (!release) return this.reportRejection(say.IN_ANOTHER_TAB, { label: say.OPEN_A_COPY, act: () => this.copy(id) });
     try {
       await this.calls.useSession(await this.readRecord(id), release, "");
       return true;
     } catch (error) {
       release();
-      return this.rejectAction(say.notOpenedMessage(this.errorMessages.errorMessage(error)));
+      return this.reportRejection(say.notOpenedMessage(this.errorMessages.errorMessage(error)));
     }
   }
 
@@ -123,7 +123,7 @@ export class SessionManager {
       if (previousSession && !previousSession.isUntouched) this.calls.offerReturn(previousSession.record);
       return true;
     } catch (error) {
-      return this.rejectAction(say.notMadeMessage(this.errorMessages.errorMessage(error)));
+      return this.reportRejection(say.notMadeMessage(this.errorMessages.errorMessage(error)));
     }
   }
 
@@ -179,7 +179,7 @@ export class SessionManager {
       }
       return true;
     } catch (error) {
-      return this.rejectAction(say.fileNotOpened(file.name, this.errorMessages.errorMessage(error)));
+      return this.reportRejection(say.fileNotOpened(file.name, this.errorMessages.errorMessage(error)));
     }
   }
 
@@ -198,7 +198,7 @@ export class SessionManager {
       if (wasOpened && message) this.calls.showNotice(message);
       return wasOpened;
     } catch (error) {
-      return this.rejectAction(say.fileNotOpened(name, this.errorMessages.errorMessage(error)));
+      return this.reportRejection(say.fileNotOpened(name, this.errorMessages.errorMessage(error)));
     }
   }
 
@@ -234,7 +234,7 @@ export class SessionManager {
     const session = this.calls.session();
     if (!session) return;
     const lengthError = tooLongMessage(session.record);
-    if (lengthError) this.rejectAction(say.noProjectSavedMessage(lengthError));
+    if (lengthError) this.reportRejection(say.noProjectSavedMessage(lengthError));
     else download(session.record.name, ".mcsp", new Blob([projectText(session.record)], { type: "application/octet-stream" }));
   }
 

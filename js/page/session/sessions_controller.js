@@ -1,4 +1,4 @@
-// Controls the sessions of the page: opens the first session, handles the sessions dialog, and follows changes of the page's address.
+// Controls the sessions of the page: opens the first session, handles the sessions dialog, and handles changes of the page's URL.
 
 import { readUrlFragment } from "./address.js";
 import { Trash, formatNames } from "./trash.js";
@@ -34,8 +34,7 @@ import * as say from "../../words/session.js";
  * @property {(record: SessionRecord, release: Release, example: string) => Promise<void>} useSession Makes a session the current session.
  *   `release` releases the session's lock. `example` is the example's name if the session is an unchanged example, otherwise "".
  * @property {() => void} showLines Brings the console to the front, for an example that consists only of lines.
- * @property {(text: string) => Promise<void>} openLink Offers to open the texts in a link. `text` is the part of the address after
- *   `#link=`.
+ * @property {(text: string) => Promise<void>} openLink Offers to open the texts in a link. `text` is the part of the URL after `#link=`.
  */
 
 export class SessionsController {
@@ -171,24 +170,24 @@ export class SessionsController {
   }
 
   /**
-   * Opens the first session of the page. It is the session or example that the address names, or the example whose story is requested.
-   * If there is none or it cannot be opened, it is the last used session that can be opened, or the first example. Sessions that may make
-   * the page hang are skipped. A link is opened after that.
-   * @param {string} story the name of the example whose story is requested, or "" if the address requests none
+   * Opens the first session of the page: the session or the example that the URL names, or the example whose story the URL requests. If the
+   * URL names no session or example, or if it cannot be opened, opens the last used session that can be opened, or the first example. Skips
+   * sessions that may make the page hang. Then opens the link in the URL, if there is one.
+   * @param {string} story the name of the example whose story is requested, or "" if the URL requests none
    */
   async openFirst(story) {
     const { hash } = location;
-    const address = readUrlFragment(hash);
-    const isStory = address.kind === "" && this.examples.some((example) => example.name === story && example.story);
-    const { kind, value } = isStory ? { kind: "example", value: story } : address;
+    const fragment = readUrlFragment(hash);
+    const isStory = fragment.kind === "" && this.examples.some((example) => example.name === story && example.story);
+    const { kind, value } = isStory ? { kind: "example", value: story } : fragment;
     const isQuiet = kind === "" || kind === "link" || (kind === "session" && this.openingGuard.hasUnfinishedOpening(value));
-    if (isQuiet || !(await this.openFromAddress(kind, value))) await this.openLast(isQuiet);
+    if (isQuiet || !(await this.openFromFragment(kind, value))) await this.openLast(isQuiet);
     if (kind === "link") await this.calls.openLink(value);
-    if (kind === "") this.reportUnknownAddress(hash);
+    if (kind === "") this.reportUnknownFragment(hash);
   }
 
-  /** @param {string} hash the text after `#` in an address that names no session, example or link */
-  reportUnknownAddress(hash) {
+  /** @param {string} hash the fragment of a URL that names no session, example or link */
+  reportUnknownFragment(hash) {
     if (hash.length > 1) this.notice.show(say.namesNothing(shortenName(hash)), "session");
   }
 
@@ -196,7 +195,7 @@ export class SessionsController {
    * @param {string} kind
    * @param {string} value
    */
-  async openFromAddress(kind, value) {
+  async openFromFragment(kind, value) {
     if (kind === "session") return this.open(value);
     return kind === "example" ? this.openExampleByName(value) : false;
   }
@@ -233,7 +232,7 @@ export class SessionsController {
     const { kind, value } = readUrlFragment(location.hash);
     const session = this.calls.session();
     if (!session) return;
-    if (kind === "") this.reportUnknownAddress(location.hash);
+    if (kind === "") this.reportUnknownFragment(location.hash);
     else if (kind === "link") await this.calls.openLink(value);
     else if (kind === "session" && !this.isCurrent(value)) await this.open(value);
     else if (kind === "example" && session.example !== value) await this.openExampleByName(value);

@@ -61,8 +61,8 @@ export class SessionsView {
     this.sessionList = new SessionList({
       ...calls,
       runAndClose: (action) => this.runAndClose(action),
-      remove: (records) => this.changeAndDraw(() => calls.remove(records)),
-      restoreSessions: (records) => this.changeAndDraw(() => calls.restoreSessions(records)),
+      remove: (records) => this.performAndRedraw(() => calls.remove(records)),
+      restoreSessions: (records) => this.performAndRedraw(() => calls.restoreSessions(records)),
       makeButton: (text, label, action) => this.makeButton(text, label, action),
     });
     onClick(button("first-example"), () => this.openExamples());
@@ -96,8 +96,8 @@ export class SessionsView {
 
   handleClose() {
     this.notice.moveTo(document.body);
-    // The browser returns the focus to the button that opened the dialog. After a click with the pointer, remove the focus from that
-    // button, so that the board receives the keys.
+    // The browser returns the focus to the button that opened the dialog. If the user has clicked in the dialog, remove the focus from that
+    // button, so that the board receives key presses again.
     if (this.usedPointer && document.activeElement instanceof HTMLElement) document.activeElement.blur();
   }
 
@@ -117,7 +117,7 @@ export class SessionsView {
    * Changes the saved sessions and draws their list again.
    * @param {() => Promise<void>} action
    */
-  async changeAndDraw(action) {
+  async performAndRedraw(action) {
     await action();
     await this.draw();
   }
@@ -167,7 +167,7 @@ export class SessionsView {
   }
 
   /**
-   * Opens files in sequence, or together as a project folder if one of several files is a project file.
+   * Opens several files together as a project folder if one of them is a project file. Otherwise opens each file separately, in order.
    * @param {File[]} files
    */
   async openAll(files) {

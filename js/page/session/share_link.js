@@ -1,6 +1,6 @@
-// A link contains a session's name and texts after the `#` of an address, which browsers do not send to servers. The link begins with its
-// compression method: 1 for deflate, 0 for none. After a dot, the data follow in base64url. After decompression, the data are a checksum
-// and the lines of a project file that precede the bytes of the session.
+// A link is a URL of the page. The part after `#link=`, which browsers do not send to servers, contains a session's name and texts. It
+// begins with the compression method: 1 for deflate, 0 for none. After a dot, the data follow in base64url. The decompressed data are a
+// checksum, and the lines with the name and the texts in the format of a project file.
 
 import { fromBase64, toBase64 } from "../../core/session/base64.js";
 import { makeStream, readOutput } from "./byte_streams.js";
@@ -11,11 +11,11 @@ import * as say from "../../words/session.js";
 /** @typedef {import("../../core/session/project_file.js").Texts} Texts */
 
 /**
- * The maximum length of a link. Chromium leaves its address bar empty if an address has more than 32,768 characters, and users copy and
- * paste links there. Any program that fits into ROM fits into a link, unless its text compresses very badly.
+ * The maximum length of a link. Users copy and paste links in the address bar, which Chromium leaves empty if a URL has more than 32,768
+ * characters. Any program that fits into ROM fits into a link, unless its text compresses very badly.
  */
 export const MAX_LINK_LENGTH = 32000;
-/** The length of an address that all software should accept (RFC 9110, 4.1). Some software truncates longer addresses. */
+/** The length of a URL that all software should accept (RFC 9110, 4.1). Some software truncates longer URLs. */
 export const MAX_SAFE_LINK_LENGTH = 8000;
 /** The maximum number of bytes after decompression. */
 const MAX_BYTES = 1 << 20;
@@ -42,7 +42,7 @@ function decodeBase64(letters) {
 }
 
 /**
- * Resolves to a session's link: the text after `#link=` in the address.
+ * Resolves to the part of a session's link after `#link=`.
  * @param {Texts} texts
  */
 export async function toLink({ name, boardText, programText, testText, propertiesText }) {

@@ -34,7 +34,7 @@ import * as say from "../../words/session.js";
  * @typedef {object} SessionStore
  * @property {boolean} isPersistent True if the sessions outlast the page.
  * @property {boolean} isAtomic True if `put` sends all its requests at once, so that they complete even while the page closes.
- * @property {() => Promise<SessionRecord[]>} all Resolves to all sessions.
+ * @property {() => Promise<SessionRecord[]>} getAll Resolves to all sessions.
  * @property {(id: string) => Promise<SessionRecord | undefined>} get Resolves to the session with this id, or to undefined if there is
  *   none.
  * @property {(record: SessionRecord) => Promise<void>} put Stores a session and increments its revision.
@@ -111,7 +111,7 @@ export class Store {
   }
 
   /** @returns {Promise<SessionRecord[]>} */
-  async all() {
+  async getAll() {
     return withTimeout(toPromise(this.sessions.getAll()));
   }
 
@@ -149,7 +149,7 @@ export class Store {
     return new Promise((resolve, reject) => {
       /** @type {Error | null} */
       let revisionError = null;
-      // The record's bytes may change before the answer arrives, so copy them.
+      // The record's bytes may change before the store has answered, so copy them.
       const nextRecord = { ...record, file: record.file.slice(), revision: record.revision + 1 };
       const finish = () => {
         record.revision = nextRecord.revision;
@@ -214,7 +214,7 @@ export class MemoryStore {
     this.isAtomic = true;
   }
 
-  async all() {
+  async getAll() {
     return [...this.records.values()];
   }
 

@@ -1,4 +1,4 @@
-// The recent history of the current session, with which the user can go back in time even after a page reload. A history segment is the
+// The recent history of the current session, so that the user can go back in time even after a page reload. A history segment is the
 // session file at one moment and the commands since then. The worker reports the commands. When the user leaves the page, the history is
 // written to the tab's session storage.
 
@@ -13,7 +13,7 @@ import * as say from "../../words/session.js";
  */
 
 const STORAGE_KEY = "fethsaim.past";
-/** The limits of a segment: its cycles, its commands, and the characters in its commands. At each of these limits, a new segment begins. */
+/** The maximum numbers of cycles, of commands and of characters in commands. When a segment reaches one of them, a new segment begins. */
 const MAX_CYCLES = 4000000;
 const MAX_ENTRIES = 4000;
 const MAX_CHARACTERS = 200000;
@@ -73,7 +73,7 @@ export class StoredHistory {
    * Discards the history, because another session has been opened.
    * @param {string} sessionId the id of the opened session
    */
-  openSession(sessionId) {
+  handleSessionOpening(sessionId) {
     this.sessionId = sessionId;
     this.segments = [];
   }
@@ -125,7 +125,7 @@ export class StoredHistory {
   }
 
   /**
-   * Continues a history that the bench has restored after a reload. Appends the entries since the reload.
+   * Puts the history from before a reload, which the bench has restored, in front of the entries since the reload.
    * @param {StoredSegment[]} restoredSegments
    * @param {number} restoredCount the number of restored entries in the last segment
    */

@@ -21,8 +21,8 @@ import * as say from "../../words/session.js";
  * @property {(boardText: string) => void} updateNames Updates the names that come from the board's text, which may have changed.
  * @property {() => Promise<string>} disassembleRom Resolves to source text that assembles to the contents of ROM. Rejects if the bench
  *   fails.
- * @property {(text: string) => Promise<boolean>} isProbablyNotProgram Resolves to true if every code line of a text has an error. Then the
- *   text is probably not a program.
+ * @property {(text: string) => Promise<boolean>} isProbablyNotProgram Resolves to true if a text is probably not a program, because every
+ *   line that is not blank or a comment has an error.
  * @property {(shownName: TextName, lines: string) => void} handleLoadedTexts Handles texts that were loaded from a file. Shows the text
  *   `shownName` and puts `lines` into the console's input.
  * @property {(error: unknown) => void} reportFailure Reports an error that a call threw.
@@ -31,8 +31,8 @@ import * as say from "../../words/session.js";
 /**
  * @typedef {keyof typeof say.WHICH_TEXT} TextName
  *
- * A replaced text: its name, the old text and the new text. `undoStep` says whether the editor's undo or its redo restores the old text.
- * This works only until the user edits the text.
+ * A replaced text: its name, the old text and the new text. `undoStep` is the step in the editor that restores the old text. This step is
+ * possible until the user edits the text.
  * @typedef {{ name: TextName, oldText: string, newText: string, undoStep: "undo" | "redo" }} ReplacedText
  */
 
@@ -124,25 +124,25 @@ export class TextsController {
     if (tests !== null) this.loadSingleText("tests", name, tests);
     if (properties !== null) this.loadSingleText("properties", name, properties);
     if (tests !== null || properties !== null) return;
-    const replacedTexts = board === null ? [] : this.putText("board", board);
-    if (program !== null) replacedTexts.push(...this.putText("program", program));
+    const replacedTexts = board === null ? [] : this.replaceText("board", board);
+    if (program !== null) replacedTexts.push(...this.replaceText("program", program));
     this.calls.handleLoadedTexts(board !== null ? "board" : "program", lines);
     const [firstText, buttonEffect] = board === null ? [say.SOURCE, say.ASSEMBLE_HINT] : [say.BOARD, say.APPLY_BOARD_HINT];
     const hasBoth = board !== null && program !== null;
     const destination = hasBoth ? say.BOARD_AND_SOURCE : firstText;
-    this.showReplaced(replacedTexts, say.textIsIn(name, destination, buttonEffect, hasBoth ? say.THEN_ASSEMBLE : ""));
+    this.showReplacementNotice(replacedTexts, say.textIsIn(name, destination, buttonEffect, hasBoth ? say.THEN_ASSEMBLE : ""));
   }
 
   /**
-   * Loads a tests or properties text from a file into its editor.
+   * Loads the text of a tests file or a properties file into its editor.
    * @param {"tests" | "properties"} textName
    * @param {string} name the name of the file
    * @param {string} text
    */
   loadSingleText(textName, name, text) {
-    const replacedTexts = this.putText(textName, text);
+    const replacedTexts = this.replaceText(textName, text);
     this.calls.handleLoadedTexts(textName, "");
-    this.showReplaced(replacedTexts, `${name} ${say.OPENED_IN[textName]}`);
+    this.showReplacementNotice(replacedTexts, `${name} ${say.OPENED_IN[textName]}`);
   }
 
   /**
@@ -150,7 +150,7 @@ export class TextsController {
    * @param {ReplacedText[]} replacedTexts
    * @param {string} message
    */
-  showReplaced(replacedTexts, message) {
+  showReplacementNotice(replacedTexts, message) {
     const session = this.calls.session();
     if (session && replacedTexts.length > 0) this.offerUndo(session, replacedTexts, message);
     else this.notice.show(message, "file");
@@ -199,7 +199,7 @@ export class TextsController {
    */
   replace(name, text, message) {
     const session = this.calls.session();
-    const replacedTexts = this.putText(name, text);
+    const replacedTexts = this.replaceText(name, text);
     if (session && replacedTexts.length > 0) this.offerUndo(session, replacedTexts, message);
   }
 
@@ -210,7 +210,7 @@ export class TextsController {
    * @param {string} text
    * @returns {ReplacedText[]}
    */
-  putText(name, text) {
+  replaceText(name, text) {
     if (!this.calls.session()) return [];
     const oldText = this[name].text;
     this[name].replaceText(text);
@@ -219,14 +219,14 @@ export class TextsController {
   }
 
   /**
-   * Restores a replaced text with the editor's undo or redo. If the user has edited the text since it was replaced, restores it through a
-   * new edit.
+   * Restores the old text of a replacement with the editor's undo or redo. If the user has edited the text since the replacement, restores
+   * the old text with a new edit.
    * @param {ReplacedText} replacedText
    * @returns {ReplacedText[]} entries that can undo this restoration
    */
   restoreText({ name, oldText, newText, undoStep }) {
     const editor = this[name];
-    if (editor.text !== newText || !editor.undoOrRedo(undoStep) || editor.text !== oldText) return this.putText(name, oldText);
+    if (editor.text !== newText || !editor.undoOrRedo(undoStep) || editor.text !== oldText) return this.replaceText(name, oldText);
     this.handleEdit();
     return [{ name, oldText: newText, newText: oldText, undoStep: undoStep === "undo" ? "redo" : "undo" }];
   }

@@ -75,7 +75,7 @@ export class Trash {
   async restoreSessions(records) {
     for (const record of records.filter((candidate) => this.deletedRecords.includes(candidate))) {
       try {
-        // The store no longer has a revision of the deleted record, so its revisions begin again at 0.
+        // The store no longer has the deleted record, so the record's revisions start again at 0.
         record.revision = 0;
         await this.store.put(record);
         this.deletedRecords = this.deletedRecords.filter((candidate) => candidate !== record);

@@ -1,4 +1,4 @@
-// Saves the texts that are not yet in the session store when the user leaves the page. In WebKit, the last write to that store does not
+// When the user leaves the page, saves the texts that are not yet in the session store. In WebKit, the last write to that store does not
 // complete. Therefore, these texts are also written to the browser's local storage, which saves them at once.
 
 import { getBrowserStore } from "../ui/preferences.js";
@@ -42,8 +42,8 @@ export class UnsavedTexts {
   }
 
   /**
-   * Copies the texts in local storage into a record that was read from the session store, if they are newer than the record. The texts stay
-   * in local storage until the session store has newer texts, because the user can leave again before the next write.
+   * If local storage has newer texts than a record from the session store, copies these texts into the record. The texts stay in local
+   * storage until the session store has them, because the user can leave the page again before the next write.
    * @param {SessionRecord} record
    */
   restore(record) {

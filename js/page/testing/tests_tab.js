@@ -31,7 +31,7 @@ import * as say from "../../words/testing.js";
  *   margin; null removes the counts.
  * @property {(address: number) => void} goTo Shows an address in the source and in the disassembly.
  * @property {(name: string, file: Uint8Array, texts: TestedTexts) => void} open Opens a new session from a file, with the tested texts.
- * @property {(label: string, isGood?: boolean) => void} showMark Shows a short mark on the tab; "" removes it. If `isGood`, the mark
+ * @property {(label: string, isSuccess?: boolean) => void} showMark Shows a short mark on the tab; "" removes it. If `isSuccess`, the mark
  *   reports a success.
  * @property {() => void} handleEdit Handles an edit of the tests.
  * @property {(error: unknown) => void} reportFailure Reports an error that a call threw.
@@ -58,7 +58,7 @@ export class TestsTab {
     });
     this.editor = this.textTab.editor;
     this.view = new TestsView({
-      goTo: (line) => this.editor.editor.select({ from: line, to: line }),
+      goTo: (line) => this.editor.editor.selectLines({ from: line, to: line }),
       goToAddress: (address) => calls.goTo(address),
       openFailure: (outcome) => this.openFailure(outcome),
     });
@@ -93,8 +93,8 @@ export class TestsTab {
   }
 
   /** Shows the button that inserts a first test, if the opened session has no tests. */
-  offerFirstText() {
-    this.textTab.offerFirstText();
+  updateFirstTextOffer() {
+    this.textTab.updateFirstTextOffer();
   }
 
   clear() {

@@ -16,13 +16,13 @@ function findComment(line, from) {
 }
 
 /**
- * Returns the style class of a token. Tokens before the line's `=` are keys.
+ * Returns the style class of a token. Tokens before the line's `=` are TOML keys.
  * @param {import("../../core/text/toml_words.js").TomlWord} word
- * @param {boolean} isKey
+ * @param {boolean} isTomlKey
  */
-function styleOfToken({ kind, text }, isKey) {
+function styleOfToken({ kind, text }, isTomlKey) {
   if (kind === "punctuation") return text === "[" || text === "]" ? "bracket" : "";
-  if (isKey) return "property";
+  if (isTomlKey) return "property";
   if (kind === "string" || kind === "bad") return "string";
   return /^[+-]?\d/.test(text) ? "number" : "atom";
 }
@@ -35,11 +35,11 @@ export function colourBoardLine(line) {
   const words = splitTomlWords([line]).filter(({ kind }) => kind !== "end");
   const lastWord = words[words.length - 1];
   const commentRanges = findComment(line, lastWord ? lastWord.to : 0);
-  const tableMatch = /^\s*\[[^\]]*\]?\]?/.exec(line);
-  if (tableMatch) return [{ from: 0, to: tableMatch[0].length, style: "atom" }, ...commentRanges];
+  const headerMatch = /^\s*\[[^\]]*\]?\]?/.exec(line);
+  if (headerMatch) return [{ from: 0, to: headerMatch[0].length, style: "atom" }, ...commentRanges];
   const equalsSign = words.find(({ kind, text }) => kind === "punctuation" && text === "=");
   /** @param {{ from: number }} word */
-  const isKey = ({ from }) => equalsSign !== undefined && from < equalsSign.from;
-  const ranges = words.map((word) => ({ from: word.from, to: word.to, style: styleOfToken(word, isKey(word)) }));
+  const isTomlKey = ({ from }) => equalsSign !== undefined && from < equalsSign.from;
+  const ranges = words.map((word) => ({ from: word.from, to: word.to, style: styleOfToken(word, isTomlKey(word)) }));
   return [...ranges.filter(({ style }) => style !== ""), ...commentRanges];
 }

@@ -55,7 +55,7 @@ export class CountMarks {
     editor.container.style.setProperty("--counts-width", `${maxLength + 1}ch`);
     this.marks.showTexts("counts", (line) => formatEntry(coverageByLine.get(line), formatCount),
       (line) => formatEntry(coverageByLine.get(line), describeCount));
-    // Highlight lines that never ran, and jumps that were always or never taken.
+    // Highlight lines that were never executed, and jumps that were always or never taken.
     const incompleteLines = coverage.filter(({ count, isJump, jumpCount }) => (
       count === 0 || (isJump && (jumpCount === 0 || jumpCount === count))));
     editor.showLineStyle("lacking", incompleteLines.map(({ line }) => line - 1).filter((line) => line <= editor.lastLine()));

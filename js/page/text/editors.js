@@ -38,7 +38,7 @@ import * as say from "../../words/text.js";
  * @property {(edits: Edit[]) => void} handleEdits Handles an edit. `edits` has the edits of the source; it is empty after an edit of the
  *   board's text.
  * @property {(wasReset: boolean) => Promise<void>} handleAssembly Handles a program that was loaded into ROM; `wasReset` is true if the
- *   processor was also reset. Resolves when each breakpoint has the address of its line.
+ *   processor was also reset. Resolves when the addresses of all breakpoints are up to date.
  * @property {(lines: string) => Promise<string | null>} serveLines Sends lines to the bench. Resolves to the first answer, or to null after
  *   a failure. A failure has already been reported.
  * @property {() => Promise<void>} pauseTime Pauses time. Resolves when time is paused.
@@ -73,8 +73,8 @@ export class Editors {
     this.calls = calls;
     this.instructions = readInstructions(manual);
     this.tables = readBoardTables(manual);
-    this.program = this.makeProgram();
-    this.board = this.makeBoard();
+    this.program = this.makeProgramEditor();
+    this.board = this.makeBoardEditor();
     /** @type {string | null} the board's text while it is being applied; null at other times */
     this.pendingBoardText = null;
     this.errorFinder = this.makeErrorFinder(errorMessages);
@@ -97,7 +97,7 @@ export class Editors {
     }, { instructions: this.instructions, tables: this.tables }, (number) => errorMessages.refusalMeaning(number));
   }
 
-  makeProgram() {
+  makeProgramEditor() {
     return new TextEditorView("program-editor", {
       mark: ";",
       colours: makeAssemblyColours(new Set(this.instructions.keys())),
@@ -122,7 +122,7 @@ export class Editors {
     });
   }
 
-  makeBoard() {
+  makeBoardEditor() {
     return new TextEditorView("board-editor", {
       mark: "#",
       colours: colourBoardLine,
@@ -141,11 +141,11 @@ export class Editors {
   }
 
   /**
-   * Checks the source and the board's text after another session was opened or the board has changed.
+   * Checks the source and the board's text. Called after another session has been opened, and after the bench's board has changed.
    * @param {boolean} isEmpty true if the bench has no board
    */
   checkTexts(isEmpty) {
-    this.offerBoard(isEmpty);
+    this.showFirstBoardOffer(isEmpty);
     this.programErrors.checkNow().catch(this.calls.reportFailure);
     this.boardErrors.checkNow().catch(this.calls.reportFailure);
   }
@@ -153,14 +153,14 @@ export class Editors {
   /**
    * Shows or hides the button that inserts a first board. If the button has the focus when it disappears, the focus moves to the heading of
    * the front panel.
-   * @param {boolean} shouldOffer
+   * @param {boolean} isShown
    */
-  offerBoard(shouldOffer) {
+  showFirstBoardOffer(isShown) {
     const offerBlock = block("board-offer");
     const hadFocus = offerBlock.contains(document.activeElement);
-    offerBlock.hidden = !shouldOffer;
+    offerBlock.hidden = !isShown;
     const heading = block("front-title").querySelector("button");
-    if (hadFocus && !shouldOffer && heading) heading.focus();
+    if (hadFocus && !isShown && heading) heading.focus();
   }
 
   /**
@@ -201,7 +201,7 @@ export class Editors {
     this.calls.resumeTime();
   }
 
-  /** Loads the program's bytes into ROM and leaves everything else as it is. */
+  /** Loads the program into ROM. Changes nothing else. */
   async assembleOnly() {
     if (!(await this.hasNoErrors("program"))) return;
     const { benchText } = this.program;
@@ -249,7 +249,7 @@ export class Editors {
   }
 
   /**
-   * Resolves to true if each code line of a text has an error.
+   * Resolves to true if a text is probably not a program: every line has an error, except blank lines and comments.
    * @param {string} text
    */
   async isProbablyNotProgram(text) {

@@ -11,13 +11,13 @@ import { Decoration, ViewPlugin } from "@codemirror/view";
  */
 
 /** @type {Map<string, Decoration>} the CodeMirror decoration of each style class */
-const marksByStyle = new Map();
+const decorationsByStyle = new Map();
 
 /** @param {string} style */
-function markOfStyle(style) {
-  const mark = marksByStyle.get(style) || Decoration.mark({ class: `cm-${style}` });
-  marksByStyle.set(style, mark);
-  return mark;
+function decorationOfStyle(style) {
+  const decoration = decorationsByStyle.get(style) || Decoration.mark({ class: `cm-${style}` });
+  decorationsByStyle.set(style, decoration);
+  return decoration;
 }
 
 /**
@@ -31,7 +31,7 @@ function colourLines({ state: { doc }, visibleRanges }, colours) {
     for (let offset = from; offset <= to;) {
       const line = doc.lineAt(offset);
       for (const range of colours(line.text)) {
-        if (range.to > range.from) ranges.push(markOfStyle(range.style).range(line.from + range.from, line.from + range.to));
+        if (range.to > range.from) ranges.push(decorationOfStyle(range.style).range(line.from + range.from, line.from + range.to));
       }
       offset = line.to + 1;
     }

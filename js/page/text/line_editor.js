@@ -8,7 +8,7 @@ import { indentUnit } from "@codemirror/language";
 import { ChangeSet, Compartment, EditorState, Prec, Transaction } from "@codemirror/state";
 import { EditorView, dropCursor, highlightSpecialChars, keymap, lineNumbers } from "@codemirror/view";
 import { makeLineColours } from "./line_colours.js";
-import { makeBelowLayer, makeElementBelow, makeGutterLayer, makeLayerGutter, makeMarkLayer, makeTextLayer, makeTextMark, styleOfLine }
+import { makeElementLayer, makeElementBelow, makeGutterLayer, makeLayerGutter, makeMarkLayer, makeTextLayer, makeTextMark, findLineStyle }
   from "./line_layers.js";
 import { insertRulesIntoSheet } from "./style_rules.js";
 import { findDescendant } from "../ui/dom.js";
@@ -42,7 +42,7 @@ import { findDescendant } from "../ui/dom.js";
 
 const TAB_WIDTH = 8;
 const HISTORY_OPTIONS = { minDepth: 1000, newGroupDelay: 1250 };
-/** The user events that can insert long text. They are rejected if the resulting text would be too long. */
+/** The user events that can insert long text. Such an event is rejected if the resulting text would be too long. */
 const LONG_TEXT_EVENTS = ["input.paste", "input.drop"];
 
 insertRulesIntoSheet();
@@ -94,15 +94,15 @@ export class LineEditor {
     /** @type {Map<string, Layer>} the layers of marks, by gutter */
     this.marks = new Map(options.gutters.filter((name) => name !== "numbers").map((name) => [name, makeMarkLayer()]));
     this.layers = { next: makeTextLayer(), nextNumber: makeGutterLayer(), lacking: makeGutterLayer(), errors: makeTextLayer(),
-      values: makeTextLayer(), below: makeBelowLayer() };
+      values: makeTextLayer(), below: makeElementLayer() };
     /** @type {HTMLElement | null} the element below a line, if there is one */
-    this.nodeBelow = null;
+    this.elementBelow = null;
     /** @type {(() => void)[]} listeners that are called after each edit */
     this.editListeners = [];
     /** @type {(() => void)[]} listeners that are called when the text scrolls */
     this.scrollListeners = [];
     this.extensions = this.makeExtensions(options);
-    /** @type {EditorView | null} CodeMirror's view. It is created late, because a view costs much more time than a state. */
+    /** @type {EditorView | null} CodeMirror's view; null until it is needed, because creating a view takes much longer than a state */
     this.createdView = null;
     /** The state while there is no view. */
     this.stateWithoutView = this.makeState("");
@@ -120,7 +120,7 @@ export class LineEditor {
   }
 
   /** Creates the view if there is none. */
-  prepare() {
+  ensureView() {
     return this.view;
   }
 
@@ -391,7 +391,7 @@ export class LineEditor {
    * Returns the numbers, from 0, of the lines that have a mark in a gutter.
    * @param {string} gutter
    */
-  marksIn(gutter) {
+  findMarkedLines(gutter) {
     /** @type {number[]} */
     const lines = [];
     const layer = this.marks.get(gutter);
@@ -405,7 +405,7 @@ export class LineEditor {
    * @param {number[]} lines line numbers from 0, in ascending order
    */
   showLineStyle(name, lines) {
-    const style = styleOfLine(name);
+    const style = findLineStyle(name);
     const lineStarts = lines.map((line) => this.doc.line(line + 1).from);
     this.layers[name === "next" ? "nextNumber" : "lacking"].show(this, lineStarts.map((from) => style.gutters.range(from)));
     if (name === "next") this.layers.next.show(this, lineStarts.map((from) => style.line.range(from)));
@@ -426,18 +426,18 @@ export class LineEditor {
    * @param {number} line from 0
    * @param {HTMLElement | null} node null to show no element
    */
-  showBelow(line, node) {
-    this.nodeBelow = node;
+  showElementBelow(line, node) {
+    this.elementBelow = node;
     this.fitElementBelow();
     this.layers.below.show(this, node ? [makeElementBelow(node).range(this.offset({ line, ch: Infinity }))] : []);
   }
 
   /** Limits the width of the element below a line to the visible part of the text. */
   fitElementBelow() {
-    if (!this.nodeBelow) return;
+    if (!this.elementBelow) return;
     const guttersWidth = findDescendant(this.view.dom, ".cm-gutters", HTMLElement).offsetWidth;
-    this.nodeBelow.style.setProperty("left", `${guttersWidth}px`);
-    this.nodeBelow.style.setProperty("max-width", `${this.view.scrollDOM.clientWidth - guttersWidth}px`);
+    this.elementBelow.style.setProperty("left", `${guttersWidth}px`);
+    this.elementBelow.style.setProperty("max-width", `${this.view.scrollDOM.clientWidth - guttersWidth}px`);
   }
 
   focus() {
@@ -495,13 +495,13 @@ export class LineEditor {
   }
 
   /** @param {boolean} wraps true if long lines wrap */
-  wrap(wraps) {
+  setWrapping(wraps) {
     if (wraps === this.wraps) return;
     this.wraps = wraps;
     this.dispatch({ effects: this.lineWrapping.reconfigure(wraps ? EditorView.lineWrapping : []) });
   }
 
-  /** Measures the layout again after elements around the text have changed their sizes. */
+  /** Measures the layout again. Called after elements around the text have changed size. */
   refresh() {
     if (!this.createdView) return;
     this.fitElementBelow();
@@ -519,8 +519,8 @@ export class LineEditor {
    */
   withWrapping(state) {
     const wrapping = this.wraps ? EditorView.lineWrapping : [];
-    const isSame = (this.lineWrapping.get(state) === EditorView.lineWrapping) === this.wraps;
-    return isSame ? state : state.update({ effects: this.lineWrapping.reconfigure(wrapping) }).state;
+    const hasSameWrapping = (this.lineWrapping.get(state) === EditorView.lineWrapping) === this.wraps;
+    return hasSameWrapping ? state : state.update({ effects: this.lineWrapping.reconfigure(wrapping) }).state;
   }
 
   /**
@@ -531,7 +531,7 @@ export class LineEditor {
     const previousState = this.state;
     if (!this.createdView) {
       this.stateWithoutView = this.withWrapping(state);
-      if (this.isInFront()) this.prepare();
+      if (this.isInFront()) this.ensureView();
       return previousState;
     }
     // CodeMirror measures line heights, and would otherwise change the scroll position to keep the same line in place.

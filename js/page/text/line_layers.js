@@ -130,7 +130,7 @@ export function makeTextLayer() {
 }
 
 /** Returns a layer for elements below lines. An element stays below its line when the user starts a new line at the end of that line. */
-export function makeBelowLayer() {
+export function makeElementLayer() {
   return new Layer((field) => EditorView.decorations.from(field), (ranges, { changes, docChanged, newDoc, startState: { doc } }) => {
     if (!docChanged) return ranges;
     const movedRanges = [];
@@ -151,7 +151,7 @@ export function makeGutterLayer() {
   return new Layer((field) => gutterLineClass.from(field));
 }
 
-/** Returns a layer for the marks of one gutter. `makeLayerGutter` returns the gutter that shows them. */
+/** Returns a layer for the marks of one gutter. `makeLayerGutter` returns the gutter that shows these marks. */
 export function makeMarkLayer() {
   return new Layer(() => []);
 }
@@ -177,8 +177,11 @@ export function makeTextMark(name, { text, description }) {
 /** @type {Map<string, { line: Decoration, gutters: GutterMarker }>} the line styles, by name */
 const lineStyles = new Map();
 
-/** @param {string} name the CSS class of the line; the class of its gutters has the prefix `at-` */
-export function styleOfLine(name) {
+/**
+ * Returns the style of lines that have a CSS class. The CSS class of the gutters of these lines is `at-` and the name.
+ * @param {string} name the CSS class
+ */
+export function findLineStyle(name) {
   const style = lineStyles.get(name) || { line: Decoration.line({ class: name }), gutters: new GutterStyle(`at-${name}`) };
   lineStyles.set(name, style);
   return style;

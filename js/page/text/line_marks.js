@@ -1,5 +1,5 @@
 // Marks at the lines of a text editor: text in the gutters, and the mark of the next instruction. Marks move with their lines during edits.
-// Each call replaces the previous marks of the same kind.
+// New marks of a kind replace the previous marks of that kind.
 
 import { indices } from "../../core/bench/numbers.js";
 
@@ -19,7 +19,7 @@ export class LineMarks {
   clear() {
     for (const gutter of this.usedGutters) this.editor.showMarks(gutter, []);
     this.usedGutters.clear();
-    this.showNext(0);
+    this.showNextInstruction(0);
   }
 
   /**
@@ -41,7 +41,7 @@ export class LineMarks {
    * Marks the line of the next instruction.
    * @param {number} line the line number from 1, or 0 to mark no line
    */
-  showNext(line) {
+  showNextInstruction(line) {
     this.editor.showLineStyle("next", line > 0 && line <= this.editor.lineCount() ? [line - 1] : []);
   }
 }

@@ -2,7 +2,7 @@
 // at the next pause.
 
 /** The delay in milliseconds between the last edit and a check. */
-const CHECK_DELAY = 300;
+const CHECK_DELAY_MS = 300;
 
 /**
  * @template Result
@@ -26,7 +26,7 @@ export class LiveErrors {
   handleEdit() {
     this.checkCount += 1;
     clearTimeout(this.timer);
-    this.timer = window.setTimeout(() => this.checkNow().catch(this.reportFailure), CHECK_DELAY);
+    this.timer = window.setTimeout(() => this.checkNow().catch(this.reportFailure), CHECK_DELAY_MS);
   }
 
   /**

@@ -1,8 +1,8 @@
-// The description, below the text, of the word at the pointer or the caret: its current values, in cells that can be edited, and its
-// meaning. A tooltip at the pointer also shows the values.
+// The description of the word at the pointer or the caret, below the text: the word's meaning, and its current values in editable cells. A
+// tooltip at the pointer also shows the values.
 
 import { element } from "../ui/dom.js";
-import { putBelow } from "../ui/popup_message.js";
+import { placeBelow } from "../ui/popup_message.js";
 import { joinPieces } from "../../core/debug/word_values.js";
 import * as say from "../../words/text.js";
 
@@ -43,7 +43,7 @@ export class MeaningView {
    * @param {Piece[]} pieces the word's current values
    * @param {string} meaning the word's meaning
    */
-  set(pieces, meaning) {
+  showMeaning(pieces, meaning) {
     const layoutKey = layoutKeyOf(pieces);
     if (layoutKey !== this.layoutKey) {
       this.layoutKey = layoutKey;
@@ -77,7 +77,7 @@ export class MeaningView {
   showTooltip(pieces, { left, top }) {
     this.tooltip.textContent = joinPieces(pieces);
     this.tooltip.hidden = pieces.length === 0;
-    if (pieces.length > 0) putBelow(this.tooltip, { left, bottom: top }, POINTER_DISTANCE);
+    if (pieces.length > 0) placeBelow(this.tooltip, { left, bottom: top }, POINTER_DISTANCE);
   }
 
   hideTooltip() {

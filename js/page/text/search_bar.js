@@ -33,11 +33,11 @@ export class SearchBar {
     onClick(replaceButton, () => this.replace());
     onClick(replaceAllButton, () => this.replaceAll());
     this.replaceField.addEventListener("keydown", (event) => this.handleKey(event, () => this.replace()));
-    onClick(previousButton, () => this.find(true));
-    onClick(nextButton, () => this.find(false));
+    onClick(previousButton, () => this.goToMatch(true));
+    onClick(nextButton, () => this.goToMatch(false));
     onClick(closeButton, () => this.close());
-    this.field.addEventListener("input", () => this.find(false, this.editor.selectedRange.from));
-    this.field.addEventListener("keydown", (event) => this.handleKey(event, (isBack) => this.find(isBack)));
+    this.field.addEventListener("input", () => this.goToMatch(false, this.editor.selectedRange.from));
+    this.field.addEventListener("keydown", (event) => this.handleKey(event, (isBackward) => this.goToMatch(isBackward)));
   }
 
   /**
@@ -61,7 +61,7 @@ export class SearchBar {
 
   /**
    * @param {KeyboardEvent} event
-   * @param {(isBack: boolean) => void} action
+   * @param {(isBackward: boolean) => void} action
    */
   handleKey(event, action) {
     if (event.key !== "Enter" && event.key !== "Escape") return;
@@ -76,7 +76,7 @@ export class SearchBar {
     const query = this.field.value;
     const isSelected = query !== "" && editor.getSelection().toLowerCase() === query.toLowerCase();
     if (isSelected) editor.replaceSelection(this.replaceField.value);
-    this.find(false);
+    this.goToMatch(false);
   }
 
   /** Replaces all matches, as one undo step. */
@@ -91,10 +91,10 @@ export class SearchBar {
 
   /**
    * Selects the next or previous match, ignoring case. The search wraps around at the ends of the text.
-   * @param {boolean} isBack true to select the previous match
+   * @param {boolean} isBackward true to select the previous match
    * @param {number} startOffset the offset at which the search begins
    */
-  find(isBack, startOffset = this.editor.selectedRange[isBack ? "from" : "to"]) {
+  goToMatch(isBackward, startOffset = this.editor.selectedRange[isBackward ? "from" : "to"]) {
     const query = this.field.value;
     if (query === "") {
       this.status.set("");
@@ -103,7 +103,7 @@ export class SearchBar {
     const { editor } = this;
     const spans = this.findSpans(query);
     const previousMatch = spans.filter((span) => span.to <= startOffset).pop();
-    const match = (isBack ? previousMatch : spans.find((span) => span.from >= startOffset)) || spans[isBack ? spans.length - 1 : 0];
+    const match = (isBackward ? previousMatch : spans.find((span) => span.from >= startOffset)) || spans[isBackward ? spans.length - 1 : 0];
     this.status.set(match ? say.matchPosition(spans.indexOf(match) + 1, spans.length) : say.NOT_FOUND);
     if (!match) return;
     editor.setSelection(editor.position(match.from), editor.position(match.to));

@@ -5,7 +5,7 @@ import { StyleModule } from "style-mod";
 
 /** @type {Set<StyleModule>} the modules whose rules are in the style sheet */
 const addedModules = new Set();
-/** The number of rules that were inserted. */
+/** The number of rules that have been inserted so far. */
 let insertedCount = 0;
 
 /** Makes CodeMirror insert its style rules into the page's style sheet. */

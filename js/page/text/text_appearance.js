@@ -22,10 +22,10 @@ export class TextAppearance {
     this.editors = editors;
     onClick(button("text-smaller"), () => this.resize(this.size - 1));
     onClick(button("text-larger"), () => this.resize(this.size + 1));
-    const wrapBox = field("text-wrap");
-    wrapBox.checked = preferences.get("wrap") === "on";
-    wrapBox.addEventListener("change", () => {
-      preferences.set("wrap", wrapBox.checked ? "on" : "");
+    const wrapCheckBox = field("text-wrap");
+    wrapCheckBox.checked = preferences.get("wrap") === "on";
+    wrapCheckBox.addEventListener("change", () => {
+      preferences.set("wrap", wrapCheckBox.checked ? "on" : "");
       this.show();
     });
     this.show();
@@ -45,7 +45,7 @@ export class TextAppearance {
     block("texts").style.setProperty("--text-size", `${this.size}px`);
     const wraps = this.preferences.get("wrap") === "on";
     for (const editor of this.editors) {
-      editor.wrap(wraps);
+      editor.setWrapping(wraps);
       editor.refresh();
     }
   }

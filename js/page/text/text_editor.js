@@ -55,8 +55,8 @@ export class TextEditor {
     /** The line, counted from 1, to reveal once the text can be measured; 0 if there is none. */
     this.pendingLine = 0;
     /**
-     * True if the Tab key moves the focus out of the editor. This is so after Escape, and from the time when the editor receives the focus
-     * until the user types or clicks in it.
+     * True if the Tab key moves the focus out of the editor: after Escape, and after the editor has received the focus, until the user
+     * types or clicks in it.
      */
     this.tabMovesFocus = true;
     /** True if the editor has had the focus since its text was loaded, so that the user may have placed the caret. */
@@ -126,7 +126,7 @@ export class TextEditor {
 
   /** Restores the scroll position when a hidden text appears again, because the browser may have changed the position. */
   handleResize() {
-    if (this.container.offsetHeight > 0) this.lineEditor.prepare();
+    if (this.container.offsetHeight > 0) this.lineEditor.ensureView();
     if (this.container.offsetHeight === 0) this.scheduleScroll(this.pendingScrollTop === null ? this.scrollTop : this.pendingScrollTop);
     else if (this.pendingScrollTop === null) this.lineEditor.refresh();
     else this.lineEditor.callAfterLayout(() => this.applyScroll());
@@ -235,15 +235,15 @@ export class TextEditor {
    * Selects complete lines, scrolls them into view and focuses the editor.
    * @param {{ from: number, to: number }} lines the first and last line, from 1
    */
-  select({ from, to }) {
+  selectLines({ from, to }) {
     for (const line of [from, to]) unfold(this.lineEditor, line - 1);
     this.lineEditor.setSelection({ line: from - 1, ch: 0 }, { line: to - 1, ch: (this.lineEditor.getLine(to - 1) || "").length });
     this.lineEditor.focus();
   }
 
   /**
-   * Scrolls a line into view if it is out of view, and unfolds the folded range that contains the line. Moves neither the caret nor the
-   * page.
+   * Scrolls a line into view and unfolds the folded range that contains it. Moves neither the caret nor the page. Does not scroll if the
+   * line is visible.
    * @param {number} line from 1
    */
   reveal(line) {

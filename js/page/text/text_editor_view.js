@@ -210,7 +210,7 @@ export class TextEditorView {
     const position = this.editor.lineEditor.positionAt({ left, top });
     const helpText = this.messageOrHelpAt(position);
     const values = this.valuesAt(position);
-    if (helpText || values.length > 0) this.meaning.set(values, helpText);
+    if (helpText || values.length > 0) this.meaning.showMeaning(values, helpText);
     this.meaning.showTooltip(values, { left, top });
   }
 
@@ -228,7 +228,7 @@ export class TextEditorView {
   describeAtCaret() {
     const position = this.editor.lineEditor.getCursor();
     this.meaning.hideTooltip();
-    this.meaning.set(this.valuesAt(position), this.messageOrHelpAt(position));
+    this.meaning.showMeaning(this.valuesAt(position), this.messageOrHelpAt(position));
   }
 
   /**
@@ -239,7 +239,7 @@ export class TextEditorView {
     return this.errorView.messageAt(position) || this.language.describeWord(this.lines, position.line, position.ch);
   }
 
-  /** Schedules the description of the word at the caret. The delay of REST_DELAY_MS keeps typing fast. */
+  /** Schedules the description of the word at the caret after REST_DELAY_MS. Without this delay, typing would be slower. */
   scheduleDescription() {
     clearTimeout(this.descriptionTimer);
     this.descriptionTimer = window.setTimeout(() => this.describeAtCaret(), REST_DELAY_MS);
@@ -280,7 +280,7 @@ export class TextEditorView {
     this.status.set("");
     this.editor.open(sessionId, text);
     this.scheduleSizeUpdate();
-    this.meaning.set([], "");
+    this.meaning.showMeaning([], "");
   }
 
   /**
@@ -303,8 +303,8 @@ export class TextEditorView {
    * Marks the line of the next instruction and scrolls it into view.
    * @param {number} line the line number from 1, or 0 to mark no line
    */
-  showNext(line) {
-    this.marks.showNext(line);
+  showNextInstruction(line) {
+    this.marks.showNextInstruction(line);
     if (line > 0) this.editor.reveal(line);
   }
 
@@ -354,7 +354,7 @@ export class TextEditorView {
     this.calls.handleEdits(edits);
   }
 
-  /** Schedules the update of the displayed size of the text. The delay of REST_DELAY_MS keeps typing fast. */
+  /** Schedules the update of the displayed size of the text after REST_DELAY_MS. Without this delay, typing would be slower. */
   scheduleSizeUpdate() {
     clearTimeout(this.sizeTimer);
     this.sizeTimer = window.setTimeout(() => {

@@ -15,7 +15,7 @@ import { LINE_COLOURERS } from "../../core/text/test_colours.js";
  */
 
 /**
- * The callbacks to the tab that contains the editor.
+ * The callbacks through which the editor acts on the tab that contains it.
  * @typedef {object} TabCalls
  * @property {() => Promise<ProjectTextError[]>} findErrors Resolves to the errors of the board, the program and this text.
  * @property {(count: number) => void} showErrorCount Shows the number of errors in this text.
@@ -87,13 +87,13 @@ export class TextTab {
   }
 
   handleEdit() {
-    this.offerFirstText();
+    this.updateFirstTextOffer();
     this.liveErrors.handleEdit();
     this.calls.handleEdit();
   }
 
   /** Shows the button for a first text only while the editor is empty. */
-  offerFirstText() {
+  updateFirstTextOffer() {
     button(this.kind.insertButton).hidden = this.editor.text.trim() !== "";
   }
 
@@ -102,7 +102,7 @@ export class TextTab {
    * may have changed.
    */
   refresh() {
-    this.offerFirstText();
+    this.updateFirstTextOffer();
     this.liveErrors.checkNow().catch(this.calls.reportFailure);
   }
 

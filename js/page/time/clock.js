@@ -38,11 +38,11 @@ export class Clock {
     this.realTime = new RealTime(0, 0);
   }
 
-  get isFull() {
+  get isAtFullSpeed() {
     return this.speed.isFull;
   }
 
-  /** True if time is running so slowly that the page shows every line that runs. */
+  /** True if time is running slowly enough for the page to show each source line as it is executed. */
   get isSlow() {
     return this.isRunning && canUserFollowLine(this.speed);
   }
@@ -54,7 +54,7 @@ export class Clock {
 
   /** The time in milliseconds up to which cycles have been simulated. */
   get simulatedTime() {
-    return this.isFull ? performance.now() : this.realTime.simulatedUntil;
+    return this.isAtFullSpeed ? performance.now() : this.realTime.simulatedUntil;
   }
 
   /**
@@ -63,7 +63,7 @@ export class Clock {
    * @param {number} cycles
    */
   displayDuration(cycles) {
-    return this.isFull || this.speed.isByInstruction ? Infinity : (1000 * cycles) / this.realTime.perSecond;
+    return this.isAtFullSpeed || this.speed.isByInstruction ? Infinity : (1000 * cycles) / this.realTime.perSecond;
   }
 
   start() {
@@ -88,7 +88,7 @@ export class Clock {
 
   continueRun() {
     cancelAnimationFrame(this.frameRequest);
-    if (this.isFull) {
+    if (this.isAtFullSpeed) {
       this.calls.runAtFullSpeed().catch(this.calls.reportFailure);
       return;
     }
@@ -115,12 +115,12 @@ export class Clock {
    * @param {Key} key
    */
   simulateKeyPress(key) {
-    if (!this.isRunning || this.isFull || this.speed.isByInstruction) return false;
+    if (!this.isRunning || this.isAtFullSpeed || this.speed.isByInstruction) return false;
     this.mustRunAgain = this.isBusy;
     return this.runFrame(performance.now(), this.maxEarlyTime, key);
   }
 
-  /** The maximum time in milliseconds that a key press can be simulated early. */
+  /** The maximum time in milliseconds that the simulation can run early for a key press. */
   get maxEarlyTime() {
     return this.speed === REAL_TIME_SPEED ? MAX_EARLY_MS : 0;
   }
@@ -156,6 +156,6 @@ export class Clock {
     } finally {
       this.isBusy = false;
     }
-    if (this.mustRunAgain && this.isRunning && !this.isFull) this.runFrame(performance.now(), this.maxEarlyTime);
+    if (this.mustRunAgain && this.isRunning && !this.isAtFullSpeed) this.runFrame(performance.now(), this.maxEarlyTime);
   }
 }

@@ -1,4 +1,5 @@
-// The cycle counter. It shows the cycles since the last reset, in the current or last run, and since a marker or between two markers.
+// The cycle counter. It shows the cycles since the last reset, the cycles of the current or last run, and the cycles since the last marker
+// or between two markers.
 
 import { Cycles, formatCycles } from "../../core/time/cycles.js";
 import { Cell, block, element, onClick } from "../ui/dom.js";
@@ -7,10 +8,10 @@ import * as say from "../../words/time.js";
 /** @typedef {import("../../core/time/cycles.js").StoredCycles} StoredCycles */
 
 /** The interval in milliseconds between updates while time is running. */
-const SHOW_INTERVAL = 250;
+const SHOW_INTERVAL_MS = 250;
 
 export class CyclesView {
-  /** @param {() => void} onMark called after the user has set another marker */
+  /** @param {() => void} onMark called after the user has set a marker */
   constructor(onMark) {
     this.cycles = new Cycles();
     this.lastShowTime = 0;
@@ -49,7 +50,7 @@ export class CyclesView {
    */
   update(counts, isRunning) {
     this.cycles.update(counts);
-    if (isRunning && performance.now() - this.lastShowTime < SHOW_INTERVAL) return;
+    if (isRunning && performance.now() - this.lastShowTime < SHOW_INTERVAL_MS) return;
     if (!isRunning) this.cycles.recordPause();
     this.show();
   }

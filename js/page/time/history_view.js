@@ -1,4 +1,4 @@
-// The bar that moves back and forward in time: by instructions, and to the next or previous change.
+// The bar whose buttons move back and forward in time: by a number of instructions, or to a change of a value.
 
 import { button, byId, element, field, onClick } from "../ui/dom.js";
 import { parseGoal } from "../../core/debug/condition_search.js";
@@ -52,15 +52,15 @@ export class HistoryView {
     onClick(button("step-many"), () => this.stepByCount());
     onClick(button("until-change"), () => this.useTypedGoal((goal) => calls.runToGoal(goal)));
     onClick(button("back-change"), () => this.useTypedGoal((goal) => calls.goBack(goal)));
-    this.onEnter(this.countField, () => this.stepByCount());
-    this.onEnter(this.placeField, () => this.useTypedGoal((goal) => calls.runToGoal(goal)));
+    this.listenForEnter(this.countField, () => this.stepByCount());
+    this.listenForEnter(this.placeField, () => this.useTypedGoal((goal) => calls.runToGoal(goal)));
   }
 
   /**
    * @param {HTMLInputElement} input
    * @param {() => void} action
    */
-  onEnter(input, action) {
+  listenForEnter(input, action) {
     input.addEventListener("keydown", (event) => {
       if (event.key !== "Enter") return;
       event.preventDefault();

@@ -1,4 +1,5 @@
-// Runs and pauses time, with the clock or at full speed. Handles the frames that the worker reports.
+// Runs and pauses time. At full speed, the worker runs on its own; at other speeds, the page's clock runs the cycles. Handles the frames
+// that the worker reports.
 
 import { isRefusalOrStop, readRun, parseRefusal } from "../../core/bench/answers.js";
 import { describeUserPause, runningToGoal, pauseMessage } from "../../words/stops.js";
@@ -30,8 +31,8 @@ import * as say from "../../words/time.js";
  * @typedef {object} RunControllerCalls
  * @property {() => void} handleRunStart Handles the start of a run.
  * @property {() => void} handleRunEnd Handles the end of a run, after the page shows its final state.
- * @property {(frame: Frame) => void} showFrame Shows, logs and counts the contents of a frame.
- * @property {() => void} drawSlowViews Updates the views that are updated less often while time is running.
+ * @property {(frame: Frame) => void} showFrame Shows a frame, logs its lines, and updates the hit counts of breakpoints.
+ * @property {() => void} updateThrottledViews Updates the views that are updated less often while time is running fast.
  * @property {() => void} drawListing Updates the disassembly, which follows the program counter only at slow speeds.
  * @property {() => boolean} isSecondCyclePending Returns true if the second cycle of an instruction is pending.
  * @property {() => number} cycles Returns the total number of cycles in the session.
@@ -46,7 +47,7 @@ import * as say from "../../words/time.js";
  */
 
 /** The interval in milliseconds between saves of the session while time is running. */
-const SAVE_INTERVAL = 1000;
+const SAVE_INTERVAL_MS = 1000;
 /** The time in milliseconds for which the message about a standstill stays. */
 const STANDSTILL_MESSAGE_MS = 8000;
 
@@ -92,7 +93,7 @@ export class RunController {
     });
   }
 
-  /** True if time is running so fast that the page cannot show every line that runs. */
+  /** True if time is running too fast for the page to show each source line as it is executed. */
   get isFast() {
     return this.clock.isRunning && !this.clock.isSlow;
   }
@@ -128,7 +129,7 @@ export class RunController {
     this.showMessage(goal ? runningToGoal(goal) : say.runningMessage(currentSession.name, calls.countInvalidBreakpoints()));
     this.clock.start();
     this.startRateMeasurement();
-    bench.isRunning = this.clock.isFull;
+    bench.isRunning = this.clock.isAtFullSpeed;
     currentSession.save();
   }
 
@@ -143,8 +144,8 @@ export class RunController {
     else delete session.record.goal;
   }
 
-  /** Forgets the goal after a reset. For example, a subroutine that the goal waits for can no longer return. */
-  forgetGoal() {
+  /** Discards the goal of the run after a reset. For example, the goal may be the return from a subroutine that no longer runs. */
+  discardGoal() {
     this.goal = null;
   }
 
@@ -158,7 +159,7 @@ export class RunController {
   /** @param {Speed} speed */
   async setSpeed(speed) {
     const { bench } = this;
-    if (!speed.isFull && this.clock.isFull && this.clock.isRunning) this.handleFrame(await bench.call("halt", []));
+    if (!speed.isFull && this.clock.isAtFullSpeed && this.clock.isRunning) this.handleFrame(await bench.call("halt", []));
     this.clock.setSpeed(speed);
     this.sound.update();
     this.startRateMeasurement();
@@ -176,7 +177,7 @@ export class RunController {
     this.handleFrame(frame);
   }
 
-  /** Runs one instruction, which can take two cycles. A breakpoint or a watch can stop this run like any other run. */
+  /** Runs one instruction, which can take two cycles. Breakpoints and watches can stop it, as in any other run. */
   async runInstruction() {
     const { bench, calls } = this;
     this.handleFrame(await bench.call("advance", [1]));
@@ -187,7 +188,7 @@ export class RunController {
   setHidden(isHidden) {
     const { bench, currentSession, calls } = this;
     if (isHidden) this.clock.handlePageHidden();
-    if (this.clock.isFull && this.clock.isRunning) bench.call("setHidden", [isHidden]).catch(calls.reportFailure);
+    if (this.clock.isAtFullSpeed && this.clock.isRunning) bench.call("setHidden", [isHidden]).catch(calls.reportFailure);
     if (isHidden) currentSession.saveNow();
   }
 
@@ -220,7 +221,7 @@ export class RunController {
     this.showRunning(false);
     this.showMessage(reason);
     this.showRate();
-    calls.drawSlowViews();
+    calls.updateThrottledViews();
     calls.drawListing();
     calls.handleRunEnd();
   }
@@ -244,7 +245,7 @@ export class RunController {
     }
     // A breakpoint may already have stopped the run.
     if (currentSession.session && currentSession.session.record.runs) {
-      calls.drawSlowViews();
+      calls.updateThrottledViews();
       this.endRun(describeUserPause(this.goal, calls.cycles() - this.startCycles, this.counterText));
     }
     await currentSession.save();
@@ -273,7 +274,7 @@ export class RunController {
     }
     if (isNewRate || !this.clock.isRunning) this.showRate();
     // A key change is saved at once. A hidden page receives one frame per second and saves after each frame.
-    if (frame.changesKeys || document.hidden || performance.now() - currentSession.lastSaveTime >= SAVE_INTERVAL) currentSession.save();
+    if (frame.changesKeys || document.hidden || performance.now() - currentSession.lastSaveTime >= SAVE_INTERVAL_MS) currentSession.save();
   }
 
   /** The program counter with its name in the source and its source line, as text. */
@@ -317,7 +318,7 @@ export class RunController {
   }
 
   /**
-   * Returns true if a key will be down after all queued presses and releases. If none are queued, returns `isDown`.
+   * Returns true if a key will be down after all queued presses and releases. If no press or release is queued, returns `isDown`.
    * @param {Key} key
    * @param {boolean} isDown true if the bench reports the key as down
    */

@@ -38,7 +38,7 @@ export class ConfirmDialog {
   }
 
   /**
-   * Asks a question. Resolves to true if the user accepts. A question that is still open resolves to false first.
+   * Asks a question. Resolves to true if the user accepts. If another question is still open, that question first resolves to false.
    * @param {Question} question
    * @returns {Promise<boolean>}
    */

@@ -14,7 +14,7 @@ export function byId(id, kind) {
 }
 
 /**
- * Returns the element with an id. It can be any HTML element.
+ * Returns the HTML element with an id.
  * @param {string} id
  */
 export const block = (id) => byId(id, HTMLElement);
@@ -115,8 +115,8 @@ export function makePressedSwitch(node) {
 }
 
 /**
- * Calls `action` on each click. After a click with the pointer, the button loses the focus, so that Enter and the space bar press the
- * board's keys again.
+ * Calls `action` on each click. After a mouse click, removes the focus from the button, so that Enter and the space bar press the board's
+ * keys again.
  * @param {HTMLElement} node
  * @param {() => void} action
  */

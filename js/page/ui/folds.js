@@ -28,26 +28,26 @@ export function makeFolds(preferences) {
  */
 function makeFold(panel, title, preferences) {
   const preferenceKey = `fold.${panel.id}`;
-  const fold = element("button", { type: "button", className: "fold", title: say.FOLDS }, title);
+  const foldButton = element("button", { type: "button", className: "fold", title: say.FOLDS }, title);
   let isFolded = preferences.get(preferenceKey) === "folded";
   const showState = () => {
     panel.classList.toggle("folded", isFolded);
-    fold.setAttribute("aria-expanded", String(!isFolded));
+    foldButton.setAttribute("aria-expanded", String(!isFolded));
   };
-  onClick(fold, () => {
+  onClick(foldButton, () => {
     isFolded = !isFolded;
     preferences.set(preferenceKey, isFolded ? "folded" : "unfolded");
     showState();
   });
   showState();
-  return fold;
+  return foldButton;
 }
 
 /**
- * Unfolds a panel that is folded.
+ * Unfolds a panel if it is folded.
  * @param {string} id
  */
 export function unfold(id) {
-  const fold = block(id).querySelector("h2 > .fold[aria-expanded='false']");
-  if (fold instanceof HTMLElement) fold.click();
+  const foldButton = block(id).querySelector("h2 > .fold[aria-expanded='false']");
+  if (foldButton instanceof HTMLElement) foldButton.click();
 }

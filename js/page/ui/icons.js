@@ -3,7 +3,7 @@
 import { svgElement } from "./svg.js";
 
 /** The SVG path commands of each icon: first its lines, then, after a `|`, its filled shapes. */
-const SHAPES = {
+const ICON_PATHS = {
   continue: "|M4,2.5,13,8l-9,5.5z",
   pause: "|M4,3h3v10H4zM9,3h3v10H9z",
   over: "M2,8a6,5,0,0,1,11-1M13,3v4H9|M6.7,13a1.3,1.3,0,1,0,2.6,0,1.3,1.3,0,1,0-2.6,0z",
@@ -37,10 +37,10 @@ const SHAPES = {
   close: "M4,4l8,8M12,4l-8,8",
 };
 
-/** @typedef {keyof typeof SHAPES} IconName */
+/** @typedef {keyof typeof ICON_PATHS} IconName */
 
 /** The names of all icons. */
-export const ICONS = /** @type {IconName[]} */ (Object.keys(SHAPES));
+export const ICON_NAMES = /** @type {IconName[]} */ (Object.keys(ICON_PATHS));
 
 /**
  * Returns a new icon. Screen readers skip the icon, because the surrounding control has a label.
@@ -48,7 +48,7 @@ export const ICONS = /** @type {IconName[]} */ (Object.keys(SHAPES));
  * @returns {SVGElement}
  */
 export function icon(name) {
-  const [lines, filledShapes = ""] = SHAPES[name].split("|");
+  const [lines, filledShapes = ""] = ICON_PATHS[name].split("|");
   const parts = [...(lines ? [svgElement("path", { d: lines })] : []),
     ...(filledShapes ? [svgElement("path", { class: "filled", d: filledShapes })] : [])];
   return svgElement("svg", { "class": "icon", "viewBox": "0 0 16 16", "aria-hidden": "true", "focusable": "false" }, ...parts);

@@ -1,6 +1,6 @@
-// Notices about errors and about actions that can be undone. At most three are visible, and they stay in view while the page scrolls. For
-// most kinds, only the newest notice is visible. Undoable actions and sessions that were not opened each have their own notice. An error
-// notice disappears when its cause is gone; a success notice disappears after some time. A list shows all past notices.
+// Notices about errors and about actions that can be undone. At most three notices are visible; they stay in view while the page scrolls.
+// Most kinds show only their newest notice, but each undoable action and each session that was not opened has its own notice. An error
+// notice disappears when its cause is gone, a success notice after some time. A list shows all past notices.
 
 import { block, element } from "./dom.js";
 import { NoticeList } from "./notice_list.js";
@@ -35,8 +35,8 @@ const SUCCESS_NOTICE_MS = 8000;
 const MAX_VISIBLE_NOTICES = 3;
 
 /**
- * Returns the notices to remove so that at most MAX_VISIBLE_NOTICES remain: first the oldest success notices, then the oldest others. The
- * newest notice stays.
+ * Returns the notices to remove so that at most MAX_VISIBLE_NOTICES remain: first the oldest success notices, then the oldest notices of
+ * other kinds. The newest notice stays.
  * @template {{ kind: NoticeKind }} AnyRow
  * @param {AnyRow[]} rows the notices, newest first
  * @returns {AnyRow[]}
@@ -84,16 +84,16 @@ export class Notice {
     this.block.prepend(row.node);
     this.block.hidden = false;
     for (const oldRow of findNoticesToRemove(this.rows)) this.remove(oldRow);
-    if (SUCCESS_KINDS.has(kind)) this.removeLater(row);
+    if (SUCCESS_KINDS.has(kind)) this.scheduleRemoval(row);
   }
 
   /**
    * Removes a notice after SUCCESS_NOTICE_MS milliseconds, but not while the pointer or the focus is on the notice.
    * @param {Row} row
    */
-  removeLater(row) {
+  scheduleRemoval(row) {
     row.timer = window.setTimeout(() => {
-      if (row.node.matches(":hover, :focus-within")) this.removeLater(row);
+      if (row.node.matches(":hover, :focus-within")) this.scheduleRemoval(row);
       else this.remove(row);
     }, SUCCESS_NOTICE_MS);
   }
@@ -150,7 +150,7 @@ export class Notice {
     const node = element("button", { type: "button", className }, text);
     node.setAttribute("aria-label", label);
     node.addEventListener("click", (event) => {
-      // After a click with the pointer, the board must receive the keys again.
+      // After a mouse click, remove the focus from the button, so that the board receives key presses again.
       if (event.detail > 0) node.blur();
       action();
     });
@@ -158,8 +158,8 @@ export class Notice {
   }
 
   /**
-   * Moves the notices into an element, for example into a dialog that has opened. Outside the open dialog, the user could neither read nor
-   * use them.
+   * Moves the notices into an element, for example into a dialog that has opened, because the user can neither read nor use anything
+   * outside an open dialog.
    * @param {HTMLElement} host
    */
   moveTo(host) {

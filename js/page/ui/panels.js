@@ -6,18 +6,18 @@ import * as say from "../../words/workbench.js";
 
 /**
  * @typedef {import("./preferences.js").Preferences} Preferences
- * @typedef {{ id: string, name: string, node: HTMLElement, openSwitch: Switch, checkBox: HTMLInputElement }} Panel
+ * @typedef {{ id: string, name: string, node: HTMLElement, visibilitySwitch: Switch, checkBox: HTMLInputElement }} Panel
  */
 
 /** The key of the stored preference for the maximised panel. */
 const MAXIMISED_KEY = "full";
 
 /**
- * Returns the row at the top of a panel: the panel's row of tabs, or a new row that contains its heading. Returns the panel itself if it
- * has neither.
+ * Returns the row at the top of a panel: the panel's row of tabs, or a new row that contains its heading. Returns the panel itself if the
+ * panel has neither tabs nor a heading.
  * @param {HTMLElement} panel
  */
-function prepareHead(panel) {
+function ensureHeader(panel) {
   const head = panel.querySelector(".tab-row, h2") || panel;
   if (!head.matches("h2")) return head;
   const row = element("div", { className: "panel-head" });
@@ -58,16 +58,16 @@ export class Panels {
   makePanel(id, name) {
     const node = block(id);
     const checkBox = element("input", { type: "checkbox", autocomplete: "off" });
-    const openSwitch = new Switch((isOn) => node.classList.toggle("closed", !isOn));
-    openSwitch.set(this.preferences.get(`panel.${id}`) !== "closed");
-    checkBox.checked = openSwitch.isOn;
+    const visibilitySwitch = new Switch((isOn) => node.classList.toggle("closed", !isOn));
+    visibilitySwitch.set(this.preferences.get(`panel.${id}`) !== "closed");
+    checkBox.checked = visibilitySwitch.isOn;
     checkBox.addEventListener("change", () => this.open(id, checkBox.checked));
     const [maximiseTitle, closeTitle] = [say.fullSizeLabel(name), say.closeLabel(name)];
     const tools = element("span", { className: "panel-tools" },
       makeButton("\u25A1", () => this.toggleMaximised(id), { "title": maximiseTitle, "aria-label": maximiseTitle, "tabIndex": -1 }),
       makeButton("\u00D7", () => this.open(id, false), { "title": closeTitle, "aria-label": closeTitle, "tabIndex": -1 }));
-    prepareHead(node).append(tools);
-    return { id, name, node, openSwitch, checkBox };
+    ensureHeader(node).append(tools);
+    return { id, name, node, visibilitySwitch, checkBox };
   }
 
   /** @param {Panel} panel */
@@ -108,7 +108,7 @@ export class Panels {
     const panel = this.find(id);
     if (!panel) return;
     if (!isOpen && this.maximisedId === id) this.setMaximised("");
-    panel.openSwitch.set(isOpen);
+    panel.visibilitySwitch.set(isOpen);
     panel.checkBox.checked = isOpen;
     this.preferences.set(`panel.${id}`, isOpen ? "" : "closed");
     this.updateColumns();
@@ -117,15 +117,15 @@ export class Panels {
   /** @param {string} id */
   toggle(id) {
     const panel = this.find(id);
-    if (panel) this.open(id, !panel.openSwitch.isOn);
+    if (panel) this.open(id, !panel.visibilitySwitch.isOn);
   }
 
   /** Hides the columns that have no open panels, so that the other columns use their space. */
   updateColumns() {
     const side = block("side");
     const { classList } = document.body;
-    classList.toggle("no-front", !this.panels.some(({ id, openSwitch }) => id === "front" && openSwitch.isOn));
-    classList.toggle("no-side", !this.panels.some(({ node, openSwitch }) => side.contains(node) && openSwitch.isOn));
+    classList.toggle("no-front", !this.panels.some(({ id, visibilitySwitch }) => id === "front" && visibilitySwitch.isOn));
+    classList.toggle("no-side", !this.panels.some(({ node, visibilitySwitch }) => side.contains(node) && visibilitySwitch.isOn));
   }
 
   /** @param {string} id */

@@ -13,7 +13,7 @@ const GAP = 4;
  * @param {{ left: number, bottom: number }} point window coordinates
  * @param {number} gap the distance in pixels between the point and the element
  */
-export function putBelow(node, { left, bottom }, gap) {
+export function placeBelow(node, { left, bottom }, gap) {
   const maxLeft = document.documentElement.clientWidth - node.offsetWidth - GAP;
   node.style.setProperty("left", `${Math.max(GAP, Math.min(left, maxLeft)) + scrollX}px`);
   node.style.setProperty("top", `${bottom + gap + scrollY}px`);
@@ -39,7 +39,7 @@ export class PopupMessage {
   show(message, anchor) {
     this.node.textContent = message;
     this.node.hidden = false;
-    putBelow(this.node, this.findAnchorBox(anchor), GAP);
+    placeBelow(this.node, this.findAnchorBox(anchor), GAP);
   }
 
   /** @param {HTMLElement} [anchor] */

@@ -4,7 +4,7 @@ import { Cell, block, button, findDescendant, onClick } from "./dom.js";
 import * as say from "../../words/page.js";
 
 /** The delay in milliseconds before the progress appears. Shorter work does not show any progress. */
-const SHOW_DELAY = 300;
+const SHOW_DELAY_MS = 300;
 
 export class ProgressView {
   constructor() {
@@ -22,7 +22,7 @@ export class ProgressView {
   }
 
   /**
-   * Performs work, and shows its progress if it takes long. Resolves to the result of the work.
+   * Performs work, and shows its progress if the work takes longer than SHOW_DELAY_MS. Resolves to the result of the work.
    * @template Result
    * @param {string} description the description of the work
    * @param {(signal: AbortSignal, progress: (done: number, total: number) => void) => Promise<Result>} work
@@ -30,7 +30,7 @@ export class ProgressView {
    */
   async show(description, work) {
     const controller = new AbortController();
-    const showTimer = setTimeout(() => this.open(description, controller), SHOW_DELAY);
+    const showTimer = setTimeout(() => this.open(description, controller), SHOW_DELAY_MS);
     try {
       return await work(controller.signal, (done, total) => {
         if (this.controller === controller) this.bar.value = done / total;

@@ -15,7 +15,7 @@ export class StatusView {
    * @param {boolean} isMatching true if the source is the program in ROM
    * @param {string} tooltip the tooltip that says how ROM and the source differ; "" if there is no source
    */
-  showRom(isMatching, tooltip) {
+  showRomStatus(isMatching, tooltip) {
     this.romText.set(isMatching ? say.ROM_MATCHES : tooltip === "" ? "" : say.ROM_DIFFERS);
     this.romText.node.title = tooltip;
   }
@@ -26,7 +26,7 @@ export class StatusView {
   }
 
   /** @param {"example" | "saved" | "failed"} state */
-  showSaved(state) {
+  showSaveState(state) {
     this.saveText.set(say.SAVED[state]);
   }
 }

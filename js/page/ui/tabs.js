@@ -77,12 +77,12 @@ export class Tabs {
    * Sets the short text that a tab shows about its contents; "" removes the text.
    * @param {string} name
    * @param {string} label
-   * @param {boolean} isGood true if the text reports a success
+   * @param {boolean} isSuccess true if the text reports a success
    */
-  setMark(name, label, isGood = false) {
+  setMark(name, label, isSuccess = false) {
     const { mark } = this.find(name);
     if (mark.textContent !== label) mark.textContent = label;
-    mark.classList.toggle("good", isGood);
+    mark.classList.toggle("good", isSuccess);
   }
 
   /** @param {KeyboardEvent} event */

@@ -57,7 +57,7 @@ export class Tooltips {
    * @param {boolean} skipsTitles true to skip elements whose `title` the browser shows itself
    * @returns {HTMLElement | null}
    */
-  find(target, skipsTitles) {
+  findNode(target, skipsTitles) {
     for (let node = target instanceof Element ? target : null; node; node = node.parentElement) {
       if (!(node instanceof HTMLElement)) continue;
       if (this.tips.has(node) || (!skipsTitles && node.title && node.matches("button, input, select, [tabindex]"))) return node;
@@ -67,16 +67,16 @@ export class Tooltips {
 
   /** @param {PointerEvent} event */
   handlePointerOver({ target, pointerType }) {
-    const node = pointerType === "touch" ? null : this.find(target, true);
+    const node = pointerType === "touch" ? null : this.findNode(target, true);
     if (!node || node === this.describedElement) return;
-    this.showLater(node, HOVER_DELAY_MS);
+    this.scheduleShow(node, HOVER_DELAY_MS);
   }
 
   /** @param {PointerEvent} event */
   handlePointerDown({ target, pointerType }) {
     this.hide();
     this.isOpenedByTouch = false;
-    const node = pointerType === "touch" ? this.find(target, false) : null;
+    const node = pointerType === "touch" ? this.findNode(target, false) : null;
     if (!node || node.matches("#keys *")) return;
     this.timer = window.setTimeout(() => {
       this.isOpenedByTouch = true;
@@ -103,15 +103,15 @@ export class Tooltips {
 
   /** @param {EventTarget | null} target */
   handleFocus(target) {
-    const node = this.find(target, false);
-    if (node && node === target && node.matches(":focus-visible")) this.showLater(node, 0);
+    const node = this.findNode(target, false);
+    if (node && node === target && node.matches(":focus-visible")) this.scheduleShow(node, 0);
   }
 
   /**
    * @param {HTMLElement} node
    * @param {number} time
    */
-  showLater(node, time) {
+  scheduleShow(node, time) {
     clearTimeout(this.timer);
     this.timer = window.setTimeout(() => this.show(node), time);
   }

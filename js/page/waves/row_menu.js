@@ -31,7 +31,7 @@ export class RowMenu {
   }
 
   /** @returns {MenuItem[]} */
-  get moveItems() {
+  get positionItems() {
     const { view } = this;
     const { selectedIndex } = view;
     return [
@@ -50,9 +50,10 @@ export class RowMenu {
     return [
       { label: say.FOLD, key: "Enter", act: () => view.toggleFold(group) },
       { label: say.RENAME,
-        act: () => this.askName(say.nameLabel(group), group, (newName) => newName && view.changeLines(memberNames(), { group: newName })) },
-      { label: say.UNGROUP, act: () => view.changeLines(memberNames(), { group: "" }) },
-      ...this.moveItems,
+        act: () => this.askName(say.nameLabel(group), group, (newName) => (
+          newName && view.changeAppearance(memberNames(), { group: newName }))) },
+      { label: say.UNGROUP, act: () => view.changeAppearance(memberNames(), { group: "" }) },
+      ...this.positionItems,
     ];
   }
 
@@ -62,17 +63,17 @@ export class RowMenu {
    */
   makeLineItems({ name, title, colour, group }) {
     const { view } = this;
-    const leaveItem = { label: say.LEAVE_GROUP, act: () => view.changeLines([name], { group: "" }) };
-    const joinItem = {
-      label: say.GROUP, act: () => this.askName(say.groupLabel(name), "", (newName) => view.changeLines([name], { group: newName })),
+    const leaveGroupItem = { label: say.LEAVE_GROUP, act: () => view.changeAppearance([name], { group: "" }) };
+    const joinGroupItem = {
+      label: say.GROUP, act: () => this.askName(say.groupLabel(name), "", (newName) => view.changeAppearance([name], { group: newName })),
     };
     const colourItems = /** @type {const} */ (["", ...ROW_COLOURS]).map((choice) => (
-      { label: say.COLOURS[choice], isChosen: () => colour === choice, act: () => view.changeLines([name], { colour: choice }) }));
+      { label: say.COLOURS[choice], isChosen: () => colour === choice, act: () => view.changeAppearance([name], { colour: choice }) }));
     return [
       { label: say.RENAME, act: () => this.askName(say.nameLabel(name), title || name,
-        (newTitle) => view.changeLines([name], { title: newTitle === name ? "" : newTitle })) },
-      group === "" ? joinItem : leaveItem,
-      ...this.moveItems,
+        (newTitle) => view.changeAppearance([name], { title: newTitle === name ? "" : newTitle })) },
+      group === "" ? joinGroupItem : leaveGroupItem,
+      ...this.positionItems,
       { label: say.HIDE, act: () => view.calls.hide(name) },
       ...colourItems,
     ];

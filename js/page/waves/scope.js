@@ -25,7 +25,7 @@ import * as say from "../../words/waves.js";
 /**
  * The callbacks of the logic analyser.
  * @typedef {object} ScopeCalls
- * @property {(cycles: number, isBefore: boolean, values: string[]) => Promise<Recording | null>} record Records the last `cycles` cycles
+ * @property {(cycles: number, isBefore: boolean, values: string[]) => Promise<Recording | null>} record Records the past `cycles` cycles
  *   if `isBefore` is true, otherwise the next `cycles` cycles. `values` are the names of registers and nibbles to
  *   include. Resolves to null after a failure. A failure has already been reported.
  * @property {(setup: { trigger: string } & LiveSetup, values: string[]) => Promise<{ recording: Recording | null, error: string } | null>}
@@ -40,21 +40,21 @@ import * as say from "../../words/waves.js";
  */
 
 /** The interval in milliseconds at which the picture of a recording in progress is updated. */
-const DRAW_INTERVAL = 100;
+const DRAW_INTERVAL_MS = 100;
 
 /** Lets at most one panel be open below the controls. Escape and a click outside the panel close the panel. */
 function listenToPanels() {
   const panels = [.../** @type {NodeListOf<HTMLDetailsElement>} */ (block("wave-bar").querySelectorAll(".pop"))];
-  const closeOthers = (/** @type {EventTarget | null} */ target) => {
+  const closePanelsWithout = (/** @type {EventTarget | null} */ target) => {
     for (const panel of panels) if (panel.open && !(target instanceof Node && panel.contains(target))) panel.open = false;
   };
-  addEventListener("pointerdown", ({ target }) => closeOthers(target), true);
+  addEventListener("pointerdown", ({ target }) => closePanelsWithout(target), true);
   const filesPanel = byId("wave-files", HTMLDetailsElement);
   filesPanel.addEventListener("click", ({ target }) => {
     if (target instanceof HTMLButtonElement) filesPanel.open = false;
   });
   for (const panel of panels) {
-    panel.addEventListener("toggle", () => panel.open && closeOthers(panel));
+    panel.addEventListener("toggle", () => panel.open && closePanelsWithout(panel));
     panel.addEventListener("keydown", (event) => {
       if (event.key !== "Escape") return;
       panel.open = false;
@@ -63,7 +63,7 @@ function listenToPanels() {
   }
 }
 
-/** Keeps a CSS property equal to the height of the controls, because panels open below the controls. */
+/** Keeps a CSS property equal to the height of the controls. The style sheet uses this property to place panels below the controls. */
 function trackControlsHeight() {
   const bar = block("wave-bar");
   new ResizeObserver(() => block("scope").style.setProperty("--wave-bar-height", `${bar.offsetHeight}px`)).observe(bar);
@@ -82,7 +82,9 @@ export class Scope {
     this.view = new WaveView({ goTo: calls.goTo, hide: (name) => this.choice.select(name, false), storeRows: calls.storeRows });
     /** @type {WaveChoice} */
     this.choice = new WaveChoice({
-      boardLines: calls.boardLines, showLines: (lines) => this.view.setChosenLines(lines), handleMissingValues: () => this.restartLive(),
+      boardLines: calls.boardLines,
+      showLines: (lines) => this.view.setChosenLines(lines),
+      handleMissingValues: () => this.restartLiveRecording(),
     });
     this.isBusy = false;
     /** @type {LiveWaves | null} the last live recording, which records while time is running; null if there is none */
@@ -91,7 +93,7 @@ export class Scope {
     this.isUpToDate = true;
     this.periodSelect = byId("record-where", HTMLSelectElement);
     this.addListeners();
-    this.showTrigger();
+    this.updateTriggerVisibility();
   }
 
   addListeners() {
@@ -106,11 +108,11 @@ export class Scope {
         if (event.key === "Enter") this.record();
       });
     }
-    this.periodSelect.addEventListener("change", () => this.showTrigger());
-    onClick(button("find-before"), () => this.find(false));
-    onClick(button("find-after"), () => this.find(true));
+    this.periodSelect.addEventListener("change", () => this.updateTriggerVisibility());
+    onClick(button("find-before"), () => this.findNextMatch(false));
+    onClick(button("find-after"), () => this.findNextMatch(true));
     field("wave-search").addEventListener("keydown", (event) => {
-      if (event.key === "Enter") this.find(!event.shiftKey);
+      if (event.key === "Enter") this.findNextMatch(!event.shiftKey);
       if (event.key === "Escape") this.view.canvas.focus();
     });
     const baseSelect = byId("wave-base", HTMLSelectElement);
@@ -122,7 +124,7 @@ export class Scope {
   }
 
   /** Shows the trigger's controls only for a live recording. */
-  showTrigger() {
+  updateTriggerVisibility() {
     block("trigger-bar").hidden = this.periodSelect.value !== "live";
   }
 
@@ -149,8 +151,8 @@ export class Scope {
     // Clear the status, so that screen readers announce the same message again.
     this.status.set("");
     try {
-      if (this.isLive) await this.finishLive();
-      else if (this.periodSelect.value === "live") await this.beginLive();
+      if (this.isLive) await this.finishLiveRecording();
+      else if (this.periodSelect.value === "live") await this.beginLiveRecording();
       else await this.recordOnce(this.periodSelect.value === "before");
     } finally {
       this.isBusy = false;
@@ -188,16 +190,16 @@ export class Scope {
     if (maxCycles < 0 || cyclesAfter < 0) return null;
     field("behind").setAttribute("aria-invalid", String(cyclesAfter > maxCycles));
     if (cyclesAfter > maxCycles) this.status.set(say.tooManyCyclesAfterMessage(maxCycles.toLocaleString("en")));
-    const stopsTime = byId("stops-time", HTMLInputElement).checked;
-    return cyclesAfter > maxCycles ? null : { maxCycles, cyclesAfterTrigger: cyclesAfter, trigger, stopsTime };
+    const pausesAtEnd = byId("stops-time", HTMLInputElement).checked;
+    return cyclesAfter > maxCycles ? null : { maxCycles, cyclesAfterTrigger: cyclesAfter, trigger, pausesAtEnd };
   }
 
-  async beginLive() {
+  async beginLiveRecording() {
     const settings = this.readLiveSettings();
     if (!settings) return;
     this.selectTriggerLine(settings.trigger);
-    const { trigger, cyclesAfterTrigger: cyclesAfter, stopsTime } = settings;
-    const liveSetup = { trigger, cyclesAfterTrigger: cyclesAfter, stopsMachine: stopsTime };
+    const { trigger, cyclesAfterTrigger: cyclesAfter, pausesAtEnd } = settings;
+    const liveSetup = { trigger, cyclesAfterTrigger: cyclesAfter, stopsMachine: pausesAtEnd };
     const result = await this.calls.startLive(liveSetup, this.choice.valueNames);
     if (!result) return;
     const { recording, error } = result;
@@ -206,7 +208,7 @@ export class Scope {
     if (!recording) return;
     this.liveWaves = new LiveWaves(recording, settings);
     this.show(this.liveWaves.waves);
-    this.showLive(this.liveWaves);
+    this.showLiveRecording(this.liveWaves);
   }
 
   /**
@@ -219,24 +221,24 @@ export class Scope {
     if (line && line.kind === "value" && !this.choice.selectedNames.has(line.name)) this.choice.select(line.name, true);
   }
 
-  async finishLive() {
+  async finishLiveRecording() {
     const part = await this.calls.endLive();
     if (part) this.addPart(part);
   }
 
   /** Restarts the recording in progress, because the user has selected values that the recording does not include. */
-  async restartLive() {
+  async restartLiveRecording() {
     if (!this.isLive || this.isBusy) return;
     this.isBusy = true;
     try {
-      await this.beginLive();
+      await this.beginLiveRecording();
     } finally {
       this.isBusy = false;
     }
   }
 
   /**
-   * Adds a new part to the recording. `part` is null if the bench has lost the recording.
+   * Adds a new part to the live recording. `part` is null if the bench no longer has the recording.
    * @param {LivePart | null} part
    */
   addPart(part) {
@@ -244,37 +246,37 @@ export class Scope {
     if (!liveWaves || !liveWaves.isRecording) return;
     if (part) liveWaves.append(part);
     else liveWaves.markLost();
-    if (!liveWaves.isRecording) this.drawLive(liveWaves);
+    if (!liveWaves.isRecording) this.drawLiveRecording(liveWaves);
     else if (this.isUpToDate) {
       this.isUpToDate = false;
-      setTimeout(() => this.drawLive(liveWaves), DRAW_INTERVAL);
+      setTimeout(() => this.drawLiveRecording(liveWaves), DRAW_INTERVAL_MS);
     }
   }
 
   /** @param {LiveWaves} liveWaves */
-  drawLive(liveWaves) {
+  drawLiveRecording(liveWaves) {
     this.isUpToDate = true;
     if (this.liveWaves !== liveWaves) return;
     this.view.handleGrowth(liveWaves.triggerMoment);
     if (liveWaves.endReason === "trigger") this.view.showAround(liveWaves.triggerMoment);
     else if (!liveWaves.isRecording) this.view.fit();
     this.choice.handleGrowth();
-    this.showLive(liveWaves);
+    this.showLiveRecording(liveWaves);
     const { endReason } = liveWaves;
     // A change of the program or the board ends the recording. The user usually wants the same recording again, so restart it.
-    if (endReason === "board" || endReason === "program") this.beginLive();
+    if (endReason === "board" || endReason === "program") this.beginLiveRecording();
   }
 
   /** Shows the complete recording so far when time is paused. */
   showPaused() {
     const { liveWaves } = this;
     if (!liveWaves || !liveWaves.isRecording) return;
-    this.drawLive(liveWaves);
+    this.drawLiveRecording(liveWaves);
     if (liveWaves.triggerMoment < 0) this.view.fit();
   }
 
   /** @param {LiveWaves} liveWaves */
-  showLive(liveWaves) {
+  showLiveRecording(liveWaves) {
     this.status.set(liveWaves.statusText);
     this.lengthStatus.set(liveWaves.isRecording ? liveWaves.lengthText : "");
     this.recordLabel.set(liveWaves.isRecording ? say.STOP_RECORDING : say.RECORD);
@@ -285,7 +287,7 @@ export class Scope {
    * Searches the recording for the query in the search field, starting at the cursor of the waves.
    * @param {boolean} isForward
    */
-  find(isForward) {
+  findNextMatch(isForward) {
     const { waves, selectedLine, view } = this.view;
     if (!waves) return;
     this.searchStatus.set("");
@@ -304,7 +306,7 @@ export class Scope {
     else this.searchStatus.set(say.notFoundMessage(query.trim(), isForward, formatNumber(view.moment)));
   }
 
-  /** Forgets the recording when another session is opened. */
+  /** Discards the recording. Called when another session is opened. */
   discardRecording() {
     this.liveWaves = null;
     this.view.waves = null;

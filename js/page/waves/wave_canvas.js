@@ -152,7 +152,7 @@ function drawRow(context, picture, rowIndex, y) {
   context.textAlign = "left";
   drawClipped(context, [gutter, y, view.width, ROW_HEIGHT], () => {
     context.strokeStyle = context.fillStyle = ink;
-    if (isDrawnAsBoxes(waves.lines[line])) drawTexts(context, picture, line, y);
+    if (isDrawnAsBoxes(waves.lines[line])) drawValueBoxes(context, picture, line, y);
     else drawLevels(context, picture, line, y);
     if (measuredRange && measuredRange.row === rowIndex) drawMeasuredRange(context, picture, measuredRange, y);
   });
@@ -236,7 +236,7 @@ function drawLevels(context, { waves, view, gutter }, line, y) {
  * @param {number} line
  * @param {number} y
  */
-function drawTexts(context, { waves, view, gutter }, line, y) {
+function drawValueBoxes(context, { waves, view, gutter }, line, y) {
   const changes = waves.changesOf(line);
   const [high, low] = [y + LEVEL_MARGIN + 0.5, y + ROW_HEIGHT - LEVEL_MARGIN - 0.5];
   const endX = Math.min(view.width, view.xAt(waves.cycles));

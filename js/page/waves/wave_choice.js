@@ -25,7 +25,7 @@ export class WaveChoice {
     this.waves = null;
     /** @type {Set<string>} the names of the selected lines and values */
     this.selectedNames = new Set();
-    /** True if the user has selected the lines; false if the page has selected the lines that change. */
+    /** True if the user has selected the lines; false if the page has selected the lines whose levels change. */
     this.isUserSelection = false;
     this.status = new Cell(block("signals-status"));
     /** @type {Map<string, HTMLInputElement>} the check boxes, by line name */
@@ -45,24 +45,24 @@ export class WaveChoice {
   /** @param {Waves} waves a new recording; lines whose names the user has selected stay selected */
   setRecording(waves) {
     this.waves = waves;
-    const isLineSelected = waves.lines.some(({ name, kind }) => kind !== "value" && this.selectedNames.has(name));
-    if (!isLineSelected) this.isUserSelection = false;
-    if (!this.isUserSelection) this.selectChangingIn(waves);
+    const hasSelectedLine = waves.lines.some(({ name, kind }) => kind !== "value" && this.selectedNames.has(name));
+    if (!hasSelectedLine) this.isUserSelection = false;
+    if (!this.isUserSelection) this.updateSelection(waves);
     this.draw();
     this.showSelection();
   }
 
-  /** Selects the lines that change, unless the user has selected lines. Called when the recording has grown. */
+  /** Selects the lines whose levels change, unless the user has selected lines. Called when the recording has grown. */
   handleGrowth() {
     if (this.isUserSelection || !this.waves) return;
-    if (this.selectChangingIn(this.waves)) this.showSelection();
+    if (this.updateSelection(this.waves)) this.showSelection();
   }
 
   /**
-   * Selects the lines that change, and keeps the selected values. Returns true if the selection has changed.
+   * Selects the lines whose levels change in a recording, and keeps the selected values. Returns true if the selection has changed.
    * @param {Waves} waves
    */
-  selectChangingIn(waves) {
+  updateSelection(waves) {
     const lineNames = chooseInitialLines(waves).map((line) => waves.lines[line].name);
     const valueNames = waves.lines.filter(({ name, kind }) => kind === "value" && this.selectedNames.has(name)).map(({ name }) => name);
     const newSelection = new Set([...lineNames, ...valueNames]);
@@ -74,10 +74,10 @@ export class WaveChoice {
 
   selectChangingLines() {
     this.isUserSelection = false;
-    if (this.waves && this.selectChangingIn(this.waves)) this.showSelection();
+    if (this.waves && this.updateSelection(this.waves)) this.showSelection();
   }
 
-  /** Forgets the recording and the selection. */
+  /** Discards the recording and the selection. */
   discardRecording() {
     this.waves = null;
     this.selectedNames.clear();

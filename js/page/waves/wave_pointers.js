@@ -107,8 +107,8 @@ export class WavePointers {
   }
 
   /**
-   * Handles a wheel event. A vertical turn zooms at the pointer, or scrolls the rows if the pointer is on their names. A sideways turn, or
-   * a turn with Shift, pans.
+   * Handles a wheel event. Vertical scrolling zooms at the pointer, or scrolls the rows if the pointer is on their names. Horizontal
+   * scrolling, or scrolling with Shift, pans.
    * @param {WheelEvent} event
    */
   handleWheel(event) {

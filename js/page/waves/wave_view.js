@@ -114,7 +114,7 @@ export class WaveView {
     onClick(button("zoom-all"), () => this.changeView(() => this.view.showAll()));
     onClick(button("edge-before"), () => this.moveToEdge(false));
     onClick(button("edge-after"), () => this.moveToEdge(true));
-    onClick(button("wave-go-to"), () => this.showInstruction());
+    onClick(button("wave-go-to"), () => this.showInstructionAtCursor());
     onClick(button("cursor-a"), () => this.activateCursor(0));
     onClick(button("cursor-b"), () => this.activateCursor(1));
   }
@@ -209,7 +209,7 @@ export class WaveView {
   }
 
   /**
-   * Returns a row's index after a change, or -1 if the row is no longer visible.
+   * Returns the current index of a row, or -1 if the row is no longer shown. The row can be from an earlier arrangement.
    * @param {WaveRow} row
    */
   indexOfRow({ line, group }) {
@@ -267,7 +267,7 @@ export class WaveView {
    * @param {string[]} names the names of the lines
    * @param {import("../../core/waves/wave_rows.js").RowAppearance} appearance
    */
-  changeLines(names, appearance) {
+  changeAppearance(names, appearance) {
     this.rearrange(() => names.forEach((name) => this.arrangement.changeAppearance(name, appearance)));
   }
 
@@ -368,7 +368,7 @@ export class WaveView {
   }
 
   /** Shows the instruction at the active cursor in the source and the disassembly. */
-  showInstruction() {
+  showInstructionAtCursor() {
     if (this.waves) this.calls.goTo(this.waves.counterAt(this.view.moment));
   }
 
@@ -376,7 +376,7 @@ export class WaveView {
   handleEnter() {
     const row = this.rows[this.selectedIndex];
     if (row && row.line < 0) this.toggleFold(row.group);
-    else this.showInstruction();
+    else this.showInstructionAtCursor();
   }
 
   /**
@@ -444,7 +444,7 @@ export class WaveView {
 
   // --- drawing ---
 
-  /** Requests one drawing at the next animation frame. */
+  /** Requests that the waves be drawn at the next animation frame. */
   requestDrawing() {
     if (this.isDrawingRequested || !this.waves) return;
     this.isDrawingRequested = true;

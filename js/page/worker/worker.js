@@ -15,7 +15,7 @@ import { packError } from "../../core/bench/bench_errors.js";
  */
 
 /** The interval in milliseconds between progress reports. */
-const PROGRESS_INTERVAL = 100;
+const PROGRESS_INTERVAL_MS = 100;
 
 /** @type {ReadonlySet<CallName>} the names of the calls that change the session even while time is running */
 const CHANGING_CALLS = new Set(["serve", "serveTypedLines", "runToGoal", "goBack", "goForward"]);
@@ -59,7 +59,7 @@ class BenchWorker {
     }
     if (message.kind === "cancel") this.cancelledRequest = message.number;
     if (message.kind === "spare") this.calls.bench.spareBuffers.push(message.buffer);
-    if (message.kind === "ping") this.post({ kind: "pong" });
+    if (message.kind === "ping") this.postToPage({ kind: "pong" });
     this.wake();
   }
 
@@ -67,7 +67,7 @@ class BenchWorker {
    * @param {ToPage} message
    * @param {Transferable[]} [transfer]
    */
-  post(message, transfer = []) {
+  postToPage(message, transfer = []) {
     this.scope.postMessage(message, transfer);
   }
 
@@ -104,16 +104,16 @@ class BenchWorker {
     try {
       const result = await (/** @type {any} */ (this.calls))[call](...callArguments);
       if (pressesKey(call, callArguments)) this.sendEarly({ kind: "early", number, result });
-      this.post({ kind: "reply", number, result }, result && result.file instanceof ArrayBuffer ? [result.file] : []);
+      this.postToPage({ kind: "reply", number, result }, result && result.file instanceof ArrayBuffer ? [result.file] : []);
       if (pressesKey(call, callArguments)) this.calls.bench.checkLastLines();
     } catch (error) {
-      this.post({ kind: "reply", number, error: packError(error) });
+      this.postToPage({ kind: "reply", number, error: packError(error) });
     }
   }
 
   /** @param {Frame} frame */
   postFrame(frame) {
-    this.post({ kind: "frame", frame }, [frame.file]);
+    this.postToPage({ kind: "frame", frame }, [frame.file]);
   }
 
   runBatch() {
@@ -122,7 +122,7 @@ class BenchWorker {
       if (frame) this.postFrame(frame);
     } catch (error) {
       this.calls.bench.fullSpeed.stop();
-      this.post({ kind: "failed", error: packError(error) });
+      this.postToPage({ kind: "failed", error: packError(error) });
     }
   }
 
@@ -134,9 +134,9 @@ class BenchWorker {
   async reportProgress(done, total) {
     await this.yieldToMessages();
     if (this.cancelledRequest === this.currentRequest) return false;
-    if (performance.now() - this.lastReportTime > PROGRESS_INTERVAL) {
+    if (performance.now() - this.lastReportTime > PROGRESS_INTERVAL_MS) {
       this.lastReportTime = performance.now();
-      this.post({ kind: "progress", number: this.currentRequest, done, total });
+      this.postToPage({ kind: "progress", number: this.currentRequest, done, total });
     }
     return true;
   }
