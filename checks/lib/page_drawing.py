@@ -184,7 +184,7 @@ def check_buzzer(browser):
     browser.click("#shelf-buzzer")
     eventually(browser, "the buzzer is added with the parts that it needs", GET_DRAWING_STATUS, "The buzzer was added, with ROM 0.")
     verdict("the comment of the buzzer in the text", board_text(browser).split("\n")[0], "# buzzer rom0.0: buzzer")
-    verdict("the shelf disables a second buzzer, with the reason", browser.script(GET_DISABLED_BUTTONS), ["Buzzer: A board has one buzzer: delete that one first."])
+    verdict("the shelf disables a second buzzer, with the reason", browser.script(GET_DISABLED_BUTTONS), ["Buzzer: A board can have only one buzzer: delete it first."])
     drag(browser, f"{pin_selector('ROM 0 · 4001, out 3')} circle", f"{pin_selector('Buzzer, buzzer')} circle")
     eventually(browser, "dragging draws a wire to the buzzer", GET_DRAWING_STATUS, "Line rom0.3 is wired to the buzzer.")
     eventually(browser, "the picture has the wire to the buzzer", GET_WIRING_LINES, re.compile("buzzer sounds the edges of rom0.3"))
@@ -498,7 +498,7 @@ def check_other_boards(browser):
     """Checks that the picture shows the board of each session that the user opens, even if it has more or fewer chips."""
     for example, part in (("calculator", "ROM 3 · 4001"), ("die", "ROM 0 · 4001"), ("calculator", "ROM 3 · 4001"), ("lock", "Keys · 4 × 3")):
         choose_example(browser, example)
-        verdict(f"{example} is opened", "No session was made" in browser.script(GET_NOTICE), False)
+        verdict(f"{example} is opened", "No session was created" in browser.script(GET_NOTICE), False)
         eventually(browser, f"the picture shows the board of {example}", GET_WIRING_LINES, re.compile(part))
 
 

@@ -47,7 +47,7 @@ def check_failures(browser, page, folder):
     browser.type_keys([ESCAPE, "1", "2"])
     browser.wait_until(GET_DIGITS, "12")
     cause_failure(browser, "trap")
-    eventually(browser, "a trap is reported", GET_NOTICE, re.compile("the module stopped inside a call .unreachable. and was started again"))
+    eventually(browser, "a trap is reported", GET_NOTICE, re.compile("the module stopped during a call .unreachable. and was restarted"))
     verdict("the session is unchanged", browser.script(GET_DIGITS), "12")
     dismiss_notice(browser)
     browser.click("#run")
@@ -70,7 +70,7 @@ def check_full_store(browser):
     """Checks that the page reports that it could not save a command, and saves again when the store has space."""
     browser.script(FILL_STORE)
     verdict("the answer to a command that was not saved reports that", send_lines(browser, "poke r5 9"), re.compile("not kept: "))
-    verdict("a full store is reported", browser.script(GET_NOTICE), re.compile("This session is not kept: the browser has no more space"))
+    verdict("a full store is reported", browser.script(GET_NOTICE), re.compile("This session is not saved: the browser has no more space"))
     browser.script("IDBObjectStore.prototype.put = window.put")
     send_lines(browser, "seq")
     verdict("the notice disappears when the session is saved", browser.script(GET_NOTICE), "")

@@ -11,7 +11,7 @@ import { loadChildProcess } from "./lazy_child_process.mjs";
 import { TOP } from "./top_folder.mjs";
 import {
   NO_PROGRAM_IN_COPY, sessionInUseMessage, needsNativeProgramMessage, noNamedProverMessage, noProverMessage, unsupportedSystemMessage,
-  otherProgramMessage, runsOnModuleMessage, sessionRejectedMessage,
+  programDiffersMessage, runsOnModuleMessage, sessionRejectedMessage,
 } from "../words/commands.js";
 
 /**
@@ -182,7 +182,7 @@ export async function readCheckedMap(engine, codes, program) {
   if (errors.length > 0) throw await createRejectedTextsError(engine, { program }, errors);
   if (!difference) return map;
   const { address, romByte, line, sourceByte } = difference;
-  throw new CommandError(otherProgramMessage(program.name, address, romByte, line + program.linesBefore, sourceByte));
+  throw new CommandError(programDiffersMessage(program.name, address, romByte, line + program.linesBefore, sourceByte));
 }
 
 /** Lets signal handlers run between the pieces of a long computation. Resolves to true. */

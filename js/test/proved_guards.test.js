@@ -52,7 +52,7 @@ end:    JUN end
 `;
 const engine = new Engine(new globalThis.WebAssembly.Module(pageModule));
 
-/** The bench's module with a fixed answer of the prover to questions about key presses. */
+/** The bench's module, except that the prover always gives the same answer to questions about key presses. */
 class FixedAnswerEngine extends Engine {
   /** @param {string} answer */
   constructor(answer) {

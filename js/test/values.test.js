@@ -93,7 +93,7 @@ test("values of numbers and names", async () => {
   assert.equal(joinPieces(piecesOf("  LDM 6", "6", openedSession)), "6 = 0x6, 0110");
   assert.equal(joinPieces(piecesOf("  FIM P0, k", "k", openedSession)),
     "k 18, 0001 0010; sent by SRC, it selects ROM 1; bank 0, chip 0, register 1, character 2 = 7");
-  assert.equal(joinPieces(piecesOf("  JUN end", "end", openedSession)), "end 5, and comes next");
+  assert.equal(joinPieces(piecesOf("  JUN end", "end", openedSession)), "end 5; the next instruction is there");
   assert.deepEqual(piecesOf("  JUN other", "other", openedSession), []);
 });
 

@@ -96,7 +96,8 @@ test("two inputs that change in the same cycle break the shortest wait, unless o
   const programOf = (reads) => `${DRIVE_ROW_0}one:    SRC P2\n${reads}${SWITCH_LAMP_ON}`;
   const isAllowed = async (reads, text, levelList) => (
     (await replay(`${text}${NEVER_ON}`, levelList, createSubject(moduleEngine, BOARD, programOf(reads)))).isAllowed);
-  // The program reads A without B, and 7 cycles later B without A. The first two steps begin at power-on and at a read without A.
+  // The program waits until A is down and B is up; 7 cycles later it waits until B is down and A is up. `exchanged` has the levels at
+  // power-on, at a read that does not find A down, and at the two last reads.
   const exchanged = [levels(0), levels(0), levels(1), levels(0, 1)];
   const readExchanged = `${readBoth(true, false, "one")}${readBoth(false, true, "one")}`;
   assert.equal(await isAllowed(readExchanged, "", exchanged), true);

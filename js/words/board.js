@@ -8,7 +8,7 @@ export const keyAt = (legend, row, column) => `key ${legend}, row ${row}, column
 /** @type {(kind: string, legend: string) => string} */
 export const keyAtTest = (kind, legend) => `${kind} ${legend}, at TEST`;
 export const NO_KEYS = "This board has no keys.";
-export const NAMES_KEYS = " Lines such as # row 0: 7 8 9 in the board's text give them names.";
+export const KEY_NAMING_HINT = " Lines such as # row 0: 7 8 9 in the board's text give them names.";
 /** @type {(naming: string) => string} */
 export const keysHint = (naming) => `Shift-click holds a key. Paused: a click toggles it.${naming}`;
 

@@ -162,7 +162,7 @@ export const THEME = "Theme";
 export const SHORT_LABELS = { "project.share": "Share" };
 /** @type {Record<string, string>} the tooltips of command buttons, by command id */
 export const TOOLTIPS = {
-  "time.over": "Step over: one instruction; a subroutine that it calls runs whole",
+  "time.over": "Step over: one instruction; a subroutine that it calls runs to its end",
   "time.into": "Step into: one instruction, into a subroutine that it calls",
   "time.out": "Step out: up to the return from this subroutine",
   "time.stepBack": "Step back: to before the last instruction",
@@ -203,8 +203,8 @@ export const A_PROJECT = "project";
 
 // --- commands/key_list.js ---
 export const KEY_TABLE = "Keys of commands";
-export const KEY_HEAD = "Key";
-export const EFFECT_HEAD = "Does";
+export const KEY_HEADING = "Key";
+export const EFFECT_HEADING = "Effect";
 /** The part of the page in which a key works, by the key's scope. */
 export const KEY_SCOPES = {
   everywhere: "", texts: "in the texts", source: "in Source", board: "in Board", tests: "in Tests", properties: "in Properties",

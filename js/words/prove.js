@@ -63,7 +63,7 @@ export const TRUE_BEFORE_KEYS_ARE_READ = "it can become true before the program 
 
 // --- prove/bounded_proof.js ---
 /** @type {(states: string) => string} */
-export const moreStatesThan = (states) => `more than ${states} states; enter a larger number beside Prove to allow more`;
+export const moreStatesThan = (states) => `more than ${states} states; enter a larger number next to Prove to allow more`;
 /** @type {(states: string) => string} */
 export const memoryFullAfter = (states) => `memory has room for only ${states} states; mcs4 prove in a terminal can use more`;
 
@@ -121,11 +121,11 @@ export const nextStepBreaks = (property) => `The next step breaks: ${property}`;
 export const nextStepReaches = (property) => `The next step reaches: ${property}`;
 
 // --- page/prove/proofs_view.js ---
-export const CHANGED = "the program, the board or the text has changed since then";
-export const ITS_TEST = "Show as test";
-export const ITS_LINES = "Its lines";
-export const OPEN_FOUND = "Open counterexample";
-export const OPEN_WAY = "Open the way there";
+export const TEXTS_HAVE_CHANGED = "the program, the board or the text has changed since then";
+export const SHOW_AS_TEST = "Show as test";
+export const COUNTEREXAMPLE_LINES = "Its lines";
+export const OPEN_COUNTEREXAMPLE = "Open counterexample";
+export const OPEN_STEPS_TO_GOAL = "Open the steps to it";
 export const BEFORE_BREAK = "a new session, paused before the step that breaks it; you can step back from there";
 export const BEFORE_GOAL = "a new session, paused before the step that reaches it; you can step back from there";
 export const ADD_TO_TESTS = "Add to tests";

@@ -17,7 +17,7 @@ export const answerIsRefusalMessage = (line, answer) => `line ${line} is a refus
 export const tooFewAnswersMessage = (lines) => `there are only ${lines} lines of answers`;
 export const NO_RUN = "none of these lines shows a run, as `ok 5 ran 100 end` does";
 /** @type {Record<string, string>} the reason why a run stopped, at the end of its line in `mcs4 cycles`, by the bench's word */
-export const WHY_STOPPED = {
+export const STOP_REASONS = {
   end: "", break: ", to a breakpoint", watch: ", to a change of a watched nibble", code: ", to a code that is not an instruction",
 };
 /** @type {(place: string) => string} */
@@ -35,8 +35,8 @@ export const BETWEEN_MARKS = "Between the marks ";
 
 // --- time/history_view.js ---
 /** @type {(maximum: string) => string} */
-export const instructionCountHint = (maximum) => `Nothing was done: give a number of instructions, 1 to ${maximum}.`;
-export const ENTER_CHANGE = "Nothing was done: enter a place such as r5, lamp 3 or rom0.2, or a condition such as r5 > 8.";
+export const instructionCountHint = (maximum) => `Nothing was done: enter a number of instructions, 1 to ${maximum}.`;
+export const PLACE_MISSING = "Nothing was done: enter a place such as r5, lamp 3 or rom0.2, or a condition such as r5 > 8.";
 /** @type {(error: string) => string} the error for the status bar; gives a few example places instead of the list of all places */
 export const cannotSearchForMessage = (error) => `Nothing was done: ${error.replace(PLACES_HINT, EXAMPLE_PLACES)}.`;
 const EXAMPLE_PLACES = "enter something such as r5, lamp 3 or rom0.2";

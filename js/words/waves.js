@@ -131,7 +131,7 @@ export const searchQuestion = (forms) => `Enter a search: ${forms}.`;
 export const noLabelMessage = (label) => `The program of this recording has no label ${label}.`;
 /** @type {(name: string) => string} */
 export const notRecordedMessage = (name) => `Nothing that was recorded is called ${name}: select it and record again.`;
-export const NO_LINE_MARKED = "No row is selected: click one first.";
+export const NO_ROW_SELECTED = "No row is selected: click one first.";
 /** @type {(name: string) => string} */
 export const decodedRowMessage = (name) => `${name} is decoded: search for its next change, or for a key of the key scan.`;
 /** @type {(name: string) => string} */
@@ -155,7 +155,7 @@ export const cursorAt = (name, cycle, time, instruction) => `${name}: cycle ${cy
 export const valueIs = (name, value) => `${name} is ${value}, `;
 /** @type {(value: string, cycle: string, instruction: string) => string} */
 export const cursorDescription = (lineValue, cycle, instruction) => `${lineValue}cycle ${cycle}, ${instruction}`;
-export const NOTHING_BEFORE = "Nothing was recorded: no cycle was done since the session was opened or wired.";
+export const NOTHING_BEFORE = "Nothing was recorded: no cycle has run since the session was opened or its board was wired.";
 /** @type {(cycles: string, time: string) => string} */
 export const recordedSpan = (cycles, time) => `${cycles} recorded, ${time}.`;
 /** @type {(text: string) => string} */
@@ -168,4 +168,4 @@ export const noFurtherBackMessage = (text) => `${text} The remembered past reach
 export const noSuchLineMessage = (name) => `the board has no line ${name}; mcs4 wave --lines SESSION prints the names of its lines`;
 export const LABEL_NEEDS_PROGRAM = "`label` needs the program that is in ROM: --names PROGRAM";
 /** @type {(name: string) => string} */
-export const lineTwice = (name) => `the line ${name} is given twice`;
+export const lineRepeated = (name) => `the line ${name} is given twice`;

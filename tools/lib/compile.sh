@@ -15,7 +15,7 @@ record_libraries() {
     record_built "$(sum_of_crate "$1")" "$(libraries_of "$1")"
 }
 
-# Succeeds if the libraries on which a crate depends are those that this user has proved and built here from the present sources.
+# Succeeds if this user has proved and built here, from the present sources, all libraries on which a crate depends.
 has_libraries() {
     is_own_record && [ -f "$(libraries_of "$1")" ] && grep -qxF -- "$(sum_of_crate "$1") $(sum_of_input < "$(libraries_of "$1")")" "$build_record" &&
         (cd "$top" && sha256sum --status -c "$(libraries_of "$1")")

@@ -7,7 +7,7 @@
 
 import { Face } from "../board/face.js";
 import { instructionForLine } from "../debug/breakpoints.js";
-import { KINDS } from "../../words/debug.js";
+import { MISTAKE_KINDS } from "../../words/debug.js";
 import { stoppedAt } from "../../words/stops.js";
 import { readInstructions } from "../help/manual.js";
 import { getField } from "../server/framing.js";
@@ -70,7 +70,7 @@ const CAPABILITIES = {
   supportsDelayedStackTraceLoading: true,
   supportsClipboardContext: true,
   completionTriggerCharacters: [" ", "@", "."],
-  exceptionBreakpointFilters: Object.entries(KINDS).map(([filter, label]) => (
+  exceptionBreakpointFilters: Object.entries(MISTAKE_KINDS).map(([filter, label]) => (
     { filter, label, default: false, supportsCondition: true, conditionDescription: say.EXCEPTION_CONDITION_HINT })),
 };
 

@@ -313,7 +313,7 @@ export function nibbleValues({ text, column }, count, names, dependencies) {
     return Array.from({ length: count }, (_, index) => {
       const nibbleAddress = parseInt(byte, 16) + index;
       const nibblePlace = nibbleAddress <= LAST_NIBBLE ? parsePlace(`ram.${bank}.${nibbleAddress}`) : null;
-      if (index > 0 && (!nibblePlace || nibblePlace.probesOn(names.board).length === 0)) fail(say.NO_RAM_FOR_LAST);
+      if (index > 0 && (!nibblePlace || nibblePlace.probesOn(names.board).length === 0)) fail(say.NO_RAM_FOR_LAST_CHARACTER);
       return placeValue(nibblePlace || place, names, dependencies) || failForUnknownName(text, names);
     });
   });

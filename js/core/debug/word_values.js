@@ -195,5 +195,5 @@ export function valuesAt(text, index, machineState, { nameOf, describeInstructio
   const name = nameOf(word.text);
   if (!name) return [];
   if (!name.isLabel) return numberPieces(name.description, name.value, parts, machineState);
-  return [machineState.registers.counter === hex(name.value, 3) ? say.comesNext(name.description) : name.description];
+  return [machineState.registers.counter === hex(name.value, 3) ? say.withNextInstructionNote(name.description) : name.description];
 }

@@ -158,7 +158,7 @@ function copyPart(editedBoard, part) {
   if (kind !== "lamp") throw new ImpossibleAction(say.ONLY_ONCE);
   const display = displayAt(face, number);
   if (display) return addDisplay(editedBoard, display.columns < 7 ? "digit" : "segments", display.rows);
-  if (lampsInSameGroup(face, number).length > 1) throw new ImpossibleAction(say.COPY_IN_TEXT);
+  if (lampsInSameGroup(face, number).length > 1) throw new ImpossibleAction(say.COPY_ONLY_IN_TEXT);
   return addLamp(editedBoard, "", (face.colours.get(number) || { text: "" }).text);
 }
 
@@ -173,7 +173,7 @@ function renameLamp(editedBoard, lamp, name) {
   const describeGrid = (text) => new Face(text).grid.map((gridLamp) => `${gridLamp.row} ${gridLamp.column} ${gridLamp.lamp}`).join();
   const grid = describeGrid(editedBoard.text);
   editedBoard.edit(setLampName(editedBoard.draft, lamp, name));
-  if (describeGrid(editedBoard.text) !== grid) throw new ImpossibleAction(say.GRID_DIFFERS);
+  if (describeGrid(editedBoard.text) !== grid) throw new ImpossibleAction(say.NAME_WOULD_CHANGE_GRID);
 }
 
 /**
@@ -258,7 +258,7 @@ function perform(editedBoard, action) {
       if (board.matrix && action.rows < board.matrix.rows) deletePart(editedBoard, `row ${action.rows}`);
       else setRows(editedBoard, action.rows);
       return ["keys", say.keyRowsSet(formatQuantity(action.rows, "row"))];
-    case "column": return [addColumn(editedBoard), say.MORE_COLUMNS];
+    case "column": return [addColumn(editedBoard), say.COLUMN_ADDED];
     case "delete": {
       const message = deletePart(editedBoard, action.part);
       return ["", `${completionMessage(action.part, "deleted")}${message && say.andWithIt(message)}`];

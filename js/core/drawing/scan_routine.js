@@ -86,7 +86,7 @@ function firstRowLines(first, labels) {
   const [loopLabel, shiftLabel] = [labels.labelFor("first"), labels.labelFor("shift")];
   /** @type {Line[]} */
   const counters = [
-    ["", ["LDM", String((REGISTER_VALUES - (first % REGISTER_VALUES)) % REGISTER_VALUES)]], ["", ["XCH", "R8"], say.movesTo(first)],
+    ["", ["LDM", String((REGISTER_VALUES - (first % REGISTER_VALUES)) % REGISTER_VALUES)]], ["", ["XCH", "R8"], say.bitMovesTo(first)],
   ];
   if (rounds > 1) counters.push(["", ["LDM", String(REGISTER_VALUES - rounds)]], ["", ["XCH", "R9"]]);
   /** @type {Line[]} */
@@ -174,13 +174,13 @@ export function keyScanSource({ matrix, chains }, text) {
   const lines = [
     [scanLabel, ["LDM", "0"]], ["", ["XCH", "R4"], say.FIRST_ROW],
     ["", ["LDM", String(REGISTER_VALUES - rows)]], ["", ["XCH", "R7"], say.countsRows(rows)],
-    ["", ["LDM", String(data.bit)]], ["", ["JMS", shiftLabel], say.ONE_ENTERS], ...firstRowLines(first, labels),
+    ["", ["LDM", String(data.bit)]], ["", ["JMS", shiftLabel], say.SINGLE_1_ENTERS], ...firstRowLines(first, labels),
     ...columnLines(columns, labels).map((line, index) => /** @type {Line} */ (index === 0 ? [rowLabel, line[1], line[2]] : line)),
     ["", ["LDM", "0"]], ["", ["JMS", shiftLabel], say.NEXT_ROW], ["", ["INC", "R4"]], ["", ["ISZ", "R7,", rowLabel]],
     ["", ["BBL", "0"], say.NO_KEY],
     ...columns.flatMap((_, column) => /** @type {Line[]} */ ([
       [labels.labelFor(String(column)), ["LDM", String(column)], say.columnIsDown(column)], ["", ["JUN", labels.labelFor("down")]]])),
-    [labels.labelFor("down"), ["XCH", "R5"]], [outLabel, ["LDM", "0"]], ["", ["JMS", shiftLabel], say.LEAVES_ROWS],
+    [labels.labelFor("down"), ["XCH", "R5"]], [outLabel, ["LDM", "0"]], ["", ["JMS", shiftLabel], say.BIT_LEAVES_ROWS],
     ["", ["ISZ", "R7,", outLabel]], ["", ["BBL", "1"], say.KEY_IS_DOWN], ...shiftLines(clock, data, labels),
   ];
   const headerComments = headerLines(matrix, clock, data, labels);

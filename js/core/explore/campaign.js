@@ -236,7 +236,7 @@ const SETTING_PARSERS = {
     if (!state || (words.length > 1 && (of !== "of" || file.length === 0))) {
       fail(say.FROM_SYNTAX);
     }
-    if (reader.from) fail(say.FROM_TWICE);
+    if (reader.from) fail(say.FROM_REPEATED);
     reader.from = { state, file: file.join(" ") };
   },
   begin: (reader, words) => {
@@ -329,7 +329,7 @@ const PROPERTY_PARSERS = {
       : reachProperty(text, reader.parseViolation(`pc = ${address}`));
   },
   model: (reader, remainingText, text) => {
-    if (reader.command) fail(say.MODEL_TWICE);
+    if (reader.command) fail(say.MODEL_REPEATED);
     if (remainingText === "") fail(say.MODEL_SYNTAX);
     if (!reader.names.face.groups.some(({ kind }) => kind === "display")) {
       fail(NO_DISPLAY);

@@ -129,7 +129,7 @@ export class InspectCommands {
   removeDisplays(argumentText) {
     const ids = argumentText.split(/\s+/).filter(Boolean).map(Number);
     const hasInvalidNumber = ids.some((id) => !(id >= 1 && id <= this.displays.length));
-    if (hasInvalidNumber) rejectCommand(say.NO_DISPLAY);
+    if (hasInvalidNumber) rejectCommand(say.NO_SUCH_DISPLAY);
     this.displays = argumentText === "" ? [] : this.displays.filter((_, index) => !ids.includes(index + 1));
   }
 
@@ -212,7 +212,7 @@ export class InspectCommands {
     const [, word = "", argument = ""] = /^(\S*)\s*(.*)$/.exec(argumentText) || [];
     const matchingKinds = INFO_WORDS.filter((kind) => word !== "" && kind.startsWith(word));
     const [matchingKind] = matchingKinds.length === 1 ? matchingKinds : [""];
-    const kind = INFO_ABBREVIATIONS.get(word) || matchingKind || rejectCommand(say.infoShows(INFO_WORDS.join(", ")));
+    const kind = INFO_ABBREVIATIONS.get(word) || matchingKind || rejectCommand(say.infoSyntax(INFO_WORDS.join(", ")));
     if (argument !== "" && !/^(line|symbol)$/.test(kind)) rejectCommand(say.infoTakesNoArgument(kind));
     return this.infoTexts[kind](argument);
   }

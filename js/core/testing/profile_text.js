@@ -48,10 +48,10 @@ function formatKeyRow({ key, presses, answered, first, last }) {
  * @param {Profile} profile
  */
 export function profileText({ total, rows, earlierInstructionCycles, keys }) {
-  const [label, address, ownCycles, percent, calls, cyclesWithCalls, longestCall] = say.PROFILE_HEAD;
+  const [label, address, ownCycles, percent, calls, cyclesWithCalls, longestCall] = say.PROFILE_HEADINGS;
   const head = [label.padEnd(LABEL_WIDTH), address.padEnd(4), formatCell(ownCycles, 10), formatCell(percent, 6), formatCell(calls, 9),
     formatCell(cyclesWithCalls, 10), formatCell(longestCall, 10)].join(" ");
-  const [key, presses, answered, first, last] = say.KEYS_HEAD;
+  const [key, presses, answered, first, last] = say.KEY_TABLE_HEADINGS;
   const keysHead = [key.padEnd(LABEL_WIDTH), formatCell(presses, 9), formatCell(answered, 9), formatCell(first, 24),
     formatCell(last, 24)].join(" ");
   return `${[

@@ -96,7 +96,7 @@ class BoardErrorText {
     for (const keys of [this.text.keys, ...this.text.entries.map((entry) => entry.keys)]) {
       const secondKey = keys.find((key) => key.line === line);
       const first = keys.find(({ name }) => secondKey && name === secondKey.name);
-      if (secondKey && first && first !== secondKey) return createErrorAt(number, secondKey, say.alreadyThere(secondKey.name, first.line));
+      if (secondKey && first && first !== secondKey) return createErrorAt(number, secondKey, say.alreadyOnLine(secondKey.name, first.line));
     }
     return this.createWholeLineError(this.messageFor(number));
   }
@@ -129,7 +129,7 @@ class BoardErrorText {
     if (number === TOO_MANY && name === "") return say.tooManyTablesMessage(MAX_PARTS[section], section);
     if (number === TOO_MANY) return say.tooManyColumnsMessage(MAX_COLUMNS);
     if (!entry || !key || !value) return this.messageFor(number);
-    if (number === DUPLICATE) return say.alreadyThere(`${name} ${value.inner}`, this.findFirstLine(entry, key));
+    if (number === DUPLICATE) return say.alreadyOnLine(`${name} ${value.inner}`, this.findFirstLine(entry, key));
     if (number === MISSING_LINE) return name === "rows" ? this.explainRows(entry) : this.explainMissingLine(String(value.inner));
     const { kind = "" } = this.lines.get(String(value.inner)) || {};
     return name === "columns" ? say.needsInput(String(value.inner)) : say.needsOutput(name, String(value.inner), kind === "bit");

@@ -246,7 +246,7 @@ export class ExploreTab {
       this.show();
     }
     if (searchEnd.errors.length > 0) this.showErrors(searchEnd.errors);
-    else if (!results.report) this.editor.showMessage(say.STOPPED_EARLY);
+    else if (!results.report) this.editor.showMessage(say.STOPPED_BEFORE_START);
   }
 
   /** @param {ProjectTextError[]} errors the errors that prevented the search */
@@ -269,7 +269,7 @@ export class ExploreTab {
   goToSource(line) {
     const { currentResults } = this;
     if (currentResults && currentResults.texts.programText === this.calls.texts().programText) this.calls.goToSource(line);
-    else this.editor.showMessage(say.OTHER_SOURCE);
+    else this.editor.showMessage(say.SOURCE_HAS_CHANGED);
   }
 
   /** @param {number} property the number of the property, from 0 */
