@@ -339,7 +339,7 @@ export class NativeEngine {
     this.analyses = new Map();
   }
 
-  /** Returns an engine for the program that ./mcs4 starts, if start.sh knows the program without comparing all sources. Otherwise returns null. */
+  /** Returns an engine for the program that ./mcs4 starts; null if start.sh cannot find that program without comparing all sources. */
   static forKnownProgram() {
     const starter = new Starter("");
     return starter.controlPipe < 0 ? null : new NativeEngine(starter.program, starter);

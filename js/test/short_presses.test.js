@@ -153,7 +153,7 @@ test("a proof uses `held` if no release comes closer than the shortest wait", ()
   }
   assert.deepEqual(limitsFor("press A\nwait 7 to 60\nheld at most 6\nnever @open"), [[1, null, "press"]]);
   assert.deepEqual(limitsFor("press A\nwait 7 to 60\nheld at most 2 s\nnever @open").slice(-1), [[7, null, "press wait"]]);
-  // The shorter of both times is used.
+  // The limit on presses is the shorter time: that of `held` or that of the property.
   assert.deepEqual(limitsFor("press A\nwait 7 to 60\nheld at most 20\nno press below 30 reaches @open").slice(1),
     [[7, null, "press wait"], [7, 20, "press wait held"]]);
   assert.deepEqual(limitsFor("press A\nwait 7 to 60\nheld at most 40\nno press below 30 reaches @open").slice(2),

@@ -46,7 +46,8 @@ test("a proof uses the shortest wait of a text last", () => {
   ]);
   assert.deepEqual(limitsOf("wait 5 to 9\ntogether 1").map(({ maxKeysDown, words }) => [maxKeysDown, words]),
     [[1, ["together 1"]], [1, ["together 1", "wait"]]]);
-  // The default wait is only for a search. A line `held` shortens waits. A saved state has other inputs before it.
+  // There are no limits without a `wait` (its default is only for searches), with `held`, which shortens waits, or from a saved state,
+  // which other inputs precede.
   for (const text of ["", "wait 1 to 9", "wait 2 to 9\nheld at most 1 s", "wait 2 to 9\nfrom saved"]) assert.deepEqual(limitsOf(text), []);
 });
 

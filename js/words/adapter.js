@@ -79,7 +79,7 @@ export const LAUNCH_ONCE = "launch can be sent only once";
 export const sourceDiffers = (reason) => `The source now differs from ROM: ${reason}.`;
 /** @type {(name: string) => string} */
 export const notInProgramMessage = (name) => `it is not in ${name}, the program being debugged`;
-export const NO_DEBUG = "this runs without a debugger (noDebug)";
+export const RUNS_WITHOUT_DEBUGGER = "this runs without a debugger (noDebug)";
 
 // --- node/file_locks.mjs, node/debug_host.mjs ---
 /** @type {(holder: string) => string} */

@@ -31,7 +31,7 @@ export const NAMES_UNKNOWN = "names are known only while the source is the same 
 export const mergedRuns = (runs, cycles) => `run .. (${runs} lines, ${cycles} cycles); the last one was answered`;
 
 // --- bench/rom_image.js ---
-export const NO_BYTE = "it has no byte";
+export const IMAGE_IS_EMPTY = "it has no byte";
 /** @type {(bytes: string, capacity: string) => string} */
 export const tooManyBytesMessage = (bytes, capacity) => `it has ${bytes} bytes, and ROM has ${capacity}`;
 /** @type {(bytes: string, freeBytes: string, first: string) => string} */

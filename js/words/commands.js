@@ -804,7 +804,7 @@ export const scriptDoesNotMatch = (session, script, mismatch, differences) => [
   ...differences,
 ].join("\n");
 /** @type {(session: string) => string} */
-export const changedMeanwhile = (session) => `${session} is in use: it has just changed; end the program that uses it, or try again`;
+export const changedMeanwhile = (session) => `${session} is in use: it changed in the meantime; end the program that uses it, or try again`;
 
 // --- back ---
 export const NO_FLOCK = "the program flock is not found; on Debian: apt-get install util-linux";

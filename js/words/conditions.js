@@ -68,7 +68,7 @@ export const notANumeralMessage = (text) => `${text} is not a number; numbers ar
 export const tooLongMessage = (maximum) => `a condition has at most ${maximum} characters`;
 /** @type {(maximum: number) => string} */
 export const tooDeepMessage = (maximum) => `parentheses can be nested at most ${maximum} deep`;
-export const NOT_CLOSED = "this parenthesis is not closed";
+export const PARENTHESIS_NOT_CLOSED = "this parenthesis is not closed";
 /** @type {(word: string) => string} */
 export const notExpectedMessage = (word) => `${word}: the condition ends before this; join two conditions with and, or`;
 /** @type {(value: string) => string} */
@@ -114,7 +114,7 @@ export const REGISTERS_HINT = "the registers are r0 to r15";
 export const RAM_PLACES_HINT = "a place of RAM is ram.BANK.SRC or st.BANK.REGISTER.NUMBER";
 export const PORTS_HINT = "ports are rom1 and ram0.1, their lines rom1.0 to rom1.3";
 /** @type {(names: string) => string} */
-export const suggestion = (names) => `perhaps ${names}`;
+export const suggestNames = (names) => `perhaps ${names}`;
 export const PLACES_HINT = "places are acc, cy, pc, dcl, test, r0 to r15, p0 to p7, ram.B.S, st.B.H.K, rom1, ram0.1, lamps, "
   + "and names of the source, of Watch and of lamps";
 

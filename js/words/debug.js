@@ -92,7 +92,7 @@ export const inBank = (bank, character) => `bank ${bank}, ${character}`;
 export const boardLacks = (selection) => `${selection}, which the board lacks`;
 /** @type {(chip: number) => string} */
 export const romChip = (chip) => `ROM ${chip}`;
-export const NOTHING_THERE = "nothing that the board has";
+export const NOTHING_ON_BOARD = "nothing that the board has";
 export const SELECTS = "; selects ";
 /** @type {(chip: number, out: string, read: string) => string} */
 export const portOfRom = (chip, out, read) => `ROM ${chip}: puts out ${out}, RDR reads ${read}`;

@@ -111,7 +111,7 @@ export const NEVER_CHECKED = "never checked";
 /** @type {(verb: string, steps: string, cycles: string, seed: number) => string} */
 export const foundBy = (verb, steps, cycles, seed) => `${verb} by ${steps}, ${cycles} cycles (seed ${seed})`;
 /** @type {(run: string, ways: string) => string} */
-export const coverageText = (run, ways) => `${run} instructions were run, ${ways} branch directions`;
+export const coverageText = (executed, directions) => `${executed} instructions were run, ${directions} branch directions`;
 /** @type {(lines: string) => string} */
 export const neverRun = (lines) => `never run: ${lines}`;
 /** @type {(lines: string) => string} */

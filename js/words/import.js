@@ -7,11 +7,11 @@ export const DIVISION_BY_0 = "division by 0";
 /** @type {(maximum: number) => string} */
 export const tooDeepMessage = (maximum) => `more than ${maximum} nested brackets or signs`;
 /** @type {(text: string) => string} */
-export const noNumberMessage = (text) => `\`${text}\` is not a number`;
+export const notANumberMessage = (text) => `\`${text}\` is not a number`;
 /** @type {(text: string) => string} */
-export const noCharacterMessage = (text) => `${text} has a character that is not ASCII`;
-export const NO_OPERAND = "an operand is missing";
-export const NO_BRACKET = "a bracket is missing";
+export const notAsciiMessage = (text) => `${text} has a character that is not ASCII`;
+export const OPERAND_MISSING = "an operand is missing";
+export const BRACKET_MISSING = "a bracket is missing";
 /** @type {(name: string) => string} */
 export const noNameMessage = (name) => `no line defines the name ${name}`;
 

@@ -21,7 +21,7 @@ export const YES = "Yes";
 export const NO = "No";
 
 // --- ui/folds.js ---
-export const FOLDS = "folds or unfolds this panel";
+export const FOLD_HINT = "folds or unfolds this panel";
 
 // --- ui/notice.js ---
 export const DISMISS = "Dismiss";
@@ -63,7 +63,7 @@ export const cannotStartMessage = (reason, requirements) => `The bench could not
 export const ROM_MATCHES = "ROM matches source";
 export const ROM_DIFFERS = "ROM differs from source";
 /** The status bar's messages about saving, by the session's state. */
-export const SAVED = { example: "Not saved", saved: "Saved in this browser", failed: "Not saved" };
+export const SAVING_STATES = { example: "Not saved", saved: "Saved in this browser", failed: "Not saved" };
 
 // --- print_view.js ---
 /** @type {(name: string) => string} */

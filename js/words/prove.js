@@ -101,9 +101,10 @@ export const foundBy = (steps, cycles, isGoal) => `${isGoal ? "reached" : "broke
 export const moreStates = (maximum) => `more than ${maximum} states; --most allows more`;
 export const NO_MEMORY = "memory is full";
 /** @type {(states: string) => string} */
-export const noRoom = (states) => `memory has room for only ${states} states`;
+export const memoryHasRoomFor = (states) => `memory has room for only ${states} states`;
 /** @type {(states: string, megabytes: number) => string} */
-export const noRoomIn = (states, megabytes) => `there is no room for more than ${states} states in ${megabytes} MB; --memory allows more`;
+export const memoryLimitReached = (states, megabytes) =>
+  `there is no room for more than ${states} states in ${megabytes} MB; --memory allows more`;
 export const GAVE_UP = "the prover gave up";
 /** @type {(number: number, count: number, property: string, seconds: number) => string} */
 export const provingSoFar = (number, count, property, seconds) => `proving ${number} of ${count}, ${seconds} s: ${property}`;

@@ -12,7 +12,7 @@ import { formatCycles } from "../core/time/cycles.js";
  */
 
 /** @type {Record<string, string>} the reasons why a run stopped, by the stop reason (debug/debugger.js) */
-export const REASONS = {
+export const PAUSE_REASONS = {
   code: "before a code that is not an instruction",
   break: "at a breakpoint",
   watch: "after a watched nibble changed",
@@ -141,7 +141,7 @@ export function pauseMessage(goal, { reason, cycles, endsAtReturn, change }, loc
   if (reason === "outside") return `Nothing was done: ${NO_OPEN_CALL}.`;
   const after = `after ${formatCycles(cycles)}`;
   if (goal && reason === "goal") return `${describeReachedGoal(goal, endsAtReturn, location)}, ${after}.`;
-  const stopText = (REASONS[reason] || reason) + (reason === "break" ? conditionText : "");
+  const stopText = (PAUSE_REASONS[reason] || reason) + (reason === "break" ? conditionText : "");
   const reasonText = reason === "watch" && change ? `after ${change}` : stopText;
   if (!goal) return `Paused at ${location}, ${reasonText}.`;
   return `Paused at ${location}, ${reasonText}, ${after}; ${describeGoal(goal)} was not reached.`;

@@ -1,9 +1,9 @@
 // Messages and labels about tests: errors, results, coverage and profiles.
 
 // --- testing/coverage.js ---
-/** @type {(counts: number[], percent: string, percentOfWays: string) => string} */
-export const coverageSummary = ([run, all, directionsRun, ways], percent, percentOfWays) => (
-  `${run} of ${all} instructions were run${percent}, ${directionsRun} of ${ways} branch directions${percentOfWays}`);
+/** @type {(counts: number[], percent: string, percentOfDirections: string) => string} */
+export const coverageSummary = ([executed, instructions, taken, directions], percent, percentOfDirections) => (
+  `${executed} of ${instructions} instructions were run${percent}, ${taken} of ${directions} branch directions${percentOfDirections}`);
 
 // --- testing/coverage_text.js ---
 export const NEVER = "never";

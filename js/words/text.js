@@ -47,9 +47,9 @@ export const leadingZeroMessage = (text) => `a number has no leading zero; write
 export const needsQuotesMessage = (text) => `${text} is a text: write it in quotes: "${text}"`;
 /** @type {(maximum: number) => string} */
 export const tooDeepMessage = (maximum) => `more than ${maximum} brackets and braces are open here`;
-export const NO_BRACKET = "the closing ] is missing";
+export const BRACKET_NOT_CLOSED = "the closing ] is missing";
 export const VALUE_COMMA_MISSING = "write a comma between two values, ] after the last";
-export const NO_BRACE = "the closing } is missing in this line";
+export const BRACE_NOT_CLOSED = "the closing } is missing in this line";
 export const KEY_COMMA_MISSING = "write a comma between two keys, } after the last";
 
 // --- text/board_error.js ---

@@ -24,8 +24,8 @@ export const STOP_REASONS = {
 export const toPlace = (place) => `, to ${place}`;
 
 // --- time/cycles_view.js ---
-export const MARKS_CYCLE = "marks this cycle; a second press shows how many cycles lie between the marks";
-export const MARK = "Set marker";
+export const SET_MARKER_HINT = "marks this cycle; a second press shows how many cycles lie between the marks";
+export const SET_MARKER = "Set marker";
 export const SINCE_RESET_TOOLTIP = "the cycles since the last reset, or since this session was started or opened in this tab";
 export const SINCE_RESET = "Since reset ";
 export const IN_LAST_RUN = "in the last run without a stop";

@@ -19,11 +19,11 @@ export const recordedDuration = (duration, trigger) => `Recorded ${duration}.${t
 export const recordedUntil = (duration, endReason, trigger) => `Recorded ${duration}. ${endReason}${trigger}`;
 export const NOTHING = "nothing";
 /** @type {(trigger: string) => string} */
-export const recordsAfter = (trigger) => `Recording the cycles after the trigger.${trigger}`;
+export const recordingAfterTrigger = (trigger) => `Recording the cycles after the trigger.${trigger}`;
 export const RECORDS_WHEN_RUNNING = "Records as soon as the machine runs.";
 export const RECORDING = "Recording.";
 /** @type {(trigger: string) => string} */
-export const waitsFor = (trigger) => ` Waiting for ${trigger}.`;
+export const waitingForTrigger = (trigger) => ` Waiting for ${trigger}.`;
 
 // --- waves/scope.js ---
 export const RECORD = "Record";
@@ -155,7 +155,7 @@ export const cursorAt = (name, cycle, time, instruction) => `${name}: cycle ${cy
 export const valueIs = (name, value) => `${name} is ${value}, `;
 /** @type {(value: string, cycle: string, instruction: string) => string} */
 export const cursorDescription = (lineValue, cycle, instruction) => `${lineValue}cycle ${cycle}, ${instruction}`;
-export const NOTHING_BEFORE = "Nothing was recorded: no cycle has run since the session was opened or its board was wired.";
+export const NOTHING_HAS_RUN = "Nothing was recorded: no cycle has run since the session was opened or its board was wired.";
 /** @type {(cycles: string, time: string) => string} */
 export const recordedSpan = (cycles, time) => `${cycles} recorded, ${time}.`;
 /** @type {(text: string) => string} */

@@ -2,8 +2,8 @@
 # proved here. A script reads this file with `.`, after tools/lib/sums.sh.
 # shellcheck shell=sh
 
-# Prints the name of the file that lists the libraries on which a crate depends, as they were built here. Each has the checksum of its file `format`,
-# with which the library's other files are verified.
+# Prints the name of the file that records the libraries on which a crate depends, as they were built here. For each library, it has the checksum of
+# the library's file `format`, with which the other files of the library are verified.
 libraries_of() {
     echo "$top/crates/$1/out/libraries"
 }

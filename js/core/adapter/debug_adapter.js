@@ -298,7 +298,7 @@ export class DebugAdapter {
       return this.changeBreakpoints((breakpoints) => breakpoints.setLineBreakpoints(args, (line) => line + 1 - this.firstLine));
     }
     const message = launchResult.isDebugged ? say.notInProgramMessage(queryHandlers.programName)
-      : say.NO_DEBUG;
+      : say.RUNS_WITHOUT_DEBUGGER;
     const breakpoints = optionalList(args, "breakpoints");
     return { breakpoints: breakpoints.map((requested) => ({ verified: false, line: requireNumber(requested, "line"), message })) };
   }

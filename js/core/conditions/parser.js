@@ -303,7 +303,7 @@ class Parser {
     const token = this.scanner.peek();
     if (token.text !== ")" || token.kind !== "sign") {
       const isEnd = token.kind === "end";
-      fail(isEnd ? say.NOT_CLOSED : say.notExpectedMessage(this.tokenText(token)), isEnd ? column : token.column);
+      fail(isEnd ? say.PARENTHESIS_NOT_CLOSED : say.notExpectedMessage(this.tokenText(token)), isEnd ? column : token.column);
     }
     this.depth -= 1;
     this.scanner.next();

@@ -233,7 +233,7 @@ function suggestionFor(text, { map, watched, face }) {
   if (hint) return hint;
   const knownNames = [...(map ? map.names.keys() : []), ...(watched ? watched.keys() : []), ...face.lampNumbers.keys()];
   const similarNames = findSimilarWords(text, knownNames);
-  return similarNames.length > 0 ? say.suggestion(similarNames.join(" ")) : say.PLACES_HINT;
+  return similarNames.length > 0 ? say.suggestNames(similarNames.join(" ")) : say.PLACES_HINT;
 }
 
 /**

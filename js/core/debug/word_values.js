@@ -84,7 +84,7 @@ function selectionPieces(byte, machineState) {
   const chip = byte >> 4;
   const rom = machineState.romPort(chip) ? [say.romChip(chip)] : [];
   const hasRam = machineState.latchedSrcByte() !== undefined;
-  if (!hasRam) return rom.length > 0 ? rom : [say.NOTHING_THERE];
+  if (!hasRam) return rom.length > 0 ? rom : [say.NOTHING_ON_BOARD];
   return [...rom.map((description) => `${description}; `), ...characterPieces(machineState.bank, byte, machineState)];
 }
 

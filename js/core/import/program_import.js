@@ -266,7 +266,7 @@ class ProgramImport {
     return parts.flatMap((part) => {
       const characters = quotedCharacters(part);
       if (characters === null) return [this.convertExpression(part, { to: BYTE_VALUES - 1, modulus: BYTE_VALUES })];
-      if (!isAscii(characters)) throw new LineError(say.noCharacterMessage(part));
+      if (!isAscii(characters)) throw new LineError(say.notAsciiMessage(part));
       return [...characters].map((character) => `0x${hex(character.charCodeAt(0), 2)}`);
     }).join(", ");
   }

@@ -253,7 +253,7 @@ export class BoardReader {
     this.index += 1;
     const values = [];
     for (this.skipLineEnds(); !this.isMark("]"); this.skipLineEnds()) {
-      if (this.word.kind === "end") throw new TomlSyntaxError(openingBracket, say.NO_BRACKET);
+      if (this.word.kind === "end") throw new TomlSyntaxError(openingBracket, say.BRACKET_NOT_CLOSED);
       values.push(this.readValue(key));
       this.skipLineEnds();
       if (this.isMark(",")) this.index += 1;
@@ -269,7 +269,7 @@ export class BoardReader {
     this.index += 1;
     const keys = [];
     while (!this.isMark("}")) {
-      if (this.word.kind === "end") throw new TomlSyntaxError(this.word, say.NO_BRACE);
+      if (this.word.kind === "end") throw new TomlSyntaxError(this.word, say.BRACE_NOT_CLOSED);
       keys.push(this.readKey());
       if (this.isMark(",")) this.index += 1;
       else if (!this.isMark("}")) throw new TomlSyntaxError(this.word, this.word.error || say.KEY_COMMA_MISSING);

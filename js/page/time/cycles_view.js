@@ -18,8 +18,8 @@ export class CyclesView {
     this.stopCell = new Cell(element("b"));
     this.markLabel = new Cell(element("span"));
     this.cyclesSinceMark = new Cell(element("b"));
-    const title = say.MARKS_CYCLE;
-    const markButton = element("button", { id: "mark", type: "button", title }, say.MARK);
+    const title = say.SET_MARKER_HINT;
+    const markButton = element("button", { id: "mark", type: "button", title }, say.SET_MARKER);
     onClick(markButton, () => {
       this.cycles.addMark();
       this.show();
