@@ -184,7 +184,7 @@ export const valueRangeMessage = (place, maximum) => `${place} holds 0 to ${maxi
 export const cannotBeSetMessage = (place, answer) => `${place} cannot be set: the bench answered ${answer}`;
 
 // --- adapter/remote_front_panel.js ---
-export const KEY_PLACE = "a key's place is its row and column, such as 0 2, or test and a level";
+export const KEY_PLACE_SYNTAX = "a key's place is its row and column, such as 0 2, or test and a level";
 
 // --- adapter/expression_values.js ---
 export const NOTHING_TO_EVALUATE = "there is nothing to evaluate";

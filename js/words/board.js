@@ -103,7 +103,7 @@ export const labelIsAt = (label, line) => `${label} is at ${line}`;
 /** @type {(count: number) => string} */
 export const lampsTitle = (count) => `Lamps · ${count}`;
 /** @type {(name: string, place: string) => string} */
-export const soundsEdges = (name, place) => `${name} sounds the edges of ${place}`;
+export const soundsAtEdges = (name, place) => `${name} sounds at each edge of ${place}`;
 export const BUZZER = "Buzzer";
 
 // --- board/wiring_view.js ---
@@ -129,5 +129,5 @@ export const answerShowsInstantMessage = (line, board) => (
 /** @type {(line: number, count: number, board: string, needed: number) => string} */
 export const tooFewLampsMessage = (line, count, board, needed) => (
   `line ${line} of the answers has ${count} lamps, and the display of ${board} needs ${needed}`);
-export const ENDS_WITHIN_TRACE = "the answers end within one to `trace`";
+export const ENDS_WITHIN_TRACE = "the answers end in the middle of an answer to `trace`";
 export const NO_LAMPS_SHOWN = "no answer shows the lamps";

@@ -54,7 +54,7 @@ export const TEXT_HAS_ERRORS = "The board's text has errors: see Board.";
 /** @type {(parts: string) => string} */
 export const withAddedParts = (parts) => `, with ${parts}`;
 /** @type {(items: string[]) => string} */
-export const listOf = (items) => items.join(", ").replace(/, ([^,]*)$/, " and $1");
+export const joinWithAnd = (items) => items.join(", ").replace(/, ([^,]*)$/, " and $1");
 
 // --- drawing/part_addition.js ---
 /** @type {(maximum: number) => string} */

@@ -19,13 +19,13 @@ export const noNameMessage = (name) => `no line defines the name ${name}`;
 /** @type {(maximum: number) => string} */
 export const lineTooLongMessage = (maximum) => `the line has more than ${maximum} bytes before its comment`;
 /** @type {(name: string, line: number) => string} */
-export const definedTwice = (name, line) => `the name ${name} is also defined on line ${line}`;
+export const alsoDefinedOnLine = (name, line) => `the name ${name} is also defined on line ${line}`;
 /** @type {(text: string) => string} */
 export const dependsOnItself = (text) => `the value of \`${text}\` depends on itself`;
 /** @type {(text: string, value: number, from: number, to: number) => string} */
 export const outOfRange = (text, value, from, to) => `\`${text}\` is ${value}; it must be ${from} to ${to}`;
 /** @type {(text: string, number: number) => string} */
-export const oddPair = (text, number) => (
+export const notEvenRegister = (text, number) => (
   `\`${text}\` is not an even register, 0 to 14, at which a pair begins; if it is the number of a pair, write ${number}P`);
 /** @type {(text: string) => string} */
 export const noPairMessage = (text) => `\`${text}\` is not a pair; pairs are 0P to 7P, or 0<, 2< to 14< by their first register`;

@@ -70,7 +70,7 @@ export const withCycles = (cycles) => `, ${cycles} cycles`;
 export const NOT_A_HISTORY = "it is not a recorded past";
 
 // --- session/offered_lines.js ---
-export const OTHER_LINES = "Other lines have replaced the lines that you had not sent.";
+export const LINES_REPLACED = "Other lines have replaced the lines that you had not sent.";
 export const UNDO = "Undo";
 
 // --- session/opened_file.js ---

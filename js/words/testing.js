@@ -144,6 +144,6 @@ export const NOT_OK = "not ok";
 export const LAST_INSTRUCTIONS = "The last instructions";
 export const OPEN_AT_FAILURE = "Open the session at the failure";
 export const NO_LABEL = "(no label)";
-export const BEGUN_BEFORE = "(begun earlier)";
+export const BEGUN_EARLIER = "(begun earlier)";
 /** @type {(cycles: string, milliseconds: string) => string} */
 export const cyclesAndTime = (cycles, milliseconds) => `${cycles}, ${milliseconds} ms`;

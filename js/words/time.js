@@ -29,7 +29,7 @@ export const SET_MARKER = "Set marker";
 export const SINCE_RESET_TOOLTIP = "the cycles since the last reset, or since this session was started or opened in this tab";
 export const SINCE_RESET = "Since reset ";
 export const IN_LAST_RUN = "in the last run without a stop";
-export const SINCE_STOP = "Since pause ";
+export const SINCE_PAUSE = "Since pause ";
 export const SINCE_MARK = "Since the mark ";
 export const BETWEEN_MARKS = "Between the marks ";
 

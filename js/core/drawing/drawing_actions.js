@@ -299,7 +299,7 @@ export function applyAction(text, action) {
     const [part, message] = perform(editedBoard, action);
     const panelError = findNewPanelError(text, editedBoard.text);
     if (panelError) return { ...unchangedResult, refusal: panelError };
-    const addedPartsText = editedBoard.addedParts.length > 0 ? say.withAddedParts(say.listOf(editedBoard.addedParts)) : "";
+    const addedPartsText = editedBoard.addedParts.length > 0 ? say.withAddedParts(say.joinWithAnd(editedBoard.addedParts)) : "";
     const { edits, deletedChains } = editedBoard;
     return { edits, text: editedBoard.text, part, message: `${message}${addedPartsText}.`, deletedChains, refusal: "" };
   } catch (error) {

@@ -28,7 +28,7 @@ export class CyclesView {
     const root = block("cycles");
     root.replaceChildren(
       element("span", { title: say.SINCE_RESET_TOOLTIP }, say.SINCE_RESET, this.resetCell.node),
-      element("span", { title: say.IN_LAST_RUN }, say.SINCE_STOP, this.stopCell.node),
+      element("span", { title: say.IN_LAST_RUN }, say.SINCE_PAUSE, this.stopCell.node),
       element("span", {}, markButton, " ", this.markLabel.node, this.cyclesSinceMark.node),
     );
     root.hidden = false;
