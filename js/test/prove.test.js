@@ -183,7 +183,7 @@ test("a condition with a time is also evaluated between the two cycles of an ins
   assert.ok(endCondition.flat().every((comparison) => !comparison.startsWith("in counter 3 ")));
 });
 
-test("a condition that is always true, or never, also has both lists", () => {
+test("a condition that is always or never true also has both lists of comparisons", () => {
   const { stopwatch: alwaysTrue } = questionOf("never r5 >= 0 for 9").question;
   assert.deepEqual(alwaysTrue, { startCondition: [[]], endCondition: [["in register 0 whole 1 0"]], maxCycles: 9 });
   const { stopwatch: neverTrue } = questionOf("never r5 > 15 for 9").question;

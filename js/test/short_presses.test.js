@@ -175,7 +175,7 @@ test("a property is asked for all inputs, then with the limits of the text, and 
     ["all", "only; press 0 0; test", "wait 7; only; press 0 0; test", "wait 7; held 19; only; press 0 0; test"]);
   const neverReached = await judge(text, () => "holds 7\n");
   assert.deepEqual([neverReached.verdict.limits, neverReached.asked], [[], ["all"]]);
-  // A separate question decides the other property.
+  // The other property is decided by a question of its own.
   const { asked } = await judge(`${text}never r8 = 1\n`, () => "too many\n");
   assert.equal(asked.length, 4);
   const engine = new AnsweringEngine((limits) => (limits.includes("held") ? "holds 5\n" : LONG_PRESS));

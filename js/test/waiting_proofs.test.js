@@ -122,7 +122,7 @@ test("a counterexample with values must keep the shortest wait, too", async () =
   assert.equal((await found(`wait 60 to 90\n${NEVER_ON}`)).isAllowed, false);
 });
 
-/** The answer to a question about several properties, which is never proved for all of them. */
+/** The prover's answer to each question about several properties: they are not all proved. */
 const JOINT_ANSWER = "may fail 0 1 0 1\n";
 const judge = (propertiesText, answer) => (
   judgeFirst(new AnsweringEngine(answer, JOINT_ANSWER), { boardText: BOARD, programText: PROGRAM, propertiesText }));

@@ -104,7 +104,7 @@ export const DO_SYNTAX = "write `do STEPS`, the name of shared steps";
 /** @type {(name: string) => string} */
 export const stepsUseThemselves = (name) => `the steps ${name} cannot run themselves`;
 /** @type {(knownNames: string, name: string) => string} */
-export const knownSteps = (knownNames, name) => (knownNames ? `; shared steps: ${knownNames}` : `; \`steps ${name}\` begins them`);
+export const knownSteps = (knownNames, name) => (knownNames ? `; shared steps: ${knownNames}` : `; define them with \`steps ${name}\``);
 /** @type {(name: string, knownNames: string) => string} */
 export const noStepsMessage = (name, knownNames) => `there are no steps ${name} before this line${knownNames}`;
 /** @type {(word: string) => string} */

@@ -79,7 +79,7 @@ end_of_tests
 check_rejected 1 "test: $folder/bad_steps.test:1: shared steps need a name of one word: steps NAME
 test: $folder/bad_steps.test:4: the steps one cannot run themselves
 test: $folder/bad_steps.test:5: shared steps have no states: \`save\` belongs in a test
-test: $folder/bad_steps.test:6: there are no steps two before this line; \`steps two\` starts them
+test: $folder/bad_steps.test:6: there are no steps two before this line; define them with \`steps two\`
 test: $folder/bad_steps.test:7: shared steps have no states: \`from\` belongs in a test
 test: $folder/bad_steps.test:8: the steps one are already defined at line 3
 test: $folder/bad_steps.test:10: write \`repeat COUNT\`, 1 to 100,000: the lines down to its \`end\` are run COUNT times

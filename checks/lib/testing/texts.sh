@@ -39,8 +39,8 @@ not ok 2 - it does not
   at: \"$folder/steps.test:2\"
 status 1" "shared steps of another text"
 check_rejected 1 "test: $folder/steps.test:1: there is no line \`test NAME\`" ./mcs4 test $lock/board.toml $lock/lock.asm "$folder/steps.test"
-check_rejected 1 "test: $folder/opens.test:3: there are no steps enter before this line; \`steps enter\` starts them
-test: $folder/opens.test:7: there are no steps enter before this line; \`steps enter\` starts them" \
+check_rejected 1 "test: $folder/opens.test:3: there are no steps enter before this line; define them with \`steps enter\`
+test: $folder/opens.test:7: there are no steps enter before this line; define them with \`steps enter\`" \
     ./mcs4 test $lock/board.toml $lock/lock.asm "$folder/opens.test" "$folder/steps.test"
 verdict "$(outcome ./mcs4 cover $lock/board.toml $lock/lock.asm "$folder/steps.test" "$folder/opens.test" | sed -n '/^status/p; /instructions were run/s/ (.*//p')" \
     "$(cat "$folder/steps.test" "$folder/opens.test" > "$folder/joined.test"

@@ -56,7 +56,8 @@ export function profileText({ total, rows, earlierInstructionCycles, keys }) {
     formatCell(last, 24)].join(" ");
   return `${[
     say.cyclesInTime(total, formatMilliseconds(total)), "", head, ...rows.map((row) => formatLabelRow(row, total)),
-    ...(earlierInstructionCycles > 0 ? [`${say.BEGUN_EARLIER.padEnd(LOCATION_WIDTH)} ${formatShare(earlierInstructionCycles, total)}`] : []),
+    ...(earlierInstructionCycles > 0
+      ? [`${say.BEGUN_EARLIER.padEnd(LOCATION_WIDTH)} ${formatShare(earlierInstructionCycles, total)}`] : []),
     ...(keys.length > 0 ? ["", keysHead, ...keys.map(formatKeyRow)] : []),
   ].join("\n")}\n`;
 }
