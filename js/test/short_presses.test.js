@@ -190,7 +190,7 @@ test("an undecided property says what is missing", async () => {
     (await judge(`${inputs}\n${property}\n`, () => answer, board)).verdict.reason);
   assert.match(await reasonOf("press A"), /unseen between two reads; write a line `wait TIME to TIME`, from 2 cycles$/);
   assert.match(await reasonOf("press A\nwait 1 to 9"), /unseen between two reads/);
-  assert.match(await reasonOf("press A B\nwait 7 to 9\nheld at most 9"), /^with its line `held`, a proof cannot use `wait`/);
+  assert.match(await reasonOf("press A B\nwait 7 to 9\nheld at most 9"), /^a proof cannot use `wait` if the text has a line `held`/);
   assert.match(await reasonOf("press WALK\nwait 7 to 9"), /^a proof limits only how long keys of the matrix are down$/);
   assert.match(await reasonOf("press A B\nwait 99995 to 99995"), /are together longer than 100000 cycles$/);
   assert.match(await reasonOf("press A B\nwait 7 to 60"), /^the bench does not confirm .* allows presses of up to 25 cycles$/);

@@ -106,8 +106,8 @@ export const COMMAND_WORDS = {
       which can be set; the disassembly; and in the console the bench's lines and keys by their names. editors/README.md has the settings of
       editors, and the keys of \`launch\` and \`attach\`.
 
-      A session file that is launched is in use during that time, and is updated at each stop. Nothing else is written: a file that is
-      attached to stays as it is.`,
+      A launched session file is in use until the debugger ends, and is updated at each stop. Nothing else is written: an attached session
+      file stays as it is.`,
     options: { stdio: "Does nothing: some editors pass this option." },
     examples: [["mcs4 dap", "is what an editor starts"]],
     status: [
@@ -118,8 +118,8 @@ export const COMMAND_WORDS = {
   debug: {
     summary: "a debugger at the prompt: breakpoints, steps, back, values, keys",
     text: `
-      Debugs a program at a prompt, with the commands of gdb: breakpoints with conditions, over, into, out, back; registers, RAM, ROM, lamps
-      and keys; what is written where, and since when. \`help\` shows the commands.
+      Debugs a program at a prompt, with the commands of gdb: breakpoints with conditions; steps over, into, out and back; registers, RAM,
+      ROM, lamps and keys; and what changed a value last. \`help\` shows the commands.
 
       Without BOARD and PROGRAM it debugs the project of this folder. Without SESSION it works in memory. A session file is updated at each
       stop. If the source of a session is not known, it is disassembled from ROM.

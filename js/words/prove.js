@@ -12,7 +12,7 @@ export const togetherLine = (count) => `together ${count}`;
 export const WAIT_WORD = "wait";
 export const HELD_WORD = "held";
 export const NEEDS_WAIT = "keys can go up and down unseen between two reads; write a line `wait TIME to TIME`, from 2 cycles";
-export const HELD_SHORTENS_WAITS = "with its line `held`, a proof cannot use `wait`; this property does not need `held`";
+export const HELD_SHORTENS_WAITS = "a proof cannot use `wait` if the text has a line `held`; this property does not need `held`";
 /** @type {(maximum: number) => string} */
 export const tooManyCombinations = (maximum) => "a proof can use `wait` only if keys and TEST have at most "
   + `${maximum} allowed combinations; name fewer keys with \`press\`, or write \`together 1\``;

@@ -65,5 +65,5 @@ export const FULL_SPEED = "full speed";
 
 // --- time/travel.js ---
 export const SEARCHING_GOAL = "Searching for the goal.";
-export const REPEATING_PAST = "Repeating the past on a copy.";
+export const REPEATING_PAST = "Replaying the past on a copy.";
 export const GOING_FORWARD = "Going forward again.";

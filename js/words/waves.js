@@ -3,7 +3,7 @@
 // --- waves/live_waves.js ---
 /** @type {Record<string, string>} the reasons why a recording ended */
 export const END_REASONS = {
-  hand: "Stopped by you.",
+  hand: "You stopped it.",
   back: "It ended when the session went back or forward.",
   board: "It ended when the board was wired again.",
   program: "It ended when other bytes were put into ROM.",
@@ -36,7 +36,7 @@ export const triggerNotUnderstood = (error) => `The trigger is not understood: $
 export const STOP_RECORDING = "Stop recording";
 /** @type {(query: string, isForward: boolean, cycle: string) => string} */
 export const notFoundMessage = (query, isForward, cycle) => (
-  `${query}: not ${isForward ? "after" : "before"} cycle ${cycle} of this recording.`);
+  `${query}: not found ${isForward ? "after" : "before"} cycle ${cycle} of this recording.`);
 export const NO_LINE_CHOSEN = "No line is chosen: choose the lines for the file.";
 
 // --- waves/trigger.js ---
@@ -91,8 +91,8 @@ export const TITLES = {
 };
 
 // --- waves/wave_choice.js, waves/wave_catalog.js ---
-/** @type {(names: string, isOne: boolean) => string} */
-export const recordedNext = (names, isOne) => `${names} ${isOne ? "is" : "are"} recorded from the next recording on.`;
+/** @type {(names: string) => string} */
+export const inNextRecording = (names) => `${names} will be in the next recording.`;
 
 /** @type {(group: string) => string} */
 export const titleOfChip = (group) => group.replace(/^rom/, "ROM ").replace(/^ram/, "RAM ").replace(/^chain/, "Chain ");
