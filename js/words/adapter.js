@@ -38,7 +38,7 @@ export const notWatchedMessage = (place) => (
   `${place} cannot be watched; registers, pairs, and the board's ports, lines, lamps, chains and RAM characters can`);
 export const ONLY_CHANGES = "only changes can be watched (accessType write)";
 /** @type {(kind: string) => string} */
-export const noFilterMessage = (kind) => `unknown exception filter: ${kind}`;
+export const unknownFilterMessage = (kind) => `unknown exception filter: ${kind}`;
 /** @type {(place: string) => string} */
 export const placeChanges = (place) => `${place} changes`;
 

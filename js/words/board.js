@@ -39,7 +39,7 @@ export const rowAndColumn = (row, column) => `row ${row}, column ${column}`;
 /** @type {(number: number, count: number) => string} */
 export const lampOfRow = (number, count) => `lamp ${number} of ${count}`;
 /** @type {(column: string, row: string) => string} */
-export const columnAndRow = (column, row) => `${column} and ${row}`;
+export const linesOfColumnAndRow = (column, row) => `${column} and ${row}`;
 export const LAMPS = "lamps";
 
 // --- board/sound.js ---

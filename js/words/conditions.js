@@ -70,7 +70,7 @@ export const tooLongMessage = (maximum) => `a condition has at most ${maximum} c
 export const tooDeepMessage = (maximum) => `parentheses can be nested at most ${maximum} deep`;
 export const PARENTHESIS_NOT_CLOSED = "this parenthesis is not closed";
 /** @type {(word: string) => string} */
-export const notExpectedMessage = (word) => `${word}: the condition ends before this; join two conditions with and, or`;
+export const unexpectedWordMessage = (word) => `${word}: the condition ends before this; join two conditions with and, or`;
 /** @type {(value: string) => string} */
 export const noComparisonMessage = (value) => `${value}: a comparison is missing, as in: ${value} = 4`;
 /** @type {(name: string) => string} */
@@ -81,7 +81,7 @@ export const noValueMessage = (condition) => `${condition}: this is a condition,
 export const missingBefore = (word) => `a value is missing before ${word}`;
 /** @type {(sign: string) => string} */
 export const missingAfter = (sign) => `a value is missing after ${sign}`;
-export const SPACED_SYNTAX = "write ram.BANK.SRC or st.BANK.REGISTER.NUMBER";
+export const DOTTED_PLACE_SYNTAX = "write ram.BANK.SRC or st.BANK.REGISTER.NUMBER";
 export const KEY_SYNTAX = "write `key NAME down` or `key NAME up`";
 
 // --- conditions/values.js ---

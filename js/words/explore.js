@@ -54,7 +54,7 @@ export const DISPLAY_IS_MULTIPLEXED = "the display's digits are multiplexed, but
 export const ONLY_AFTER_SYNTAX = "write `CONDITION only after press KEY, press KEY ..`";
 /** @type {(word: string, firstWords: string) => string} */
 export const unknownFirstWord = (word, firstWords) => `a line cannot begin with \`${word}\`; it can begin with ${firstWords}`;
-export const NOTHING_CHANGES =
+export const NO_INPUT_MAY_CHANGE =
   "no input may change: the board's text names no keys and no TEST; `test` lets TEST change, `reset` cycles the power";
 export const MODEL_NEEDS_KEYS = "a model gets keys, but no key may go down";
 
@@ -62,7 +62,7 @@ export const MODEL_NEEDS_KEYS = "a model gets keys, but no key may go down";
 export const SECONDS_RANGE = "Seconds must be a number from 1 to 86,400.";
 export const SEED_RANGE = "The seed must be a number from 1 to 99,999,999.";
 export const STOP = "Stop";
-export const EXPLORE = "Search";
+export const SEARCH = "Search";
 export const STARTING = "Starting.";
 export const STOPPED_BEFORE_START = "It was stopped before it started.";
 export const SOURCE_HAS_CHANGED = "The source has changed since then: search again.";

@@ -340,7 +340,7 @@ export class ClientBreakpoints {
     commonMistakes.stoppingKinds = new Set();
     commonMistakes.conditions = new Map();
     const responses = exceptionFilters.map(({ kind, condition: text }) => {
-      if (!Object.prototype.hasOwnProperty.call(MISTAKE_KINDS, kind)) return { verified: false, message: say.noFilterMessage(kind) };
+      if (!Object.prototype.hasOwnProperty.call(MISTAKE_KINDS, kind)) return { verified: false, message: say.unknownFilterMessage(kind) };
       const mistakeKind = /** @type {MistakeKind} */ (kind);
       const isUnconditional = text.trim() === "";
       const { condition, error, column } = isUnconditional ? { condition: null, error: "", column: -1 }

@@ -502,7 +502,7 @@ export function readCampaign(text, subject, needsInputs = true) {
   });
   const last = Math.max(1, text.trimEnd().split("\n").length);
   if (!addDefaults(reader) && needsInputs && errors.length === 0) {
-    errors.push({ line: last, column: -1, words: say.NOTHING_CHANGES });
+    errors.push({ line: last, column: -1, words: say.NO_INPUT_MAY_CHANGE });
   }
   if (errors.length === 0 && !hasKeysForModel(reader)) {
     const { line } = reader.properties.find(({ form }) => form === "model") || { line: 1 };

@@ -87,7 +87,7 @@ export class ExploreTab {
     /** @type {AbortController | null} the controller that stops the current search; null if no search is running */
     this.controller = null;
     this.exploreButton = new Cell(button("explore"));
-    this.exploreButton.set(say.EXPLORE);
+    this.exploreButton.set(say.SEARCH);
     onClick(button("clear-finds"), () => this.clear());
     /** The number of errors in the properties, as last reported by `showMark`. */
     this.errorCount = 0;
@@ -173,7 +173,7 @@ export class ExploreTab {
   show() {
     const { currentResults } = this;
     const isRunning = this.controller !== null;
-    this.exploreButton.set(isRunning ? say.STOP : say.EXPLORE);
+    this.exploreButton.set(isRunning ? say.STOP : say.SEARCH);
     this.updateClearButton();
     if (currentResults && currentResults.report) this.view.show(currentResults.report, isRunning);
     this.showMark(0);
