@@ -78,8 +78,8 @@ test("values that an instruction reads or writes through SRC", async () => {
   const location = "bank 0, chip 0, register 1";
   assert.equal(joinPieces(piecesOf("  WRM", "WRM", openedSession)), `${location}, character 2 = 7; acc 5, cy 1`);
   assert.equal(joinPieces(piecesOf("  rd2", "rd2", openedSession)), `${location}, status character 2 = 9; acc 5, cy 1`);
-  assert.equal(joinPieces(piecesOf("  WMP", "WMP", openedSession)), "bank 0, chip 0: its port puts out 0; acc 5, cy 1");
-  assert.match(joinPieces(piecesOf("  RDR", "RDR", openedSession)), /^ROM 1: puts out \d, RDR reads [\dA-F]; acc 5, cy 1$/);
+  assert.equal(joinPieces(piecesOf("  WMP", "WMP", openedSession)), "bank 0, chip 0: its port outputs 0; acc 5, cy 1");
+  assert.match(joinPieces(piecesOf("  RDR", "RDR", openedSession)), /^ROM 1: outputs \d, RDR reads [\dA-F]; acc 5, cy 1$/);
   assert.equal(joinPieces(piecesOf("  ADD R4", "ADD", openedSession)), "acc 5, cy 1");
   assert.deepEqual(piecesOf("  JUN end", "JUN", openedSession), []);
   const bank2Session = await openSession("poke dcl 2\npoke ram.2.0x00 3\n");

@@ -125,7 +125,7 @@ export const nameIsConditionMessage = (name, text) => `${name} is the condition 
 /** @type {(name: string, error: string) => string} */
 export const errorInName = (name, error) => `in ${name}: ${error}`;
 /** @type {(text: string) => string} */
-export const noConstantMessage = (text) => `${text} is neither a number nor a name of the program`;
+export const notAConstantMessage = (text) => `${text} is neither a number nor a name of the program`;
 /** @type {(text: string) => string} */
 export const namesUnknownMessage = (text) => `${text} is not a number; names are known only while the source is the same as ROM`;
 

@@ -95,9 +95,9 @@ export const romChip = (chip) => `ROM ${chip}`;
 export const NOTHING_ON_BOARD = "nothing that the board has";
 export const SELECTS = "; selects ";
 /** @type {(chip: number, out: string, read: string) => string} */
-export const portOfRom = (chip, out, read) => `ROM ${chip}: puts out ${out}, RDR reads ${read}`;
+export const portOfRom = (chip, out, read) => `ROM ${chip}: outputs ${out}, RDR reads ${read}`;
 /** @type {(bank: number, chip: number, out: string) => string} */
-export const portOfRam = (bank, chip, out) => `bank ${bank}, chip ${chip}: ${out === "" ? BOARD_LACKS_IT : `its port puts out ${out}`}`;
+export const portOfRam = (bank, chip, out) => `bank ${bank}, chip ${chip}: ${out === "" ? BOARD_LACKS_IT : `its port outputs ${out}`}`;
 export const BOARD_LACKS_IT = "the board lacks it";
 export const READS_NO_PLACE = "it uses no place of the machine, so it never becomes true";
 /** @type {(bank: number, chip: number, register: number, character: string) => string} */

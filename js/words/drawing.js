@@ -49,7 +49,7 @@ export const partNamed = (part, name) => (name ? `${part} is called ${name}` : `
 /** @type {(lamp: number, colour: string) => string} */
 export const lampColoured = (lamp, colour) => `Lamp ${lamp} is ${colour}`;
 export const USUAL_RED = "red, as usual";
-export const FACE_UNREADABLE = "The front panel of the board could then not be read.";
+export const FRONT_PANEL_UNREADABLE = "The front panel of the board could then not be read.";
 export const TEXT_HAS_ERRORS = "The board's text has errors: see Board.";
 /** @type {(parts: string) => string} */
 export const withAddedParts = (parts) => `, with ${parts}`;
@@ -101,7 +101,7 @@ export const ofKeys = (target) => `${target} of the keys`;
 
 // --- drawing/part_deletion.js ---
 export const PROCESSOR_STAYS = "Every board has a processor.";
-export const CHAIN_NEEDS_LINES = "A chain needs a clock and data: wire it to another line, or delete the chain.";
+export const CHAIN_NEEDS_LINES = "A chain needs a clock line and a data line: wire it to another line, or delete the chain.";
 export const LINE_STAYS = "A line is deleted only with its chip.";
 /** @type {(bank: number, chip: number) => string} */
 export const deleteChipFirst = (bank, chip) => `The chips of a bank are numbered from 0: delete RAM ${bank}.${chip} first.`;
@@ -116,7 +116,7 @@ export const benchRejectsMessage = (reason) => `The bench rejects the board's te
 /** @type {(name: string) => string} */
 export const lineOfBoard = (name) => `line ${name}`;
 /** @type {(pin: string, pins: string) => string} */
-export const wireBegins = (pin, pins) => `Wire from ${pin}: it can end at ${pins}.`;
+export const wireStarted = (pin, pins) => `Wire from ${pin}: it can end at ${pins}.`;
 export const NO_WIRE = "No wire was drawn.";
 export const NO_CHANGE = "No change.";
 /** @type {(reason: string) => string} */
@@ -145,7 +145,7 @@ export const SHELF = {
   switch: ["Switch", "at the processor's TEST pin; it stays"],
   buzzer: ["Buzzer", "at the chosen output line, else at the next free one; each edge of its line makes a sound"],
 };
-export const NOT_WIRED = "Not applied yet.";
+export const NOT_APPLIED = "Not applied yet.";
 export const SHOW_IN_BOARD = "Show in text";
 export const INSERT_SCAN = "Insert code that scans these keys";
 

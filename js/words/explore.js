@@ -11,7 +11,7 @@ export const noSuchStateMessage = (state, states) => `no test saves a state ${st
 export const testFails = (line, text, message) => `line ${line} of its tests fails: ${text}: ${message}`;
 
 // --- explore/campaign.js ---
-export const PROPERTY_FORMS = "press, test, reset, together, wait, held, apart, from, begin, note, pace, never, always, at, after press, "
+export const FIRST_WORDS = "press, test, reset, together, wait, held, apart, from, begin, note, pace, never, always, at, after press, "
   + "every, no, reach, model, while, once, or are written as `C only after press K, press K ..`, `@LABEL at most once for each press` or "
   + "`@LABEL to @LABEL within TIME`";
 /** @type {(word: string) => string} */

@@ -122,7 +122,7 @@ export const RAM_PORTS_ARE_READ_ONLY = "No command sets the output of a RAM chip
 /** @type {(bank: number, chip: number, register: number) => string} */
 export const registerOfChip = (bank, chip, register) => `bank ${bank}, chip ${chip}, register ${register}`;
 export const NO_RAM = "This board has no RAM.";
-export const CHARACTERS = "nibbles 0 to F";
+export const NIBBLES = "nibbles 0 to F";
 export const PORT = "port ";
 /** @type {(bank: number) => string} */
 export const bankOf = (bank) => `bank ${bank}`;

@@ -144,16 +144,16 @@ export const NOT_NOW = "not possible now";
 export const NOTHING_UNDONE = "nothing was undone";
 export const NO_BUZZER = "the board has no buzzer";
 export const NO_PRINTER = "the board has no printer";
-export const NO_TEST_PIN = "the front panel has its own TEST control";
+export const TEST_HAS_OWN_CONTROL = "the front panel has its own TEST control";
 export const HAS_BOARD = "the board is not empty";
 export const HAS_TEXT = "there is already a text";
 export const NO_RESULTS = "there are no results";
 export const NO_BREAKPOINTS = "there are no breakpoints";
-export const NO_WAVES = "nothing was recorded yet";
+export const NOTHING_RECORDED = "nothing was recorded yet";
 export const NO_KEYS = "the board has no key matrix";
 export const NO_NOTICES = "there were no notices";
-export const NO_EDITOR = "show a text first";
-export const NO_NAMES = "show Source first";
+export const NEEDS_TEXT = "show a text first";
+export const NEEDS_SOURCE = "show Source first";
 
 // --- commands/toolbar_view.js ---
 export const FILE = "File";

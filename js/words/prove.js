@@ -1,7 +1,7 @@
 // Messages and labels about proofs: the verdicts on properties, and the reasons why a property is not decided.
 
 // --- prove/condition_comparisons.js ---
-export const READS_TOO_MUCH = "its condition uses too many places at once";
+export const USES_TOO_MANY_PLACES = "its condition uses too many places at once";
 /** @type {(place: string) => string} */
 export const dependsOnInput = (place) => `its condition uses ${place}, an input`;
 

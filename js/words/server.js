@@ -22,7 +22,7 @@ export const definitionSuffix = (isChain, line) => `; its ${isChain ? "chain" : 
 
 // --- server/connection.js, server/message_stream.js ---
 /** @type {(bytes: number) => string} */
-export const messageTooLong = (bytes) => `a message of ${bytes} bytes was not read`;
+export const messageNotRead = (bytes) => `a message of ${bytes} bytes was not read`;
 export const NOT_JSON = "a message is not JSON";
 export const MESSAGE_SYNTAX = "a message has jsonrpc \"2.0\", a method, and an id if it is answered";
 export const EXIT_AFTER_SHUTDOWN = "after shutdown only exit is accepted";

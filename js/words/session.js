@@ -118,7 +118,7 @@ export const CONTAINS_NUL = "the project contains NUL bytes, so it is not a text
 // --- session/project_parts.js ---
 /** The first line of the `mcs4.toml` file that `mcs4 project split` writes. */
 export const ABOUT_PROJECT_FILE = "# The project of this folder: commands, editors and the page use these files unless others are named.";
-export const UNNAMED = "session";
+export const UNNAMED_SESSION = "session";
 /** @type {(line: number) => string} */
 export const noBreakpointMessage = (line) => `line ${line} is not a breakpoint such as \`break line 14\` or \`break at 0x00F\``;
 /** @type {(count: number, maximum: number) => string} */
@@ -184,7 +184,7 @@ export const WITH_STORY = "with its story";
 
 // --- session/share_link.js ---
 export const DAMAGED = "it is cut off or was changed";
-export const CONTAINS_OTHER_TEXTS = "its texts are longer than the page accepts";
+export const TEXTS_TOO_LONG = "its texts are longer than the page accepts";
 export const CANNOT_DECOMPRESS = "this browser cannot read compressed texts (it has no DecompressionStream); it needs Chrome "
   + "103, Firefox 113 or Safari 16.4 or later, or a project file instead of the link";
 export const NEWER_PAGE = "it was made by a newer page than this one";

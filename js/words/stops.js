@@ -161,7 +161,7 @@ export function describeBreakpointCondition(breakpoint, error = "") {
 }
 
 /** @type {(address: string) => string} */
-export const stoppedAt = (address) => `Paused at ${address}.`;
+export const pausedAt = (address) => `Paused at ${address}.`;
 
 /**
  * Returns the message after the user has paused the session. If the run has a goal, the message says that the goal was not reached.
@@ -170,7 +170,7 @@ export const stoppedAt = (address) => `Paused at ${address}.`;
  * @param {string} location
  */
 export function describeUserPause(goal, cycles, location) {
-  return goal ? `Paused at ${location}, after ${formatCycles(cycles)}; ${describeGoal(goal)} was not reached.` : stoppedAt(location);
+  return goal ? `Paused at ${location}, after ${formatCycles(cycles)}; ${describeGoal(goal)} was not reached.` : pausedAt(location);
 }
 
 /**

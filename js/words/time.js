@@ -56,7 +56,7 @@ const errorsIn = (errors) => (
 export const wasPausedFor = (time, isHidden) => (
   `Running. Paused for ${time} while ${isHidden ? "the page was hidden" : "the tab was busy"}.`);
 /** @type {(answer: string, reason: string) => string} */
-export const stoppedBy = (answer, reason) => `Paused: ${answer}: ${reason}.`;
+export const pausedBy = (answer, reason) => `Paused: ${answer}: ${reason}.`;
 
 // --- time/speeds.js ---
 export const REAL_TIME = "real time";

@@ -8,7 +8,7 @@
 import { Face } from "../board/face.js";
 import { instructionForLine } from "../debug/breakpoints.js";
 import { MISTAKE_KINDS } from "../../words/debug.js";
-import { stoppedAt } from "../../words/stops.js";
+import { pausedAt } from "../../words/stops.js";
 import { readInstructions } from "../help/manual.js";
 import { getField } from "../server/framing.js";
 import { ErrorMessages } from "../bench/error_messages.js";
@@ -495,7 +495,7 @@ export class DebugAdapter {
    * @returns {MoveEnd}
    */
   createMoveEnd(reason) {
-    return { reason, message: stoppedAt(this.currentSession.launchResult.session.counterText), id: 0 };
+    return { reason, message: pausedAt(this.currentSession.launchResult.session.counterText), id: 0 };
   }
 
   /**

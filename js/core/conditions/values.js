@@ -342,7 +342,7 @@ export function evaluateConstant(node, map) {
   if (node.kind === "number") return node.value;
   if (node.kind === "sum") return OPERATIONS[node.sign](evaluateConstant(node.left, map), evaluateConstant(node.right, map));
   const programName = node.kind === "name" && node.direction === "" ? findProgramName(node.text.replace(/^@/, ""), map) : undefined;
-  return programName ? programName.value : fail(map ? say.noConstantMessage(node.text) : say.namesUnknownMessage(node.text), node.column);
+  return programName ? programName.value : fail(map ? say.notAConstantMessage(node.text) : say.namesUnknownMessage(node.text), node.column);
 }
 
 /**

@@ -196,7 +196,7 @@ export class Drawing {
     this.wireStart = isSamePin ? "" : name;
     if (this.possibleEnds.size === 0) this.wireStart = "";
     const count = this.possibleEnds.size;
-    this.showMessage(this.wireStart ? say.wireBegins(pinName(name), formatQuantity(count, "pin")) : "");
+    this.showMessage(this.wireStart ? say.wireStarted(pinName(name), formatQuantity(count, "pin")) : "");
     return Promise.resolve();
   }
 

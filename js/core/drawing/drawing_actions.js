@@ -282,7 +282,7 @@ function findNewPanelError(textBefore, textAfter) {
   const { errors } = new Face(textAfter);
   if (errors.length <= oldMessages.length) return "";
   const [newError] = errors.filter(({ message }) => !oldMessages.includes(message.replace(/\d+/g, "")));
-  return newError ? `${capitalize(newError.message)}.` : say.FACE_UNREADABLE;
+  return newError ? `${capitalize(newError.message)}.` : say.FRONT_PANEL_UNREADABLE;
 }
 
 /**

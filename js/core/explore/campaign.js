@@ -445,7 +445,7 @@ function parseUnguardedLine(reader, text) {
   if (start) return withinProperty(text, reader.parseLabel(start), reader.parseLabel(target), reader.parseTime(time, say.WITHIN_SYNTAX));
   const [kind, ...words] = text.split(" ");
   if (Object.prototype.hasOwnProperty.call(PROPERTY_PARSERS, kind)) return PROPERTY_PARSERS[kind](reader, words.join(" "), text);
-  if (!Object.prototype.hasOwnProperty.call(SETTING_PARSERS, kind)) fail(say.unknownFirstWord(kind.slice(0, 30), say.PROPERTY_FORMS));
+  if (!Object.prototype.hasOwnProperty.call(SETTING_PARSERS, kind)) fail(say.unknownFirstWord(kind.slice(0, 30), say.FIRST_WORDS));
   SETTING_PARSERS[kind](reader, words);
   return null;
 }

@@ -8,7 +8,7 @@ import * as stateText from "./state_text.js";
 import { parseCountArgument, findInstruction, parseAddress, rejectCommand } from "./argument_parsers.js";
 import { DISASSEMBLED_FROM_ROM } from "../../words/adapter.js";
 import * as say from "../../words/prompt.js";
-import { stoppedAt } from "../../words/stops.js";
+import { pausedAt } from "../../words/stops.js";
 
 /**
  * @typedef {import("./debugger_prompt.js").CommandHandler} CommandHandler
@@ -199,7 +199,7 @@ export class InspectCommands {
       },
       frame: () => this.frameText,
       stack: () => stateText.formatFrames(session),
-      program: () => lastStop.message || stoppedAt(session.counterText),
+      program: () => lastStop.message || pausedAt(session.counterText),
       locals: () => say.NO_LOCALS,
     };
   }

@@ -6,7 +6,7 @@ import { countOpenCalls } from "./state_text.js";
 import { runKeyPress, stepBackBy, stepBackOver } from "./prompt_moves.js";
 import { parseCountArgument, parseCycles, findInstruction, parseConditionText, rejectCommand } from "./argument_parsers.js";
 import * as say from "../../words/prompt.js";
-import { NO_OPEN_CALL, stoppedAt } from "../../words/stops.js";
+import { NO_OPEN_CALL, pausedAt } from "../../words/stops.js";
 
 /**
  * @typedef {import("./debugger_prompt.js").CommandHandler} CommandHandler
@@ -144,6 +144,6 @@ export class MoveCommands {
       prompt.showStop(remainingKeys === "" ? stopText : say.notPressedMessage(stopText, remainingKeys));
       return;
     }
-    prompt.showStop(stoppedAt(session.counterText));
+    prompt.showStop(pausedAt(session.counterText));
   }
 }

@@ -115,7 +115,7 @@ function buttonCommand(id, group, button, containerName, reason = say.NOT_NOW, o
  */
 function textCommand(id, textAction, keys, isSource = false) {
   return command(id, "text", (calls) => calls.performTextAction(textAction), { keys, place: isSource ? "source" : "texts",
-    unavailableReason: (calls) => (calls.isTextInFront(isSource) ? "" : isSource ? say.NO_NAMES : say.NO_EDITOR) });
+    unavailableReason: (calls) => (calls.isTextInFront(isSource) ? "" : isSource ? say.NEEDS_SOURCE : say.NEEDS_TEXT) });
 }
 
 /** @type {Command[]} */
@@ -136,7 +136,7 @@ const TIME_COMMANDS = [
   buttonCommand("time.backToChange", "time", "back-change", "history"),
   command("time.reset", "time", (calls) => calls.sendLine("reset\n"), { icon: "reset" }),
   command("time.test", "time", (calls) => calls.toggleTestPin(), {
-    unavailableReason: (calls) => (calls.isButtonAvailable("test") ? "" : say.NO_TEST_PIN) }),
+    unavailableReason: (calls) => (calls.isButtonAvailable("test") ? "" : say.TEST_HAS_OWN_CONTROL) }),
 ];
 
 /** @type {Command[]} */
@@ -241,7 +241,7 @@ const WIRING_COMMANDS = [
  * @param {CommandId} id
  * @param {string} button the id of the button
  */
-const waveCommand = (id, button) => buttonCommand(id, "waves", button, "waves", say.NO_WAVES);
+const waveCommand = (id, button) => buttonCommand(id, "waves", button, "waves", say.NOTHING_RECORDED);
 
 /** @type {Command[]} */
 const WAVE_COMMANDS = [
@@ -259,7 +259,7 @@ const WAVE_COMMANDS = [
   waveCommand("waves.b", "cursor-b"),
   waveCommand("waves.instruction", "wave-go-to"),
   command("waves.search", "waves", (calls) => calls.focusField("wave-search", "waves"), {
-    unavailableReason: (calls) => (calls.isButtonAvailable("zoom-in") ? "" : say.NO_WAVES) }),
+    unavailableReason: (calls) => (calls.isButtonAvailable("zoom-in") ? "" : say.NOTHING_RECORDED) }),
   waveCommand("waves.findBefore", "find-before"),
   waveCommand("waves.findAfter", "find-after"),
   buttonCommand("waves.changing", "waves", "waves-changing", "waves"),
