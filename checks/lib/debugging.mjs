@@ -255,7 +255,7 @@ async function tryMessages() {
   verdict(await client.endSession(), 0, "the adapter's status after errors");
   const httpClient = new Client(MCS4);
   httpClient.sendBytes("GET / HTTP/1.1\r\n\r\n");
-  verdict([await httpClient.ended, httpClient.stderr.split(",")[0]], [1, "dap: a message begins with one line Content-Length: N"], "another protocol");
+  verdict([await httpClient.ended, httpClient.stderr.split(",")[0]], [1, "dap: a message begins with the line Content-Length: N"], "another protocol");
   const largeClient = new Client(MCS4);
   largeClient.sendBytes("Content-Length: 99999999999\r\n\r\n");
   const { message } = await largeClient.waitForMessage(({ request_seq }) => request_seq === 0);

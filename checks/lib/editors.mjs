@@ -123,7 +123,7 @@ async function tryExits() {
   verdict(await hastyClient.ended, 1, "exit without shutdown");
   const httpClient = new Client(MCS4);
   httpClient.sendBytes("GET / HTTP/1.1\r\n\r\n");
-  verdict([await httpClient.ended, httpClient.stderr.split(",")[0]], [1, "lsp: a message begins with one line Content-Length: N"], "another protocol");
+  verdict([await httpClient.ended, httpClient.stderr.split(",")[0]], [1, "lsp: a message begins with the line Content-Length: N"], "another protocol");
 }
 
 /** Checks that the server answers in order if a client writes all requests before it reads any answer. */
@@ -162,7 +162,7 @@ async function tryWrongLengths() {
     verdict([error.code, error.message, await testedClient.ended, testedClient.stderr], [-32600, expected, 1, `lsp: ${expected}\n`], `too large a length, ${condition}`);
   }
   const { error } = await shortLengthClient.waitForMessage(({ id }) => id === null);
-  verdict([error.code, await shortLengthClient.ended, shortLengthClient.stderr.split(",")[0]], [-32700, 1, "lsp: a message begins with one line Content-Length: N"],
+  verdict([error.code, await shortLengthClient.ended, shortLengthClient.stderr.split(",")[0]], [-32700, 1, "lsp: a message begins with the line Content-Length: N"],
     "too small a length");
 }
 

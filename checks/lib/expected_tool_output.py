@@ -266,7 +266,7 @@ def profile_output(start: Board, cycles: int, source: Source) -> str:
             row += f" {calls.counts[address]:9} {sum(durations):10} {max(durations):10}"
         rows.append(row)
     if start.owed and total:
-        rows.append(f"{'(begun before)':<22} {1:10} {100 / total:6.1f}")
+        rows.append(f"{'(begun earlier)':<22} {1:10} {100 / total:6.1f}")
     return "".join(f"{row}\n" for row in rows)
 
 

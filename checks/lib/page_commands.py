@@ -242,7 +242,7 @@ def check_tooltips(browser):
     tooltip must also disappear."""
     browser.script("document.getElementById('back-instruction').focus()")
     browser.type_keys([TAB, TAB])
-    eventually(browser, "a tooltip appears at the focused button", GET_TOOLTIP, "Step over: one instruction; a subroutine that it calls runs whole F10")
+    eventually(browser, "a tooltip appears at the focused button", GET_TOOLTIP, "Step over: one instruction; a subroutine that it calls runs to its end F10")
     browser.type_keys([ESCAPE])
     eventually(browser, "Escape hides the tooltip", GET_TOOLTIP, "")
     browser.script("document.activeElement.blur()")

@@ -184,10 +184,10 @@ def check_buzzer(browser):
     browser.click("#shelf-buzzer")
     eventually(browser, "the buzzer is added with the parts that it needs", GET_DRAWING_STATUS, "The buzzer was added, with ROM 0.")
     verdict("the comment of the buzzer in the text", board_text(browser).split("\n")[0], "# buzzer rom0.0: buzzer")
-    verdict("the shelf disables a second buzzer, with the reason", browser.script(GET_DISABLED_BUTTONS), ["Buzzer: A board has one buzzer: delete that one first."])
+    verdict("the shelf disables a second buzzer, with the reason", browser.script(GET_DISABLED_BUTTONS), ["Buzzer: A board can have only one buzzer: delete it first."])
     drag(browser, f"{pin_selector('ROM 0 · 4001, out 3')} circle", f"{pin_selector('Buzzer, buzzer')} circle")
     eventually(browser, "dragging draws a wire to the buzzer", GET_DRAWING_STATUS, "Line rom0.3 is wired to the buzzer.")
-    eventually(browser, "the picture has the wire to the buzzer", GET_WIRING_LINES, re.compile("buzzer sounds the edges of rom0.3"))
+    eventually(browser, "the picture has the wire to the buzzer", GET_WIRING_LINES, re.compile("buzzer sounds at each edge of rom0.3"))
     browser.script("const name = document.querySelector('#chosen [aria-label=name]'); name.focus(); name.select()")
     browser.type_keys([*"the horn", ENTER], 10, 10)
     eventually(browser, "the buzzer has a new name", GET_DRAWING_STATUS, "The buzzer is called the horn.")
@@ -199,7 +199,7 @@ def check_buzzer(browser):
     browser.type_keys([DELETE])
     eventually(browser, "the Delete key deletes the buzzer", GET_DRAWING_STATUS, "The buzzer was deleted.")
     browser.press_chord(CONTROL, "z")
-    eventually(browser, "Ctrl+Z restores the buzzer", GET_WIRING_LINES, re.compile("the horn sounds the edges of rom0.3"))
+    eventually(browser, "Ctrl+Z restores the buzzer", GET_WIRING_LINES, re.compile("the horn sounds at each edge of rom0.3"))
     browser.script("document.querySelector(arguments[0]).focus()", pin_selector("Buzzer, the horn"))
     browser.type_keys([ENTER])
     eventually(browser, "Enter begins a wire at the buzzer", GET_DRAWING_STATUS, "Wire from the buzzer: it can end at 3 pins.")
@@ -498,7 +498,7 @@ def check_other_boards(browser):
     """Checks that the picture shows the board of each session that the user opens, even if it has more or fewer chips."""
     for example, part in (("calculator", "ROM 3 · 4001"), ("die", "ROM 0 · 4001"), ("calculator", "ROM 3 · 4001"), ("lock", "Keys · 4 × 3")):
         choose_example(browser, example)
-        verdict(f"{example} is opened", "No session was made" in browser.script(GET_NOTICE), False)
+        verdict(f"{example} is opened", "No session was created" in browser.script(GET_NOTICE), False)
         eventually(browser, f"the picture shows the board of {example}", GET_WIRING_LINES, re.compile(part))
 
 

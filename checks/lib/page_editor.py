@@ -71,7 +71,7 @@ loop:   NOP
 loop:   NOP
 """
 ERROR_MESSAGES = re.compile(r"^line 1: LDX is not an instruction; .*\|line 2: FIM takes a pair, P0 to P7\|line 3: JMP is not an instruction; JUN\?"
-                   r"\|line 4: LDM takes a value, 0 to 15\|line 6: loop is already defined in line 5$")
+                   r"\|line 4: LDM takes a value, 0 to 15\|line 6: loop is already defined on line 5$")
 
 
 def set_text(browser, editor, text):
@@ -122,7 +122,7 @@ def check_typing(browser):
                "loop:\tNOP\n\tLDM 5\n\tJUN loop")
     browser.script(SET_CARET, PROGRAM_EDITOR, 1, 2)
     eventually(browser, "the instruction at the caret is explained", GET_EXPLANATION.format(PROGRAM_EDITOR),
-               re.compile(r"^(acc 0, cy 0\. )?LDM d: 1 word, 1 cycle\. Load immediate: d into ACC\. The carry stays\.$"))
+               re.compile(r"^(acc 0, cy 0\. )?LDM d: 1 word, 1 cycle\. Load immediate: d into ACC\. The carry does not change\.$"))
     browser.press_chord(CONTROL, "f")
     browser.type_keys([*"jun", ENTER, ESCAPE], 5, 5)
     eventually(browser, "the found word is selected", GET_CARET.replace("arguments[0]", f"'{PROGRAM_EDITOR}'"), [2, 4, "JUN"])
@@ -281,7 +281,7 @@ def check_running(browser):
     set_text(browser, PROGRAM_EDITOR, "\tLDM 7\nstop:\tJUN stop\n")
     browser.click("#assemble-only")
     eventually(browser, "the message of \"assemble only\" says what stays unchanged", GET_STATUS_OF.format(PROGRAM_EDITOR), re.compile(
-        r"^3 bytes assembled\. \d+ bytes from before stay in ROM, from 0x0..?\. The counter stays at ..., nothing was reset\.$".replace(", n", "; n")))
+        r"^3 bytes assembled\. \d+ bytes of the previous program stay in ROM, from 0x0..?\. The counter stays at ..., nothing was reset\.$".replace(", n", "; n")))
     browser.script(SET_CARET, PROGRAM_EDITOR, 0, 0)
     browser.press_chord(CONTROL, ENTER)
     eventually(browser, "Ctrl+Enter assembles and runs the source", GET_STATUS_OF.format(PROGRAM_EDITOR), "Assembled 3 bytes; running from 000.")

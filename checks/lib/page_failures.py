@@ -47,7 +47,7 @@ def check_failures(browser, page, folder):
     browser.type_keys([ESCAPE, "1", "2"])
     browser.wait_until(GET_DIGITS, "12")
     cause_failure(browser, "trap")
-    eventually(browser, "a trap is reported", GET_NOTICE, re.compile("the module stopped inside a call .unreachable. and was started again"))
+    eventually(browser, "a trap is reported", GET_NOTICE, re.compile("the module stopped during a call .unreachable. and was restarted"))
     verdict("the session is unchanged", browser.script(GET_DIGITS), "12")
     dismiss_notice(browser)
     browser.click("#run")
@@ -69,8 +69,8 @@ def check_failures(browser, page, folder):
 def check_full_store(browser):
     """Checks that the page reports that it could not save a command, and saves again when the store has space."""
     browser.script(FILL_STORE)
-    verdict("the answer to a command that was not saved reports that", send_lines(browser, "poke r5 9"), re.compile("not kept: "))
-    verdict("a full store is reported", browser.script(GET_NOTICE), re.compile("This session is not kept: the browser has no more space"))
+    verdict("the answer to a command that was not saved reports that", send_lines(browser, "poke r5 9"), re.compile("not saved: "))
+    verdict("a full store is reported", browser.script(GET_NOTICE), re.compile("This session is not saved: the browser has no more space"))
     browser.script("IDBObjectStore.prototype.put = window.put")
     send_lines(browser, "seq")
     verdict("the notice disappears when the session is saved", browser.script(GET_NOTICE), "")
@@ -219,7 +219,7 @@ def check_no_locks(browser, page, folder):
     wait_until_ready(browser)
     verdict("the second tab executes its line", send_lines(browser, "poke r5 9"), re.compile(r"poke r5 9ok \d+"))
     browser.close_tab(first_tab)
-    verdict("the first tab reports that its line is not saved", send_lines(browser, "poke r5 3"), re.compile("not kept: another tab has changed"))
+    verdict("the first tab reports that its line is not saved", send_lines(browser, "poke r5 3"), re.compile("not saved: another tab has changed"))
     browser.reload()
     wait_until_ready(browser)
     verdict("the saved session has the second tab's line", send_lines(browser, "regs"), re.compile(" r .{5}9"))

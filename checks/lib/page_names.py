@@ -141,7 +141,7 @@ def check_breakpoint_at_name(browser, source, values, lines):
     eventually(browser, "the program stops at the name", GET_STATUS, f"Paused at {values['scan']}, at a breakpoint.")
     call_line = next(number for number, text in enumerate(lines, 1) if "JMS scan" in text.expandtabs(1))
     eventually(browser, "the counter and the return addresses are shown with names", GET_STACK, re.compile(
-        rf"^\['pc {values['scan']} scan, line {line}', 'ret 1 {int(values['await'], 16) + 2:03X} await \+ 2, call in line {call_line}', "
+        rf"^\['pc {values['scan']} scan, line {line}', 'ret 1 {int(values['await'], 16) + 2:03X} await \+ 2, call on line {call_line}', "
         r"'ret 2 ... stale', 'ret 3 ... stale'\]$"))
     browser.click("#break-there")
     eventually(browser, "the same button clears the breakpoint", GET_BREAKPOINT_LINES, "")
@@ -200,7 +200,7 @@ def check_word_descriptions(browser, source, values, lines):
         "scan": r"JMS scan\b", "nonzero": r"^nonzero\s*=", "JMS": r"JMS scan\b", "P1": r"FIM P1,"}.items()}
     for word, expected in {
         "scan": f"scan: address 0x{values['scan']}, line {source[values['scan']][0]}",
-        "JMS": re.compile(r"^JMS t: 2 words, 2 cycles\. .*The carry stays\.$"),
+        "JMS": re.compile(r"^JMS t: 2 words, 2 cycles\. .*The carry does not change\.$"),
         "nonzero": re.compile(f"^nonzero = 0x{values['nonzero'][-2:]}, {int(values['nonzero'], 16)}(, {int(values['nonzero'], 16):04b})?$"),
         "P1": re.compile(r"^(?:P1 = ([0-9A-F])([0-9A-F]): R2 \1, R3 \2\. )?P1: the pair of R2 \(upper four bits\) and R3 \(lower four bits\)\.$"),
     }.items():
@@ -260,7 +260,7 @@ def check_source_differs_from_rom(browser, source, lines):
     send_lines(browser, "poke rom.0x106 0xD2")
     eventually(browser, "the report disappears when the byte is restored", GET_SOURCE_STATUS, "")
     set_source(browser, "\tLDM 3\n\tJUN nowhere\n")
-    eventually(browser, "an error in the source is reported", GET_SOURCE_STATUS, re.compile("^The source has an error in line 2: no 32"))
+    eventually(browser, "an error in the source is reported", GET_SOURCE_STATUS, re.compile("^The source has an error on line 2: no 32"))
     set_source(browser, "\tORG 0xF00\n\tNOP\n")
     eventually(browser, "a source line for a missing ROM chip is reported", GET_SOURCE_STATUS, "The board has no ROM at 0xF00, where line 2 of the source goes.")
 

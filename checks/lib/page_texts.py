@@ -92,7 +92,7 @@ def check_rejected_files(browser, folder, project_bytes):
     plain_file = folder / "plain"
     plain_file.write_text("hello")
     browser.type_into("#file", str(plain_file))
-    eventually(browser, "a file with an error in each line causes a question", GET_QUESTION, "Replace the source by plain?")
+    eventually(browser, "a file with an error in each line causes a question", GET_QUESTION, "Replace the source with plain?")
     browser.type_keys([ESCAPE])
     eventually(browser, "Escape closes the question", GET_QUESTION, "")
     verdict("the texts are unchanged", browser.script(GET_TEXTS), texts_before)
@@ -359,7 +359,7 @@ def check_opened_and_exported_files(browser, folder, mcs4):
     prose_file = folder / "notes"
     prose_file.write_text("hello there\nthis is no program\n")
     browser.type_into("#file", str(prose_file))
-    eventually(browser, "a file with an error in each line causes a question", GET_QUESTION, "Replace the source by notes?")
+    eventually(browser, "a file with an error in each line causes a question", GET_QUESTION, "Replace the source with notes?")
     browser.click("#ask .bar button:last-child")
     eventually(browser, "the editors have the texts of the files", GET_TEXTS, [(example / "board.toml").read_text(), (example / "three_lamps.asm").read_text()])
     browser.click("#board-tab")

@@ -167,7 +167,7 @@ def check_many_steps(browser, program):
     eventually(browser, "the cycles of 50 instructions", GET_STATUS, f"50 instructions were done, after {cycles_text(int(lines[50].split()[0]))}.")
     browser.script(CHANGE_FIELD, "#step-count", "many")
     browser.click("#step-many")
-    eventually(browser, "a wrong number of instructions is rejected with a message", GET_STATUS, re.compile("^Nothing was done: give a number"))
+    eventually(browser, "a wrong number of instructions is rejected with a message", GET_STATUS, re.compile("^Nothing was done: enter a number"))
 
 
 def check_delay(browser):

@@ -122,7 +122,7 @@ def check_invalid_numbers(browser):
     for number in ("-5", "1000000000", "99999999999999999999", "1e3", "abc"):
         browser.script(SET_FIELD, "step-count", number)
         browser.script("document.getElementById('step-many').click()")
-        eventually(browser, f"{number} instructions are rejected", GET_STATUS, re.compile("^Nothing was done: give a number"))
+        eventually(browser, f"{number} instructions are rejected", GET_STATUS, re.compile("^Nothing was done: enter a number"))
     show_text(browser, "waves")
     browser.script("document.getElementById('record-where').value = 'after'")
     for number in ("-5", "99999999999999999999", "abc"):

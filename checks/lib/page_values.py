@@ -189,7 +189,7 @@ def check_heat_map(browser):
     eventually(browser, "no cell is highlighted if the number of cycles is small", GET_WARM_CELLS, [])
     browser.script(CHOOSE_OPTION, "heat-cycles", "1,000,000")
     send_lines(browser, "poke ram.0.0x12 3")
-    eventually(browser, "a cell is highlighted when it changes", GET_WARM_CELLS, re.compile(r"^\['5 digit, .* SRC byte 12; changed once as seen while running, last seen by 006 .*, line 6\)'\]$"))
+    eventually(browser, "a cell is highlighted when it changes", GET_WARM_CELLS, re.compile(r"^\['5 digit, .* SRC byte 12; changed at least once while running, most recently by 006 .*, line 6\)'\]$"))
     browser.script(CHOOSE_OPTION, "heat-cycles", "100")
     eventually(browser, "no cell is highlighted with a smaller number of cycles", GET_WARM_CELLS, [])
     browser.click("#run")

@@ -148,8 +148,8 @@ def check_saved_recording(browser, folder, mcs4):
         search_lines(browser, name)
         browser.script("document.querySelector('#wave-boxes input').click()")
     search_lines(browser, "")
-    eventually(browser, "newly selected values are recorded from the next recording on", "return document.getElementById('signals-status').textContent",
-               "acc, cy, r5 .. are recorded from the next recording on.")
+    eventually(browser, "newly selected values are in the next recording", "return document.getElementById('signals-status').textContent",
+               "acc, cy, r5 .. will be in the next recording.")
     verdict("the status after recording with values", record(browser, 3000), re.compile("^3,000 cycles recorded"))
     browser.script("document.getElementById('waves-all').click()")
     names = browser.script(GET_ROW_NAMES).split(" ")
@@ -207,7 +207,7 @@ def check_live_recording(browser, folder, mcs4):
     browser.click("#run")
     eventually(browser, "Stop works while recording", GET_STATUS, re.compile("^Paused"))
     browser.click("#record")
-    status = browser.wait_until(GET_SCOPE_STATUS, re.compile(r"^Recorded ([0-9,]+) cycles, .*\. Stopped by you\.$"))
+    status = browser.wait_until(GET_SCOPE_STATUS, re.compile(r"^Recorded ([0-9,]+) cycles, .*\. You stopped it\.$"))
     count = re.match(r"Recorded ([0-9,]+) ", status)[1].replace(",", "")
     browser.script(CHOOSE_LINES, ["key.7"])
     browser.script(FOCUS_CANVAS)
@@ -315,7 +315,7 @@ def check_value_search(browser):
     browser.script(FOCUS_CANVAS)
     browser.type_keys([END], 1, 1)
     browser.click("#find-after")
-    eventually(browser, "a value that is not found is reported", search_status_script, "lamp0 = 1: not after cycle 30,000 of this recording.")
+    eventually(browser, "a value that is not found is reported", search_status_script, "lamp0 = 1: not found after cycle 30,000 of this recording.")
 
 
 # Returns the point at half the height of a row, in window coordinates. The arguments are the distance in pixels from the canvas's left edge, and the

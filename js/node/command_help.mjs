@@ -70,9 +70,9 @@ export function formatCommandHelp(name) {
   return `${[
     formatUsageText(name),
     ...splitParagraphs(text).map((paragraph) => foldText(paragraph)),
-    formatList(say.OPTIONS_HEAD, listOptionRows(name)),
-    formatList(say.EXAMPLES_HEAD, examples),
-    formatItems(say.STATUS_HEAD, status),
+    formatList(say.OPTIONS_HEADING, listOptionRows(name)),
+    formatList(say.EXAMPLES_HEADING, examples),
+    formatItems(say.STATUS_HEADING, status),
   ].join("\n\n")}\n`;
 }
 
@@ -94,8 +94,8 @@ export function formatMcs4Help(top) {
     `usage:\n${say.MCS4_USAGE.map(([form, description]) => `${INDENT}${form.padEnd(width)}  ${description}`).join("\n")}`,
     ...splitParagraphs(say.MCS4_TEXT).map((paragraph) => foldText(paragraph)),
     ...groups,
-    formatItems(say.STATUS_HEAD, say.MCS4_STATUS),
-    formatItems(say.ENVIRONMENT_HEAD, say.MCS4_ENVIRONMENT),
+    formatItems(say.STATUS_HEADING, say.MCS4_STATUS),
+    formatItems(say.ENVIRONMENT_HEADING, say.MCS4_ENVIRONMENT),
     ...(top === "" ? [] : [say.manualLocation(top)]),
   ].join("\n\n")}\n`;
 }

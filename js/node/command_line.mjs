@@ -70,7 +70,7 @@ async function parseCommandLine(command, words) {
   for (const token of tokens) {
     if (token.kind !== "option") continue;
     await checkOption(token, options);
-    if (seenOptions.has(token.name) && !options[token.name].multiple) throw new UsageError(say.optionTwice(token.rawName));
+    if (seenOptions.has(token.name) && !options[token.name].multiple) throw new UsageError(say.optionRepeated(token.rawName));
     seenOptions.add(token.name);
   }
   return { values, positionals };

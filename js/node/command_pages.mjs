@@ -162,8 +162,8 @@ function formatFishCompletion(completions) {
 
 // --- all files ---
 
-/** Returns the names and contents of all files. */
-export function createFiles() {
+/** Returns the names and contents of all help files. */
+export function createHelpFiles() {
   const names = Object.keys(COMMANDS);
   const completions = listCompletions();
   return [
@@ -181,4 +181,4 @@ if (folder === "" || folder.startsWith("-") || extraWords.length > 0) {
   process.exit(2);
 }
 for (const part of ["help", "man", "completions"]) mkdirSync(join(folder, part), { recursive: true });
-for (const [name, text] of createFiles()) writeFileSync(join(folder, name), text);
+for (const [name, text] of createHelpFiles()) writeFileSync(join(folder, name), text);

@@ -5,7 +5,7 @@ import { dirname, isAbsolute, join, resolve, sep } from "node:path";
 import { findLockHolder, readUnlocked } from "./file_locks.mjs";
 import { CommandError, errorMessage } from "./output.mjs";
 import { openProgram } from "./session_process.mjs";
-import { heldByMessage } from "../words/adapter.js";
+import { openInMessage } from "../words/adapter.js";
 import { isInside, readUserFile, readUserText, prepareReplacement } from "./user_files.mjs";
 
 /** The maximum size of a session file in bytes. */
@@ -89,7 +89,7 @@ async function openSessionFile(name) {
     return await openProgram("open", name);
   } catch (error) {
     const holder = error instanceof CommandError && existsSync(name) ? findLockHolder(name) : "";
-    throw holder === "" ? error : new CommandError(`${errorMessage(error)}; ${heldByMessage(holder)}`);
+    throw holder === "" ? error : new CommandError(`${errorMessage(error)}; ${openInMessage(holder)}`);
   }
 }
 

@@ -200,7 +200,7 @@ function readReport(name) {
     const report = JSON.parse(text);
     if (report.form === "explore 1") return report;
   } catch {
-    // The statement below throws the error.
+    // The text is not JSON. The last statement reports this, too.
   }
   throw new CommandError(say.notAReportMessage(name));
 }

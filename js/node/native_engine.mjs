@@ -24,8 +24,8 @@ import { TOP } from "./top_folder.mjs";
  * @typedef {import("../core/engine/engine_host.js").EngineHost} EngineHost
  * @typedef {import("../core/engine/engine_host.js").State} State
  *
- * A node of the tree. `copy` is the path of a copy of its session file; "" if there is none. `count` is the number of commands in the
- * session; -1 if unknown.
+ * A node of the tree of session states. `commands` lead from the parent's state to this state. `copy` is the path of a copy of its session file;
+ * "" if there is none. `count` is the number of commands in the session; -1 if unknown.
  * @typedef {{ parent: number, commands: string, copy: string, count: number }} StateNode
  *
  * An analysis of session lines. `commands` contains the commands among them and the texts of these commands; it does not contain queries. `seqCount`
@@ -40,7 +40,7 @@ const MAX_COPIES = 32;
 /** The minimum number of bytes that a pipe accepts while nobody reads from it. */
 const PIPE_CAPACITY = 4096;
 const BUFFER_SIZE = 1 << 16;
-/** The size of a token in bytes. */
+/** The number of bytes in a state, which is only a token: the index of a node. */
 const TOKEN_SIZE = 4;
 /** The size of a session file in bytes. */
 export const SESSION_BYTES = 163856;
@@ -131,8 +131,7 @@ printf %s "$program"`;
 /** The shell that starts the programs, and its folder. */
 class Starter {
   /**
-   * @param {string} program the program's path; "" for the program that ./mcs4 starts, if start.sh knows the program without comparing
-   * sources
+   * @param {string} program the program's path; "" for the program that ./mcs4 starts, if start.sh can find it without comparing sources
    */
   constructor(program) {
     this.root = findTemporaryRoot();
@@ -151,7 +150,7 @@ class Starter {
     /** The file descriptor of the control pipe; -1 if the shell does not know a program. */
     this.controlPipe = -1;
     if (status === UNKNOWN_PROGRAM_STATUS) removeFolder(this.folder);
-    else if (status !== 0) throw new ProgramError(`cannot make pipes in ${this.folder}; TMPDIR names another place for temporary files`);
+    else if (status !== 0) throw new ProgramError(`cannot make pipes in ${this.folder}; set TMPDIR to another folder for temporary files`);
     else this.controlPipe = openSync(join(this.folder, "control"), "w");
   }
 
@@ -340,7 +339,7 @@ export class NativeEngine {
     this.analyses = new Map();
   }
 
-  /** Returns an engine for the program that ./mcs4 starts, if start.sh knows the program without comparing all sources. Otherwise returns null. */
+  /** Returns an engine for the program that ./mcs4 starts; null if start.sh cannot find that program without comparing all sources. */
   static forKnownProgram() {
     const starter = new Starter("");
     return starter.controlPipe < 0 ? null : new NativeEngine(starter.program, starter);

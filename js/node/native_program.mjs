@@ -11,7 +11,7 @@ import { loadChildProcess } from "./lazy_child_process.mjs";
 import { TOP } from "./top_folder.mjs";
 import {
   NO_PROGRAM_IN_COPY, sessionInUseMessage, needsNativeProgramMessage, noNamedProverMessage, noProverMessage, unsupportedSystemMessage,
-  otherProgramMessage, runsOnModuleMessage, sessionRejectedMessage,
+  programDiffersMessage, runsOnModuleMessage, sessionRejectedMessage,
 } from "../words/commands.js";
 
 /**
@@ -28,7 +28,7 @@ const FIND_PROGRAM_SCRIPT = `${STARTER_SCRIPT}find_or_build >&2; printf "%s\\n%s
 const FIND_PROVER_SCRIPT = `${STARTER_SCRIPT}find_prover; printf "%s\\n%s\\n" "$program" "$reason"; if is_without_program; then echo 1; fi`;
 
 const IS_WINDOWS = process.platform === "win32";
-const hasStarter = existsSync(join(TOP, "tools/lib/start.sh"));
+const hasStartScript = existsSync(join(TOP, "tools/lib/start.sh"));
 
 /**
  * Runs a script that uses the starter (tools/lib/start.sh). The script prints the path of a program, or the reason why there is none. Returns null if
@@ -37,7 +37,7 @@ const hasStarter = existsSync(join(TOP, "tools/lib/start.sh"));
  * @returns {FoundProgram | null}
  */
 function runStarter(script) {
-  if (!hasStarter) return null;
+  if (!hasStartScript) return null;
   const options = /** @type {const} */ ({ encoding: "utf8", stdio: ["ignore", "pipe", "inherit"] });
   const { status, stdout, error } = loadChildProcess().spawnSync("/bin/sh", ["-c", script, TOP], options);
   if (error) return null;
@@ -48,7 +48,7 @@ function runStarter(script) {
 
 /** @returns {FoundProgram} the result if the starter cannot run: an editor extension does not contain it, and Windows has no shell for it */
 const createNoProgramResult = () => (
-  { program: "", reason: hasStarter ? unsupportedSystemMessage(type(), process.arch) : NO_PROGRAM_IN_COPY, isUnsupported: true });
+  { program: "", reason: hasStartScript ? unsupportedSystemMessage(type(), process.arch) : NO_PROGRAM_IN_COPY, isUnsupported: true });
 
 /** @type {FoundProgram | null} the cached result of the search for the program */
 let foundProgram = null;
@@ -95,11 +95,11 @@ export async function startEngine() {
   // Register the handlers first, so that a signal cannot leave the engine's folder behind.
   endOnSignals();
   const { NativeEngine } = await import("./native_engine.mjs");
-  const knownEngine = process.env.MCS4 || foundProgram || !hasStarter || IS_WINDOWS ? null : NativeEngine.forKnownProgram();
+  const knownEngine = process.env.MCS4 || foundProgram || !hasStartScript || IS_WINDOWS ? null : NativeEngine.forKnownProgram();
   const { program, reason } = knownEngine ? { program: knownEngine.starter.program, reason: "" } : findProgram();
   if (program === "") {
     const { startModule } = await import("./module_engine.mjs");
-    return startModule(hasStarter ? runsOnModuleMessage(reason) : "");
+    return startModule(hasStartScript ? runsOnModuleMessage(reason) : "");
   }
   const engine = knownEngine || new NativeEngine(program);
   nativeEngine = engine;
@@ -182,7 +182,7 @@ export async function readCheckedMap(engine, codes, program) {
   if (errors.length > 0) throw await createRejectedTextsError(engine, { program }, errors);
   if (!difference) return map;
   const { address, romByte, line, sourceByte } = difference;
-  throw new CommandError(otherProgramMessage(program.name, address, romByte, line + program.linesBefore, sourceByte));
+  throw new CommandError(programDiffersMessage(program.name, address, romByte, line + program.linesBefore, sourceByte));
 }
 
 /** Lets signal handlers run between the pieces of a long computation. Resolves to true. */

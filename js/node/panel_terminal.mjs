@@ -165,7 +165,7 @@ export class PanelTerminal {
     if (!this.isOn) return;
     const { columns, rows } = this.size;
     this.drawnRows = [];
-    this.output.write(`\x1b[H${CLEAR_SEQUENCE}${say.needsRoom(`${MIN_SIZE.columns} by ${MIN_SIZE.rows}`, columns, rows)}`);
+    this.output.write(`\x1b[H${CLEAR_SEQUENCE}${say.tooSmallNote(`${MIN_SIZE.columns} by ${MIN_SIZE.rows}`, columns, rows)}`);
   }
 
   /**

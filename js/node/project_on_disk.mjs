@@ -3,7 +3,7 @@ import { existsSync, statSync } from "node:fs";
 import { join } from "node:path";
 import { ProjectError, readProject } from "../core/project/project_folder.js";
 import { PROJECT_FILE } from "../core/project/project_toml.js";
-import { leadsOut } from "../words/server.js";
+import { linkLeadsOut } from "../words/server.js";
 import { MAX_USER_TEXT, isInside, readUserFile, statInput } from "./user_files.mjs";
 
 /**
@@ -15,7 +15,7 @@ export function findPathError(folder, path) {
   const fullPath = join(folder, path);
   if (!existsSync(fullPath)) return `there is no file ${path}`;
   if (statSync(fullPath).isDirectory()) return `${path} is a folder, not a file`;
-  return isInside(fullPath, folder) ? "" : leadsOut(path);
+  return isInside(fullPath, folder) ? "" : linkLeadsOut(path);
 }
 
 /** @typedef {ReturnType<typeof readProjectFolder>} DiskProject */

@@ -68,7 +68,7 @@ class ProofSession {
     if (answer.kind === "more") return say.moreStates(formatNumber(maxStates));
     if (answer.kind === "lost") return say.GAVE_UP;
     if (answer.states === 0) return say.NO_MEMORY;
-    return memory > 0 ? say.noRoomIn(formatNumber(answer.states), memory) : say.noRoom(formatNumber(answer.states));
+    return memory > 0 ? say.memoryLimitReached(formatNumber(answer.states), memory) : say.memoryHasRoomFor(formatNumber(answer.states));
   }
 
   /**

@@ -128,7 +128,7 @@ export class TerminalPrompt {
     process.stdin.on("data", (text) => this.handleInput(text));
     process.stdin.on("end", () => {
       this.hasInputEnded = true;
-      this.handleWaiting();
+      this.handleWaitingInput();
     });
     process.stdin.on("error", () => this.end());
     this.addHandlers();
@@ -160,7 +160,7 @@ export class TerminalPrompt {
   showNextPrompt() {
     this.isBusy = false;
     this.show();
-    this.handleWaiting();
+    this.handleWaitingInput();
   }
 
   /** Shows the prompt and the line that the user is typing. */
@@ -229,12 +229,12 @@ export class TerminalPrompt {
       this.prompt.interrupt();
     } else {
       this.waitingInput.push(text);
-      this.handleWaiting();
+      this.handleWaitingInput();
     }
   }
 
   /** Handles waiting input, up to the first line to execute. */
-  handleWaiting() {
+  handleWaitingInput() {
     while (!this.isBusy && !this.hasEnded && this.waitingInput.length > 0) {
       const unhandledText = this.handlePiece(this.waitingInput[0]);
       if (unhandledText !== "") this.waitingInput[0] = unhandledText;
@@ -290,7 +290,7 @@ export class TerminalPrompt {
     } finally {
       callback(null, completions);
       this.isBusy = false;
-      this.handleWaiting();
+      this.handleWaitingInput();
     }
   }
 

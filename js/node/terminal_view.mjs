@@ -7,7 +7,7 @@ import { isDumb, makePainter } from "./terminal.mjs";
 const REVERSE = 7;
 const BOLD = 1;
 const YELLOW = 33;
-const NO_ROOM_MESSAGE = `the view needs a terminal of ${MIN_COLUMNS} columns and ${MIN_ROWS} rows at least`;
+const TOO_SMALL_MESSAGE = `the view needs a terminal of ${MIN_COLUMNS} columns and ${MIN_ROWS} rows at least`;
 
 export class TerminalView {
   /**
@@ -40,7 +40,7 @@ export class TerminalView {
    */
   setVisible(isOn) {
     if (isOn === this.isOn) return "";
-    if (isOn && !this.size) return NO_ROOM_MESSAGE;
+    if (isOn && !this.size) return TOO_SMALL_MESSAGE;
     this.isOn = isOn;
     if (isOn) this.reserveRows();
     else this.leave();

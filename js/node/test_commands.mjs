@@ -2,7 +2,7 @@
 // instructions.
 import { runTests } from "../core/testing/test_suite.js";
 import { formatFailureLine } from "../core/testing/tap.js";
-import { excludeEachOther, otherProgramMessage, sessionStopped } from "../words/commands.js";
+import { cannotCombine, programDiffersMessage, sessionStopped } from "../words/commands.js";
 import { parseCount, requireProjectFiles, checkArguments, findProject } from "./arguments.mjs";
 import { InputTexts } from "./input_texts.mjs";
 import { yieldToMessages, createRejectedTextsError, openSession, startEngine } from "./native_program.mjs";
@@ -87,7 +87,7 @@ export async function countCycles({ name, RecorderClass, checkNames = () => {}, 
   const { errors, difference, counts } = await measureSession(engine, state, program.text, cycles, RecorderClass);
   if (difference) {
     const { address, romByte, line, sourceByte } = difference;
-    throw new CommandError(otherProgramMessage(programName, address, romByte, line + program.linesBefore, sourceByte));
+    throw new CommandError(programDiffersMessage(programName, address, romByte, line + program.linesBefore, sourceByte));
   }
   if (!counts) throw await createRejectedTextsError(engine, { program }, errors);
   if (counts.stop !== "end") printError(`${name}: ${sessionStopped(counts.elapsed, counts.stop)}\n`);
@@ -103,6 +103,6 @@ export async function countCycles({ name, RecorderClass, checkNames = () => {}, 
  */
 export function runTestsOrSession(command, { folder, session }, givenNames) {
   if (session === undefined) return runTestCommand(command, folder, givenNames);
-  if (folder !== undefined) throw new UsageError(excludeEachOther("-C", "--session"));
+  if (folder !== undefined) throw new UsageError(cannotCombine("-C", "--session"));
   return countCycles(command, session, givenNames);
 }

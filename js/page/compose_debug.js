@@ -3,7 +3,7 @@
 
 import { CancelledError, WorkerDiedError } from "../core/bench/bench_errors.js";
 import { hex } from "../core/bench/numbers.js";
-import { NO_ADDRESS } from "../words/machine.js";
+import { LINE_HAS_NO_ADDRESS } from "../words/machine.js";
 import { lastChangeText, addressWithName } from "../words/stops.js";
 import { BreakpointsController } from "./machine/breakpoints_controller.js";
 import { HeatView } from "./machine/heat_view.js";
@@ -27,7 +27,7 @@ import { block } from "./ui/dom.js";
  */
 export function runToLine({ source, runController, travel }, line) {
   const address = source.map ? source.map.addressOf(line) : undefined;
-  if (address === undefined) runController.showMessage(NO_ADDRESS);
+  if (address === undefined) runController.showMessage(LINE_HAS_NO_ADDRESS);
   else travel.runToGoal({ kind: "here", address });
 }
 

@@ -177,7 +177,7 @@ export function makeTestsTab(page, manual) {
  */
 function addTest({ testsTab, textsController }, test) {
   const { text } = testsTab.editor;
-  if (text.includes(test.trimEnd())) return say.HAS_TEST;
+  if (text.includes(test.trimEnd())) return say.TEST_ALREADY_THERE;
   textsController.replace("tests", text.trim() === "" ? test : `${text.trimEnd()}\n\n${test}`, say.TEST_ADDED);
   return say.TEST_AT_END;
 }

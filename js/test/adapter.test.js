@@ -61,7 +61,7 @@ test("breakpoints at lines, labels and addresses, with conditions, hit counts an
   assert.match(invalidBreakpoint.message, /^It stops every time, because of an error: foo: no such place; places are .* \(column 1\)\.$/);
   assert.match(breakpointWithBadHitCount.message, /a hit count is a number/);
   const [boardBreakpoint] = await setBreakpoints([{ line: 31 }], { path: "/lock/board.toml" });
-  assert.match(boardBreakpoint.message, /not in the program that is debugged, \/lock\/lock.asm/);
+  assert.match(boardBreakpoint.message, /not in \/lock\/lock.asm, the program being debugged/);
   const stop = await moveAndWait("continue");
   assert.deepEqual([stop.reason, stop.allThreadsStopped], ["breakpoint", true]);
   assert.deepEqual(await getFrameLines(), [26]);
@@ -384,7 +384,7 @@ test("a debugged test stops where it fails, or at its end, and can step back", a
     return (await failingClient.getResponse("launch", launchArguments)).message;
   };
   assert.match(await getLaunchError({ test: "none", tests: "/lock/a b.test" }), /\/lock\/a b\.test has no test none/);
-  assert.match(await getLaunchError({ test: "it fails" }), /a test needs `tests`/);
+  assert.match(await getLaunchError({ test: "it fails" }), /^`test` needs `tests`/);
 });
 
 test("a client that draws the board receives the printout, and can clear it", async () => {

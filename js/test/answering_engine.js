@@ -13,7 +13,8 @@ const MODULE = new globalThis.WebAssembly.Module(pageModule);
 export class AnsweringEngine extends Engine {
   /**
    * @param {(limits: string) => string} answer
-   * @param {string | null} jointAnswer the answer to a question about several properties or mistakes; null if all of them must be mistakes
+   * @param {string | null} jointAnswer the answer to a question about several properties or mistakes; null if each such question must be
+   *   about mistakes
    */
   constructor(answer, jointAnswer = null) {
     super(MODULE);

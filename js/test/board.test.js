@@ -110,7 +110,7 @@ test("texts that are not TOML are reported with their lines", () => {
   assert.equal(describeError('[[rom]]\nchip 0\nport = "0000\n'), "2: 20 = is missing after chip");
   assert.equal(describeError("port = 0000\n"), '1: 20 a number has no leading zero; write a text in quotes: "0000"');
   assert.equal(describeError("[[rom]]\nport = iiii\n"), '2: 20 iiii is a text: write it in quotes: "iiii"');
-  assert.equal(describeError('[[rom]]\nchip = 0\nchip = 1\nport = "0000"\n'), "3: 20 chip is already in line 2");
+  assert.equal(describeError('[[rom]]\nchip = 0\nchip = 1\nport = "0000"\n'), "3: 20 chip is already on line 2");
   // If the page's reader accepts a text but the bench rejects it, the message explains the bench's error number.
   assert.equal(describeError("[[rom]]\n[rom]\n"), "2: 20 words of 20");
 });
@@ -134,7 +134,7 @@ test("wrong keys and values are reported", () => {
 
 test("parts that the board lacks, and lines of the wrong direction, are reported", () => {
   const boardWithLamp = (line) => `${ROM}${CHAIN}[[ram]]\nbank = 2\nchips = 1\n[[lamp]]\nline = ${line}\n`;
-  assert.equal(describeError(`${ROM}${ROM}`), "5: 24 chip 0 is already in line 1");
+  assert.equal(describeError(`${ROM}${ROM}`), "5: 24 chip 0 is already on line 1");
   assert.equal(describeError(boardWithLamp('"rom9.0"')), "12: 25 the board has no line rom9.0: no [[rom]] has chip = 9");
   assert.equal(describeError(boardWithLamp('"ram1.0.0"')), "12: 25 the board has no line ram1.0.0: no [[ram]] has bank = 1");
   assert.equal(describeError(boardWithLamp('"ram2.1.0"')), "12: 25 the board has no line ram2.1.0: bank 2 has only chip 0");

@@ -53,7 +53,7 @@ test("wrong arguments give status 2, the usage of the command, and a suggestion 
   assertRejected(["--session", "s.mcs", "0", "p"], "CYCLES: '0' is not a decimal number from 1 to 100000000");
   assertRejected(["--session", "s.mcs", "-5", "p"], "there is no option -5");
   assertRejected(["--session", "s.mcs", "1", "p", "q"], "'q' is one argument too many");
-  assertRejected(["-C", "x", "--session", "s.mcs", "1", "p"], "-C and --session exclude each other");
+  assertRejected(["-C", "x", "--session", "s.mcs", "1", "p"], "-C and --session cannot be combined");
 });
 
 test("after `--` nothing is an option, and an unknown command has a suggestion", () => {

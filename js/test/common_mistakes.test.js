@@ -3,7 +3,7 @@ import assert from "node:assert/strict";
 import { before, test } from "node:test";
 import { matrixKey, pinKey } from "../core/board/key_place.js";
 import { DebugSession } from "../core/debug/debug_session.js";
-import { KINDS } from "../words/debug.js";
+import { MISTAKE_KINDS } from "../words/debug.js";
 import { SourceMap } from "../core/machine/source_map.js";
 import { sentText } from "../core/text/sendable_text.js";
 import { assembleText } from "../core/engine/program_check.js";
@@ -41,8 +41,8 @@ function findMistakes(program, frames = 3, benchDebugger = openDebugger(program)
 test("each mistake is reported once, with its line", () => {
   const nestedCalls = "a: JMS b\nend: JUN end\nb: JMS c\nBBL 0\nc: JMS d\nBBL 0\nd: JMS e\nBBL 0\ne: JMS f\nf: BBL 0\n";
   assert.deepEqual(findMistakes(nestedCalls), ["7: 4th nested JMS: return address 002 was overwritten",
-    "6: a BBL without a call: it goes to 010, which is after no JMS", "0: execution left the program"]);
-  assert.deepEqual(findMistakes("a: NOP\nBBL 0\n"), ["2: a BBL without a call: it goes to 000, which is after no JMS",
+    "6: a BBL without a call: it goes to 010, which does not follow a JMS", "0: execution left the program"]);
+  assert.deepEqual(findMistakes("a: NOP\nBBL 0\n"), ["2: a BBL without a call: it goes to 000, which does not follow a JMS",
     "0: execution left the program"]);
   const portProgram = (rom, instruction) => `FIM P0, ${rom}\nSRC P0\n${instruction}\nend: JUN end\n`;
   assert.deepEqual(findMistakes(portProgram(0x10, "WRR")),
@@ -62,7 +62,7 @@ test("an outdated SRC is reported if it was for RAM and the same WRR used anothe
   const mistakes = session.debugger.advance(1543).tally.mistakes;
   assert.deepEqual(mistakes.map(({ kind }) => kind), ["source"]);
   assert.equal(mistakes[0].message,
-    "this WRR writes to ROM 2, and before it used ROM 0: the last SRC, at 006, was for RAM; is an SRC missing?");
+    "this WRR writes to ROM 2, but the last time it used ROM 0: the last SRC, at 006, was for RAM; is an SRC missing?");
 });
 
 test("an SRC for RDR that a WRR then uses is reported", () => {
@@ -70,7 +70,7 @@ test("an SRC for RDR that a WRR then uses is reported", () => {
   const program = "again: FIM P0, 0\nSRC P0\nFIM P1, 0x10\nturn: WRR\nSRC P1\nRDR\nJUN turn\n";
   const mistakes = new DebugSession(engine, { board, program }).debugger.advance(1543).tally.mistakes;
   assert.deepEqual(mistakes.map(({ message }) => message),
-    ["this WRR writes to ROM 1, and before it used ROM 0: the last SRC, at 006, was for an RDR; is an SRC missing?"]);
+    ["this WRR writes to ROM 1, but the last time it used ROM 0: the last SRC, at 006, was for an RDR; is an SRC missing?"]);
 });
 
 test("a correct program has no reports", () => {
@@ -87,7 +87,7 @@ test("the machine pauses before a selected mistake, and then continues", () => {
   benchDebugger.beginMove();
   const nextFrame = benchDebugger.advance(1543);
   assert.deepEqual([nextFrame.cycles, nextFrame.stop, nextFrame.tally.mistakes], [1543, null, []]);
-  assert.deepEqual(Object.keys(KINDS).length, 6);
+  assert.deepEqual(Object.keys(MISTAKE_KINDS).length, 6);
 });
 
 test("a mistake is reported once in each run", () => {

@@ -113,8 +113,8 @@ test("syntax errors are reported with the names that the board has", () => {
     ["display < 5", "write `display TEXT`"], ["display != ", "write `display TEXT`"],
     ["foo 1", "foo: no such place; places are acc, cy, pc, dcl, test, r0 to r15, p0 to p7, ram.B.S, st.B.H.K"],
     ["cycles at most 3", "no run changes cycles, and no trace shows it: it is only for the lines of a test"],
-    ["r2 < 4 5", "5: a condition ends before this; join two by and, or"],
-    ["ram.0.0 4 < 5", "<: a condition ends before this; join two by and, or"], ["= 3", "a value is missing before ="],
+    ["r2 < 4 5", "5: the condition ends before this; join two conditions with and, or"],
+    ["ram.0.0 4 < 5", "<: the condition ends before this; join two conditions with and, or"], ["= 3", "a value is missing before ="],
   ];
   for (const [text, expected] of cases) {
     const actual = compileCondition(text, names).error;

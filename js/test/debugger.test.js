@@ -342,8 +342,8 @@ test("a deleted line removes its breakpoint, and undoing the deletion restores i
 
 test("if the whole text is replaced, breakpoints keep their addresses", () => {
   const [removed, text] = [["a", "b", "c", "d"], ["new", "lines", "here", "x"]];
-  // In the first case, neither text ends with a line feed. In the second, both do. In the third, lines below the edit stay, so the edit
-  // does not replace the whole text.
+  // In the first case, neither the old nor the new text ends with a line feed. In the second, both do. In the third, lines below the edit
+  // stay, so the edit does not replace the whole text.
   const cases = [[[], true, [[3, -1], [0, 4]]], [[""], true, [[3, -1], [0, 4]]], [[], false, [[2, 4], [3, -1]]]];
   for (const [end, replacesAll, lines] of cases) {
     const list = new BreakpointList([{ line: 2, address: 4 }, { line: 3 }]);

@@ -63,7 +63,7 @@ const boardTextOf = (board) => [
   ...board.lamps.map((line) => `[[lamp]]\nline = "${line}"\n`),
 ].join("");
 
-/** Returns the board after a wire was drawn from a line to a target, as the manual defines it. Uses no code of the page. */
+/** Returns a board with a new wire from a line to a target, as the manual describes it. Uses no code of the page. */
 function addWire(board, line, target) {
   const newBoard = structuredClone(board);
   const [kind, partNumber] = [target.split(" ")[0], Number(target.split(" ")[1])];
@@ -137,7 +137,7 @@ testOnBench("a buzzer is added, wired, named and deleted, and is deleted with it
   const addResult = checkAction("nothing", "", { kind: "add", part: "buzzer" });
   assert.equal(addResult.text, '# buzzer rom0.0: buzzer\n\n[[rom]]\nchip = 0\nport = "0000"\n');
   assert.equal(addResult.message, "The buzzer was added, with ROM 0.");
-  assert.match(applyAction(addResult.text, { kind: "add", part: "buzzer" }).refusal, /^A board has one buzzer/);
+  assert.match(applyAction(addResult.text, { kind: "add", part: "buzzer" }).refusal, /^A board can have only one buzzer/);
   // The default clock line of a chain, rom0.0, is already in use by the buzzer.
   assert.match(checkAction("buzzer", addResult.text, { kind: "add", part: "chain" }).text, /clock = "rom0.1"/);
   const wireResult = checkAction("buzzer", addResult.text, { kind: "wire", line: "rom0.2", target: "buzzer 0" });
@@ -406,12 +406,12 @@ testOnBench("a part that does not fit on the board is rejected with a reason", (
   assert.deepEqual([refusalOf("chain", 3), refusalOf("chain", 4)], ["", "A board has at most 4 chains."]);
   assert.deepEqual([refusalOf("keys", 0), refusalOf("keys", 1)], ["", "A board has one key matrix: give it more rows and columns."]);
   assert.deepEqual([refusalOf("lamp", 63), refusalOf("lamp", 64)], ["", "A board has at most 64 lamps; it has 64."]);
-  assert.match(refusalOf("button", 1), /delete that one/);
+  assert.match(refusalOf("button", 1), /already has a button or a switch: delete it/);
   const boardText = addParts("chain", 1);
   assert.equal(applyAction(boardText, { kind: "chips", chain: 0, chips: 8 }).refusal, "");
   assert.equal(applyAction(boardText, { kind: "chips", chain: 0, chips: 9 }).refusal, "A chain has at most 8 chips.");
   assert.equal(applyAction(boardText, { kind: "chips", chain: 0, chips: 0 }).refusal,
-    "A chain has at least one chip; or delete the chain.");
+    "A chain has at least one chip; to remove it, delete the chain.");
 });
 
 testOnBench("from nothing to four keys and four lamps", () => {

@@ -94,7 +94,7 @@ test("impossible actions are rejected with a reason, and the text stays", async 
   for (const [action, message] of [
     [{ kind: "delete", part: "clock 0" }, /wire it to another line, or delete the chain/],
     [{ kind: "delete", part: "rom0.1" }, /only with its chip/],
-    [{ kind: "delete", part: "processor" }, /Each board has its processor/],
+    [{ kind: "delete", part: "processor" }, /Every board has a processor/],
     [{ kind: "delete", part: "row 1" }, /delete the last one first/],
     [{ kind: "wire", line: "rom1.0", target: "clock 0" }, /is an input line/],
     [{ kind: "colour", lamp: 0, colour: "amber" }, /^No change\.$/],
@@ -114,9 +114,9 @@ test("a text with errors cannot be edited, and the last valid drawing stays", as
   const text = fixture.text.replace("\n[[lamp]]\n", "");
   fixture.text = text.replace('"rom1.0"', '"rom1\\u002e0"');
   await fixture.drawing.refresh();
-  assert.match(fixture.view.error, /the picture cannot change/);
+  assert.match(fixture.view.error, /^The drawing cannot change/);
   await fixture.drawing.performInOrder({ kind: "add", part: "rom" });
-  assert.match(fixture.view.lastMessage, /^It was not done\. .* the picture cannot change/);
+  assert.match(fixture.view.lastMessage, /^It was not done\. The drawing cannot change/);
   fixture.text = text;
   await fixture.drawing.refresh();
   assert.equal(fixture.view.error, "");

@@ -260,7 +260,7 @@ if (!nativeEngine) {
 
   test("an error is reported if the temporary folder cannot be created", () => {
     const { stderr } = runNode(`${IMPORT} new NativeEngine("x");`, "/none/at/all");
-    assert.match(stderr, /cannot make a folder in \/none\/at\/all; TMPDIR names another place/);
+    assert.match(stderr, /cannot make a folder in \/none\/at\/all; set TMPDIR to another folder/);
   });
 
   test("ending the engine removes its folder", () => {

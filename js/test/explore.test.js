@@ -114,7 +114,7 @@ test("errors in a text of properties are reported with the valid names", () => {
 
 test("a text without inputs is an error, unless the front panel has keys or TEST", () => {
   const subjectWithoutPanel = createSubject(engine, BOARD.replace(/^#.*\n/gm, ""), PROGRAM);
-  assert.match(readCampaign("never lamp 0 on\n", subjectWithoutPanel).errors[0].words, /^nothing may change/);
+  assert.match(readCampaign("never lamp 0 on\n", subjectWithoutPanel).errors[0].words, /^no input may change/);
   assert.deepEqual(readCampaign("test\n", subjectWithoutPanel).campaign.inputs.map(({ downTestLine }) => downTestLine), ["set test 0"]);
   assert.deepEqual(campaignOf("").campaign.inputs.map(({ name }) => name), ["A", "B", "C", "D", "WALK"]);
   assert.deepEqual(campaignOf("press B\nreset\n").campaign.inputs.map(({ name }) => name), ["B"]);
@@ -435,12 +435,12 @@ test("errors of the start state are reported", async () => {
     const { errors } = await prepareSearch(engine, { ...texts, testText, propertiesText: `${line}\n` });
     return errors.map(({ line: errorLine, words }) => `${errorLine}: ${words}`).join();
   };
-  assert.equal(await errorOf("from there"), "1: no test saves a state there; there is: lit both");
+  assert.equal(await errorOf("from there"), "1: no test saves a state there; saved states: lit both");
   assert.equal(await errorOf("from lit", ""), "1: there are no tests, so none saves the state lit");
   assert.match(await errorOf("from lit of"), /^1: write `from STATE` or `from STATE of FILE.test`/);
-  assert.match(await errorOf("from lit\nfrom both"), /^2: an earlier line already says from which state it begins/);
+  assert.match(await errorOf("from lit\nfrom both"), /^2: an earlier line already has a state to begin from/);
   const error = await errorOf("from lit", SAVING_TESTS.replace("run 400", "rune 400"));
-  assert.match(error, /^1: its tests have an error in line 3: a line of a test cannot begin/);
+  assert.match(error, /^1: its tests have an error on line 3: a line of a test cannot begin/);
   const failingTests = SAVING_TESTS.replace("run 400", "expect lamp on on");
   assert.match(await errorOf("from lit", failingTests), /^1: line 3 of its tests fails: expect lamp on on: /);
 });

@@ -60,14 +60,14 @@ test("Intel HEX is read and written", () => {
 test("an invalid record is reported with its line", () => {
   /** @type {(text: string, message: RegExp) => void} */
   const assertRejected = (text, message) => assert.throws(() => readHex(text), message, text);
-  assertRejected(":03000000D1E2F05B\n", /^Error: line 1: the checksum is 5B, and 5A would be right$/);
+  assertRejected(":03000000D1E2F05B\n", /^Error: line 1: the checksum is 5B, but should be 5A$/);
   assertRejected("\n:0300", /^Error: line 2: a record has `:`, ten hexadecimal digits/);
-  assertRejected(":02000000D1E2F05A\n", /^Error: line 1: it announces 2 bytes and has 3$/);
+  assertRejected(":02000000D1E2F05A\n", /^Error: line 1: it announces 2 bytes, but has 3$/);
   assertRejected(":03000000D1E2F05A\n", /no last record/);
   assertRejected(":00000001FF\n", /it has no byte/);
   assertRejected(":00000001FF\n:00000001FF\n", /line 2: a record after the last one/);
   assertRejected(":020FFF00D1E23D\n:00000001FF\n", /past the last address, FFF/);
-  assertRejected(":01000000D12E\n:01000000D12E\n", /line 2: the address 000, which an earlier line has/);
+  assertRejected(":01000000D12E\n:01000000D12E\n", /line 2: the address 000, which an earlier line already fills/);
   assertRejected(":020000021000EC\n", /type 02 with a value other than 0/);
   assertRejected(":0000000AF6\n", /type 0A, which has no meaning/);
   assertRejected("D1E2", /begins with `:`/);

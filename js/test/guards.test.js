@@ -114,7 +114,7 @@ test("invalid guards are reported", () => {
   assert.match(errorsOf("after press PRESS within 5 years, never lamp foul on"), /^a guard is written as/);
   assert.match(errorsOf("while r4 = 1, @go at most once for each press"), /^a guard is written as/);
   assert.match(errorsOf("while r4 = 1, press START"), /^a guard is written as/);
-  assert.match(errorsOf(`${"while r4 = 1, ".repeat(5)}never r5 = 2`), /^at most 4 guards/);
+  assert.match(errorsOf(`${"while r4 = 1, ".repeat(5)}never r5 = 2`), /^a property has at most 4 guards/);
   assert.match(errorsOf("once test = 0, never r5 = 2"), /^no run changes test/);
   assert.equal(errorsOf("after press PRESS within 20 lamp foul on"), "");
 });

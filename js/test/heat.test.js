@@ -81,7 +81,7 @@ test("each frame reports one of several chips, and full speed reports samples", 
   assert.equal(calls.advance(50000).chipHeat, null);
   const { chipHeat } = calls.bench.session.forecastMeters();
   assert.deepEqual([chipHeat.chipCount, chipHeat.cycles, chipHeat.cells.length], [3, 2778, 1]);
-  assert.equal(describeHeatStatus(chipHeat, false), "Counted while running, in one of 3 chips at a time, at full speed in samples.");
+  assert.equal(describeHeatStatus(chipHeat, false), "Counted while running, in one of 3 chips at a time; sampled at full speed.");
   assert.equal(describeHeatStatus({ chipCount: 1 }, true), "Counted while running.");
 });
 
@@ -148,9 +148,9 @@ test("cells have one of five heat levels, and their changes are described", () =
   assert.deepEqual([...heatLevels({ cycles: 5, cells: [{ ...HEAT.cells[0], cyclesAgo: 0 }] }, "often").values()], [5]);
   assert.equal(describeChanges(HEAT.cells[1], null), "100 times, last by 009, 1 cycle, 0.011 ms ago");
   assert.equal(describeChanges({ ...HEAT.cells[2], count: 1, cyclesAgo: 0 }, null), "once by the line poke c 1");
-  assert.equal(describeChangesWhileRunning(HEAT.cells[1], null), "100 times as seen while running, last seen by 009");
+  assert.equal(describeChangesWhileRunning(HEAT.cells[1], null), "at least 100 times while running, most recently by 009");
   assert.equal(describeChangesWhileRunning({ ...HEAT.cells[2], count: 1 }, null),
-    "once as seen while running, last seen by the line poke c 1");
+    "at least once while running, most recently by the line poke c 1");
   assert.equal(describeHeat(HEAT, 2000, (place) => place.toUpperCase(), null), "In the last 1,000 cycles, 10.800 ms (no more is "
     + "remembered), 3 characters have changed: most often B, 100 times; last B, by 009, 1 cycle, 0.011 ms ago.");
   assert.equal(describeHeat({ cycles: 9, cells: [] }, 9, String, null), "In the last 9 cycles, 0.097 ms, no character of RAM has changed.");

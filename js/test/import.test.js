@@ -18,7 +18,7 @@ test("expressions have the values that Intel's assembler gives them", () => {
 });
 
 test("an invalid expression has an error, and the value of an undefined name is unknown", () => {
-  const errors = { "1+": "an operand is missing", "(1": "a bracket is missing", "1/0": "a division by 0", Y: "no line defines the name Y",
+  const errors = { "1+": "an operand is missing", "(1": "a bracket is missing", "1/0": "division by 0", Y: "no line defines the name Y",
     "9Z": "`9Z` is not a number", "1 2": "`2` is not understood", "'\u00e4'": "'\u00e4' has a character that is not ASCII" };
   for (const [text, error] of Object.entries(errors)) assert.equal(evaluate(text, 0, names).error, error);
   assert.deepEqual(evaluate("LATER+1", 0, names), { value: 1, isKnown: false, error: "" });

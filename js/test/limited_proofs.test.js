@@ -33,7 +33,7 @@ const SWITCH_LAMP_ON = "        SRC P1\n        LDM 1\nlit:    WMP\nend:    JUN 
 const waitForKey = (label) => `${label}:   SRC P2\n        RDR\n        RAR\n        JCN 10, ${label}\n`;
 // The program switches the lamp on when A is down.
 const PROGRAM = `${DRIVE_ROW_0}${waitForKey("look")}${SWITCH_LAMP_ON}`;
-/** The prover's answers for runs in which A, or B, is down at the first read. The 0 is for the first cycle, which reads nothing. */
+/** The prover's answers for runs in which A or B is down at the first read. The value 0 is for the first cycle, which reads nothing. */
 const ANSWERS_BY_KEYS = { A: "may fail 0 1\n", B: "may fail 0 2\n" };
 
 const moduleEngine = new Engine(new globalThis.WebAssembly.Module(pageModule));
@@ -76,7 +76,7 @@ test("limits on the inputs fit the board", () => {
   assert.deepEqual(limitsOn(withMoreNames, "press A B C D E F G H\ntogether 5"), null);
   // Without `press` and `test`, keys without a name can be pressed in a proof, although a search does not press them.
   assert.deepEqual(limitsOn((board) => board.replace(/# row.*\n/g, ""), "together 3"), null);
-  // One read sees the columns of one port.
+  // A read gets only the columns at one port.
   const withTwoPorts = (board) => board.replace("0iii", "00ii").replace('{ chip = 1', '{ chip = 2, port = "i000" }, { chip = 1')
     .replace('"rom1.2"', '"rom2.3"');
   assert.equal(limitsOn(withTwoPorts, "together 2"), null);
@@ -242,7 +242,7 @@ async function findCounterexample(text, values, programText) {
 }
 
 test("a counterexample uses allowed keys if they give the same values", async () => {
-  // Both rows are driven, so C gives the same value as A.
+  // Both rows are driven, so a read gives the same value for C as for A.
   const program = PROGRAM.replace("look:", "        LDM 2\n        WRR\n        IAC\n        WRR\nlook:");
   const found = await findCounterexample(`press C\n${NEVER_ON}`, [0, 1], program);
   assert.ok(found.isAllowed);
@@ -261,7 +261,7 @@ test("a counterexample releases keys that are not read, and stays within the lim
   const longerCounterexample = await findCounterexample(`together 2\n${NEVER_ON}`, [0, 1, 0, 0, 1], program);
   assert.ok(longerCounterexample.isAllowed);
   assert.doesNotMatch(longerCounterexample.text, /release/);
-  // What happens in the first 300 cycles does not count, so the waits are not shortened.
+  // Nothing is checked in the first 300 cycles, so minimising must not shorten the waits to less than that.
   const lateCounterexample = await findCounterexample(`begin after 300\n${NEVER_ON}`, [0, ...Array(100).fill(0), 1], PROGRAM);
   assert.ok(lateCounterexample.isAllowed && lateCounterexample.cycles > 300);
 });

@@ -74,15 +74,15 @@ test("the message names the wrong word", () => {
     ["asm x", "asm is written as: asm, then a text"],
     ["run 5 5", "run is written as: run n"],
     ["press 1 256", "256 is not a number from 0 to 255"],
-    ["poke r16 1", "there is no place r16; help places shows the ranges of the numbers in it"],
+    ["poke r16 1", "there is no place r16; help places shows which numbers are allowed in it"],
     ["poke rx 1", "rx is not a place; did you mean r0 or r1?"],
     ["poke foo 1", "foo is not a place; help places shows the places"],
     ["poke acc 16", "16 is not a number from 0 to 15"],
     ["count 0", "0 is not a number from 1 to 100,000"],
     ["test two", "two is not a number from 0 to 1"],
     [`trace 1 ${"acc ".repeat(17)}`, "trace has at most 16 places"],
-    ["seq é", "a line has ASCII characters and tabs; this one has é"],
-    ["seq \x01", "a line has ASCII characters and tabs; this one has the byte 01"],
+    ["seq é", "a line can have only ASCII characters and tabs; this one has é"],
+    ["seq \x01", "a line can have only ASCII characters and tabs; this one has the byte 01"],
     ["x".repeat(300), "the line has 300 characters; a line has at most 255"],
   ]) assert.equal(findLineError(line).message, message, line);
   assert.equal(findLineError("poke ram.0.0x3F 15"), null);

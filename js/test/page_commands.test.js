@@ -56,8 +56,8 @@ test("a command that cannot run gives the reason", () => {
   const reasons = COMMANDS.map((command) => [command.id, command.unavailableReason(calls)]).filter(([, reason]) => reason);
   assert.ok(reasons.length > 30);
   assert.equal(commandById("time.redo").unavailableReason(calls), say.NOTHING_UNDONE);
-  assert.equal(commandById("text.find").unavailableReason(calls), say.NO_EDITOR);
-  assert.equal(commandById("waves.save").unavailableReason(calls), say.NO_WAVES);
+  assert.equal(commandById("text.find").unavailableReason(calls), say.NEEDS_TEXT);
+  assert.equal(commandById("waves.save").unavailableReason(calls), say.NOTHING_RECORDED);
   for (const [id, reason] of reasons) assert.match(reason, /^[a-z].*[a-z]$/, id);
 });
 

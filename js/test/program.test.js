@@ -82,7 +82,7 @@ test("numbers in the syntax of other assemblers are explained", () => {
 test("wrong names, values and addresses are explained", () => {
   assert.equal(errorOf("JUN strat", 32, "start: NOP\nJUN strat"), "strat is not defined; start?");
   assert.equal(errorOf("JUN FF", 32), "FF is not defined; 0xFF?");
-  assert.equal(errorOf("a: NOP", 31, "a: NOP\na: NOP"), "a is already defined in line 1");
+  assert.equal(errorOf("a: NOP", 31, "a: NOP\na: NOP"), "a is already defined on line 1");
   assert.equal(errorOf("LDM 16", 33), "LDM takes a value, 0 to 15");
   assert.match(errorOf("JCN 4, far", 34), /^far is on another page; JCN reaches/);
 });
@@ -158,9 +158,9 @@ test("words are completed", () => {
 test("words have help", () => {
   const lines = ["loop: LDM 5 ; LDM", " FIM P3, loop"];
   const helpAt = (line, column) => helpForProgram(lines, line, column, instructions, () => "");
-  assert.equal(helpAt(0, 7), "LDM d: 1 word, 1 cycle. Load immediate: d into ACC. The carry stays.");
+  assert.equal(helpAt(0, 7), "LDM d: 1 word, 1 cycle. Load immediate: d into ACC. The carry does not change.");
   assert.match(helpAt(1, 5), /^P3: the pair of R6/);
-  assert.equal(helpAt(1, 10), "loop: defined in line 1.");
+  assert.equal(helpAt(1, 10), "loop: defined on line 1.");
   assert.equal(helpAt(0, 15), "");
   assert.deepEqual(wordAt("a loop", 3), { text: "loop", from: 2, to: 6 });
 });
@@ -179,7 +179,7 @@ test("a program is loaded into ROM with zeros elsewhere, in one text if possible
 
 test("the message about assembled bytes names the bytes that stay in ROM", () => {
   assert.equal(describeAssembledProgram({ size: 3, remainingAddresses: [0x41, 0x42] }, "012"),
-    "3 bytes assembled. 2 bytes from before stay in ROM, from 0x041. The counter stays at 012; nothing was reset.");
+    "3 bytes assembled. 2 bytes of the previous program stay in ROM, from 0x041. The counter stays at 012; nothing was reset.");
   assert.deepEqual(
     [formatQuantity(1, "byte"), formatQuantity(0, "byte"), formatQuantity(1543, "cycle"),
       formatQuantity(2, "property is", "properties are")],

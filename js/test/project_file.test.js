@@ -107,8 +107,8 @@ test("errors in a project without a checksum are reported with their lines", () 
     ["wire\n", "wire it\n", /line 4 .* head/],
     ["asm\n", "asm it\n", /line 7 .* `asm`/],
     ["session 163856", "session 12", /line 10 .* `session 163856`/],
-    ["00000 4d", "00000 4D", /line 11 .* not one of a session/],
-    ["28000 0000", "28010 0000", /line 12 .* not one of a session/],
+    ["00000 4d", "00000 4D", /line 11 .* not a line of a session/],
+    ["28000 0000", "28010 0000", /line 12 .* not a line of a session/],
     ["\n.\nend\n", "\nend\n", /after `session 163856` has no end/],
     ["\n.\nend\n", "\n.\nmore\nend\n", /end of the file/],
   ];
@@ -131,7 +131,7 @@ test("breakpoints are in the head of the project, and are read back unchanged", 
   assert.equal(parse(projectText(createProject({ breakpoints: [] }))).breakpoints, undefined);
   for (const invalidLine of ["break", "break here", "break line x", "break line 3 if r4", "break at 0x12"]) {
     const changedText = text.replace(/\ncksum .*/, "").replace("break at 0x7FF", invalidLine);
-    assert.throws(() => parse(changedText), /must be a line of the head: `name`, `unended`, `break`/);
+    assert.throws(() => parse(changedText), /must be a header line: `name`, `unended`, `break`/);
   }
 });
 
@@ -142,7 +142,7 @@ test("watches are in the head of the project, and are read back unchanged", () =
   assert.deepEqual(parse(text).watched, watched);
   assert.equal(parse(projectText(createProject({ watched: [] }))).watched, undefined);
   for (const invalidLine of ["value", "value ", "values x"]) {
-    assert.throws(() => parse(text.replace(/\ncksum .*/, "").replace("value P2", invalidLine)), /a line of the head: .* `break`, `value`/);
+    assert.throws(() => parse(text.replace(/\ncksum .*/, "").replace("value P2", invalidLine)), /a header line: .* `break`, `value`/);
   }
 });
 

@@ -61,7 +61,7 @@ test("each command has a handler, is found by its names, and has help", async ()
   }
   assert.equal(findCommand("und").command.name, "undisplay");
   assert.equal(findCommand("re").message, "re is ambiguous: reverse-step, reverse-next, reverse-continue, release, reset");
-  assert.equal(findCommand("bogus").message, "there is no command bogus; help shows them all");
+  assert.equal(findCommand("bogus").message, "there is no command bogus; help lists all commands");
 });
 
 test("places, counts and times are parsed", async () => {
@@ -100,7 +100,7 @@ test("steps forward and back", async () => {
   assert.match((await ask("reverse-step 3"))[0], /^Back at 000 \(.*\), 4 cycles, 0\.043 ms earlier: this instruction has not run yet\.$/);
   assert.equal(readState(), stateBefore);
   assert.match((await ask("forward"))[0], /^Forward again to 004 \(.*\), 4 cycles, 0\.043 ms later\.$/);
-  assert.match((await ask("forward"))[0], /^refused: Nothing was done: forward returns to where going back started/);
+  assert.match((await ask("forward"))[0], /^refused: Nothing was done: forward works only after going back/);
   await ask("reverse-step 3");
   await ask("step 2");
   assert.match((await ask("reverse-step 3"))[0], /^Back at 000 .* earlier, after 2 of 3 instructions: the remembered past begins here\.$/);
@@ -177,7 +177,8 @@ test("breakpoints with conditions, hit counts and log messages; watches", async 
   assert.equal(session.breakpoints.all.length, 1, "the previous breakpoint stays");
   await ask("delete");
   assert.deepEqual(await ask("continue"), ["refused: nothing would stop it: set a breakpoint, or run for a time, as in run 100 ms"]);
-  assert.deepEqual(await ask("watch r4", "info watches"), ["r4 is watched by continue.", "r4, by continue"]);
+  assert.deepEqual(await ask("watch r4", "info watches"),
+    ["r4 is watched, but only continue stops at its changes.", "r4, for continue only"]);
   assert.match((await ask("continue")).join(), /after r4 changed/);
   assert.match((await ask("watch acc"))[0], /^refused: r4 is watched/);
   assert.deepEqual(await ask("watch ram.0.0x01", "delete r4", "info watches"), ["ram.0.0x01 is watched.", "ram.0.0x01"]);
@@ -206,7 +207,7 @@ test("values are shown, printed and set", async () => {
   assert.match((await ask("list wait")).join("\n"), /wait: {3}FIM P1, time/);
   assert.match((await ask("info registers"))[0], /^acc 0 {2}cy 0 {2}pc 002/);
   assert.match((await ask("info names")).join("\n"), /^time {12} 0C$/m);
-  assert.match((await ask("info"))[0], /^refused: info shows registers, ram, ports, keys, breakpoints, .*, locals$/);
+  assert.match((await ask("info"))[0], /^refused: write info and one of registers, ram, ports, keys, breakpoints, .*, locals$/);
   assert.match((await ask("bench lamps"))[0], /^lamps \.\.\.$/);
   assert.match((await ask("bench poke r16 1"))[0], /^refused: no 11/);
   assert.match((await ask("load"))[0], /The source is in ROM/);
@@ -304,7 +305,7 @@ test("commands can run at a breakpoint's stops", async () => {
   await ask("commands 1", "print acc", "step", "print never", "end");
   assert.equal((await ask("continue")).filter((line) => /never/.test(line)).length, 0);
   await ask("commands 1", "print pc", "bogus", "print acc", "end");
-  assert.deepEqual((await ask("continue")).slice(-2), ["0x0A7, line 125", "refused: there is no command bogus; help shows them all"]);
+  assert.deepEqual((await ask("continue")).slice(-2), ["0x0A7, line 125", "refused: there is no command bogus; help lists all commands"]);
   await ask("commands 1", "end");
   assert.deepEqual(await ask("info b"), [(await ask("info breakpoints"))[0]]);
   await ask("commands 1");
@@ -364,7 +365,7 @@ test("breakpoints are saved to a file, and commands are read from a file", async
   const maskNumbers = (lines) => lines.map((line) => line.replace(/^\d/, "N"));
   assert.deepEqual([maskNumbers(await ask("info breakpoints")), await ask("info watches")], [maskNumbers(infoBefore[0]), infoBefore[1]]);
   await ask("delete");
-  assert.deepEqual((await ask("source bad")).slice(1), ["refused: bad: line 4: there is no command bogus; help shows them all"]);
+  assert.deepEqual((await ask("source bad")).slice(1), ["refused: bad: line 4: there is no command bogus; help lists all commands"]);
   assert.equal(session.breakpoints.all.length, 1);
   assert.match((await ask("source cut")).at(-1), /^refused: cut ends too soon; the commands of breakpoint \d+ are dropped$/);
   assert.match((await ask("source itself")).at(-1), /at most 8 deep$/);

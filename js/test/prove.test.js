@@ -170,7 +170,7 @@ test("a property with a time becomes a question about a stopwatch with the same 
   assert.deepEqual(stopwatchOf("every 20 @look"), { startCondition: [AT_ADDRESS_0, AT_LOOK], endCondition: [AT_LOOK], maxCycles: 20 });
   assert.deepEqual(stopwatchOf("@look to @lit within 7"), { startCondition: [AT_LOOK], endCondition: [AT_LIT], maxCycles: 7 });
   assert.deepEqual(stopwatchOf("@look to @look within 7"), { startCondition: [AT_LOOK], endCondition: [AT_LOOK], maxCycles: 7 });
-  // A guard with `while` is part of the condition.
+  // A `while` guard becomes part of the condition.
   const { startCondition, endCondition } = stopwatchOf("while r5 = 2, never lamp on on for 93");
   assert.deepEqual(startCondition, [["in register 5 whole 2 2", "in ramport 0 line0 1 1"]]);
   assert.equal(endCondition.length, 3);
@@ -183,7 +183,7 @@ test("a condition with a time is also evaluated between the two cycles of an ins
   assert.ok(endCondition.flat().every((comparison) => !comparison.startsWith("in counter 3 ")));
 });
 
-test("a condition that is always true, or never, also has both lists", () => {
+test("a condition that is always or never true also has both lists of comparisons", () => {
   const { stopwatch: alwaysTrue } = questionOf("never r5 >= 0 for 9").question;
   assert.deepEqual(alwaysTrue, { startCondition: [[]], endCondition: [["in register 0 whole 1 0"]], maxCycles: 9 });
   const { stopwatch: neverTrue } = questionOf("never r5 > 15 for 9").question;

@@ -52,7 +52,7 @@ end:    JUN end
 `;
 const engine = new Engine(new globalThis.WebAssembly.Module(pageModule));
 
-/** The bench's module with a fixed answer of the prover to questions about key presses. */
+/** The bench's module, except that the prover always gives the same answer to questions about key presses. */
 class FixedAnswerEngine extends Engine {
   /** @param {string} answer */
   constructor(answer) {
@@ -99,7 +99,7 @@ const GUARDED_PROPERTIES = [
   ["after press START, reach @go", "found"],
   ["after press PRESS, after press START within 20 lamp waiting on", 'a property of the form "after press" cannot be proved yet'],
   ["while lamp waiting on, after press PRESS within 20 lamp foul on", 'a property of the form "after press" cannot be proved yet'],
-  // A guard with `while` is part of the condition.
+  // A `while` guard becomes part of the condition.
   ["while lamp go on, once lamp foul on, never r15 = 1", "proved"],
   ["once lamp go on, after press PRESS, while lamp waiting on, never lamp foul off",
     'it can fail without "once" and "after press", which a proof leaves out'],

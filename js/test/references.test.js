@@ -34,7 +34,7 @@ test("a new name must be valid", () => {
   assert.equal(renamingErrorOf("WPM"), "WPM is an instruction.");
   assert.equal(renamingErrorOf("db"), "db is an instruction.");
   assert.equal(renamingErrorOf("R5"), "R5 is a register.");
-  assert.equal(renamingErrorOf("count"), "count is already defined in line 1.");
+  assert.equal(renamingErrorOf("count"), "count is already defined on line 1.");
 });
 
 test("lines can be commented and uncommented", () => {

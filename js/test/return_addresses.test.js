@@ -32,7 +32,7 @@ test("the counter and return addresses are described", () => {
   assert.deepEqual(describeProgramCounter(5, MAP), { isLive: true, description: "one + 1, line 3", title: "one: FIM P0, 0x50" });
   assert.equal(describeProgramCounter(9, MAP).description, "");
   assert.equal(describeProgramCounter(5, null).description, "");
-  assert.deepEqual(describeReturn(2, true, MAP), { isLive: true, description: "go + 2, call in line 1", title: "go: JMS one" });
+  assert.deepEqual(describeReturn(2, true, MAP), { isLive: true, description: "go + 2, call on line 1", title: "go: JMS one" });
   assert.equal(describeReturn(2, true, null).description, "");
   assert.equal(describeReturn(2, false, MAP).description, "stale");
 });

@@ -222,7 +222,7 @@ test("hover, definitions and references in a board: a lamp's line leads to its c
   assert.deepEqual((await request("textDocument/definition", positionIn(uri, lampLine, column + 3))).range.start.line,
     lines.indexOf("[[ram]]"));
   assert.match((await request("textDocument/hover", positionIn(uri, lampLine, column + 3))).contents.value,
-    /^ram0\.0\.2: line 2 of the port of RAM chip 0 in bank 0, lamp 2 \(alarm\); its chip is in line \d+\.$/);
+    /^ram0\.0\.2: line 2 of the port of RAM chip 0 in bank 0, lamp 2 \(alarm\); its chip is on line \d+\.$/);
   assert.equal((await request("textDocument/references", positionIn(uri, lines.indexOf("[[ram]]"), 3))).length, 4);
   const diagnostics = await openText("file:///b/board.toml", BOARD.replace("chips = 1", "chip = 1"), "toml");
   assert.deepEqual(diagnostics.map(({ message }) => message), ["chip is not a key of ram; chips?"]);

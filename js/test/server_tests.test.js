@@ -45,7 +45,7 @@ test("a missing or wrong board or program is reported", async () => {
     "0:0-0 2 there is no board.toml here, so this text is not checked; mcs4.toml can name a board and a program"]);
   const serverWithWrongProgram = await startServerWith({ ...FILES, [`${FOLDER}lock.asm`]: "NOP\n JMP 3\n" });
   assert.deepEqual(describeDiagnostics(await serverWithWrongProgram.openText(propertiesUri, "never lamp open on\n")), [
-    "0:0-0 2 lock.asm has an error in line 2, so this text is not checked"]);
+    "0:0-0 2 lock.asm has an error on line 2, so this text is not checked"]);
 });
 
 test("tests are checked again when the board or the program changes", async () => {
@@ -106,7 +106,7 @@ test("a test is run with its code lens, and its failed line is reported", async 
   await request("workspace/executeCommand", lenses[0].command);
   assert.deepEqual(getLastMessage(), { type: 3, message: "The test opens passed." });
   await request("workspace/executeCommand", lenses[1].command);
-  assert.match(getLastMessage().message, /^The test fails failed in line 6: /);
+  assert.match(getLastMessage().message, /^The test fails failed on line 6: /);
   const { diagnostics } = messages.filter(({ method }) => method === "textDocument/publishDiagnostics").pop().params;
   assert.deepEqual(diagnostics.map(({ range }) => range.start.line), [5]);
   const command = { command: "mcs4.runTest", arguments: [testsUri, "other"] };

@@ -58,7 +58,7 @@ test("wrong lines are reported", () => {
   assert.match(errorOf("test\nno press below 9 reaches @open", unnamedSubject), /names no keys .* so nothing can be pressed$/);
 });
 
-/** Returns the time at which a walk first breaks the property with a time; -1 if the walk does not break it. */
+/** Returns the time at which a walk first breaks the only property of a text; -1 if the walk does not break it. */
 function findViolationTime(text, moves, lineSubject = subject) {
   const campaign = campaignOf(text, lineSubject);
   const [property] = campaign.properties;
@@ -76,14 +76,14 @@ test("a property is broken if each press so far is shorter than its time", () =>
   assert.deepEqual([20, 21].map((time) => breaks(time, [pressA(12)])), [false, true]);
   assert.deepEqual([24, 25].map((time) => breaks(time, [pressA(8)])), [false, true]);
   assert.deepEqual([15, 16].map((time) => breaks(time, [pressA(12), [15, "up", "A"]])), [false, true]);
-  // A long press at any time before the label excludes the run, also that of another key.
+  // A run does not break the property if any key is down too long at any time before the label.
   assert.equal(breaks(21, [[2, "down", "B"], [20, "up", "B"], pressA(18)]), true);
   assert.equal(breaks(21, [[2, "down", "B"], [21, "up", "B"], pressA(17)]), false);
   assert.equal(breaks(21, [[2, "down", "WALK"], [21, "up", "WALK"], pressA(17)]), false);
   assert.deepEqual([21, 22].map((time) => breaks(time, [[11, "down", "B"], pressA(1)])), [false, true]);
-  // A key that goes up and down between two reads is not down without interruption.
+  // If a key goes up and down again between two reads, its second press counts as a new, shorter one.
   assert.deepEqual([13, 14].map((time) => breaks(time, [pressA(12), [1, "up", "A"], pressA(6)])), [false, true]);
-  // A power cycle ends the count: presses before it do not matter, and one that still lasts counts from then on.
+  // A press that ends before a power cycle does not count. The time of a key that stays down starts again at the power cycle.
   assert.equal(breaks(21, [[2, "down", "B"], [30, "up", "B"], pressA(8)]), false);
   assert.equal(breaks(21, [[2, "down", "B"], [30, "up", "B"], [1, "reset", ""], pressA(12)]), true);
   assert.deepEqual([32, 33].map((time) => breaks(time, [pressA(2), [5, "reset", ""]])), [false, true]);
@@ -125,13 +125,13 @@ const limitsFor = (text, lineSubject = subject) => {
 };
 
 test("the last proof limits presses so that each run of the text can continue", () => {
-  // Only one key is down at a time. A press can last for the shortest wait.
+  // If only one key can be down at a time, a press can last for the shortest wait.
   assert.deepEqual(limitsFor("press A\nwait 7 to 60\nno press below 21 reaches @open"),
     [[1, null, "press"], [7, null, "press wait"], [7, 20, "press wait"]]);
   assert.deepEqual(limitsFor("press A\nwait 30 to 60\nno press below 21 reaches @open").slice(-1), [[30, 30, "press wait"]]);
   assert.deepEqual(limitsFor("press A B\ntogether 1\nwait 7 to 60\nno press below 21 reaches @open").slice(-1),
     [[7, 20, "together 1 wait"]]);
-  // Another change can come immediately before the label, and the release comes a shortest wait after that.
+  // If another input can change immediately before the label, the release follows that change only after the shortest wait.
   assert.deepEqual(limitsFor("press A B\nwait 7 to 60\nno press below 21 reaches @open").slice(-1), [[7, 26, "wait"]]);
   assert.deepEqual(limitsFor("together 1\nwait 7 to 60\nno press below 21 reaches @open").slice(-1), [[7, 26, "together 1 wait"]]);
   assert.deepEqual(limitsFor("press A\ntest\nwait 7 to 60\nno press below 21 reaches @open").slice(-1), [[7, 26, "press test wait"]]);
@@ -153,7 +153,7 @@ test("a proof uses `held` if no release comes closer than the shortest wait", ()
   }
   assert.deepEqual(limitsFor("press A\nwait 7 to 60\nheld at most 6\nnever @open"), [[1, null, "press"]]);
   assert.deepEqual(limitsFor("press A\nwait 7 to 60\nheld at most 2 s\nnever @open").slice(-1), [[7, null, "press wait"]]);
-  // The shorter of both times is used.
+  // The limit on presses is the shorter time: that of `held` or that of the property.
   assert.deepEqual(limitsFor("press A\nwait 7 to 60\nheld at most 20\nno press below 30 reaches @open").slice(1),
     [[7, null, "press wait"], [7, 20, "press wait held"]]);
   assert.deepEqual(limitsFor("press A\nwait 7 to 60\nheld at most 40\nno press below 30 reaches @open").slice(2),
@@ -163,7 +163,7 @@ test("a proof uses `held` if no release comes closer than the shortest wait", ()
 const judge = (propertiesText, answer, boardText = BOARD) => (
   judgeFirst(new AnsweringEngine(answer), { boardText, programText: PROGRAM, propertiesText }));
 
-/** The answer for all inputs: A is down at three reads. */
+/** The prover's answer to the question about all inputs: A is down at three reads. */
 const LONG_PRESS = "may fail 0 1 1 1\n";
 const PROPERTY = "no press below 20 reaches @open";
 
@@ -175,7 +175,7 @@ test("a property is asked for all inputs, then with the limits of the text, and 
     ["all", "only; press 0 0; test", "wait 7; only; press 0 0; test", "wait 7; held 19; only; press 0 0; test"]);
   const neverReached = await judge(text, () => "holds 7\n");
   assert.deepEqual([neverReached.verdict.limits, neverReached.asked], [[], ["all"]]);
-  // A separate question decides the other property.
+  // The other property is decided by a question of its own.
   const { asked } = await judge(`${text}never r8 = 1\n`, () => "too many\n");
   assert.equal(asked.length, 4);
   const engine = new AnsweringEngine((limits) => (limits.includes("held") ? "holds 5\n" : LONG_PRESS));
@@ -190,7 +190,7 @@ test("an undecided property says what is missing", async () => {
     (await judge(`${inputs}\n${property}\n`, () => answer, board)).verdict.reason);
   assert.match(await reasonOf("press A"), /unseen between two reads; write a line `wait TIME to TIME`, from 2 cycles$/);
   assert.match(await reasonOf("press A\nwait 1 to 9"), /unseen between two reads/);
-  assert.match(await reasonOf("press A B\nwait 7 to 9\nheld at most 9"), /^with its line `held`, a proof cannot use `wait`/);
+  assert.match(await reasonOf("press A B\nwait 7 to 9\nheld at most 9"), /^a proof cannot use `wait` if the text has a line `held`/);
   assert.match(await reasonOf("press WALK\nwait 7 to 9"), /^a proof limits only how long keys of the matrix are down$/);
   assert.match(await reasonOf("press A B\nwait 99995 to 99995"), /are together longer than 100000 cycles$/);
   assert.match(await reasonOf("press A B\nwait 7 to 60"), /^the bench does not confirm .* allows presses of up to 25 cycles$/);
@@ -208,7 +208,7 @@ test("a counterexample with levels becomes presses that are as short as possible
   const found = await replay(`${inputs}no press below 21 reaches @open`, reads);
   assert.deepEqual([found.isAllowed, found.steps, found.cycles], [true, 1, 32]);
   assert.match(found.text, /\n {2}run 12\n {2}press A\n {2}run 20\n {2}expect not @open\n$/);
-  // After the last read, the key goes up before its press is too long.
+  // The key is released after the last read, before its press becomes too long.
   const { text } = await replay(`${inputs}no press below 16 reaches @open`, reads);
   assert.match(text, /\n {2}run 12\n {2}press A\n {2}run 15\n {2}release A\n {2}run 5\n {2}expect not @open\n$/);
   assert.equal(await replay(`${inputs}no press below 15 reaches @open`, reads), null);
@@ -232,13 +232,13 @@ test("moments keep the shortest wait and the longest press, if there are such mo
   assert.deepEqual(find(press, 35, Infinity), [5, 40]);
   assert.equal(find(press, 40, Infinity), null);
   assert.equal(find([change(1, 10, [0]), change(21, 40, [], [0])], 5, 10), null);
-  // The release of A must come a wait before the press of B, so A is pressed early.
+  // At least `minWait` must pass between the release of A and the press of B, so A is pressed early.
   assert.deepEqual(find([change(1, 30, [0]), change(31, 50, [], [0]), change(40, 45, [1])], 20, 30), null);
   assert.deepEqual(find([change(1, 30, [0]), change(20, 50, [], [0]), change(40, 45, [1])], 20, 30), [5, 25, 45]);
-  // B must be released soon after its press, which lowers the moments of A's release and press.
+  // B must be released soon after its press. Therefore, A must be released and pressed earlier, too.
   assert.deepEqual(find([change(1, 30, [0]), change(2, 35, [1]), change(3, 50, [], [0]), change(4, 90, [], [1])], 10, 25),
     [25, 35, 50, 60]);
-  // A key that is down at power-on, and an input that is no key.
+  // The first case has a key that is down at power-on. In the second, the input is not a key, so `maxPressTime` does not limit it.
   assert.deepEqual(find([change(1, 30, [], [0])], 5, 9), [9]);
   assert.deepEqual(find([change(1, 30, [2]), change(31, 90, [], [2])], 5, 9), [30, 90]);
 });

@@ -52,7 +52,7 @@ test("single values of a state are read", () => {
   assert.deepEqual(["seq", "acc", "r", "ret", "test", "rams", "lamps", "watches"].map((key) => stateValue(STATE, key)),
     ["8", "6", "1000000000000000", "000,001,000", "1", "0.0.0,1.0.0", "**.", "0.3F"]);
   assert.deepEqual(["banks", "keys", "watches"].map((key) => parseItems(stateValue(EMPTY, key))), [[], [], []]);
-  assert.throws(() => stateValue("no 90", "acc"), /the bench answers `state` with no 90/);
+  assert.throws(() => stateValue("no 90", "acc"), /unexpected answer to `state`: no 90/);
 });
 
 test("states are compared without the number of commands", () => {
@@ -80,5 +80,5 @@ test("an empty bench has an empty snapshot, and an invalid state is an error", (
   const changes = reader.readStateChanges();
   assert.deepEqual([changes.breakpoints, changes.watches], [[], []]);
   assert.deepEqual(changes.ports, { srcBytes: ["00"], roms: [], chains: [], keys: [] });
-  assert.throws(() => reader.readSnapshot(["no 90"]), /the bench answers `state` with no 90/);
+  assert.throws(() => reader.readSnapshot(["no 90"]), /unexpected answer to `state`: no 90/);
 });

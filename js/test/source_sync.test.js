@@ -84,8 +84,8 @@ test("a source with errors, or without a ROM for its bytes, is reported", async 
   await sync.check();
   current.checkResult = { map: MAP, refusal: null, difference: { address: 2, hasRom: false } };
   await sync.check();
-  assert.deepEqual(log.changes.map(([, reason]) => reason), ["The source has an error in line 1: no 30: words of 30.",
-    "The source has an error: no 13: words of 13.", "The source has an error in line 1: a line with only a dot ends the text.",
+  assert.deepEqual(log.changes.map(([, reason]) => reason), ["The source has an error on line 1: no 30: words of 30.",
+    "The source has an error: no 13: words of 13.", "The source has an error on line 1: a line with only a dot ends the text.",
     "The board has no ROM at 0x002, where line 4 of the source goes."]);
 });
 

@@ -79,9 +79,10 @@ test("failures in `repeat` and shared steps have their iteration and the last pa
   const { outcomes } = await runTests(engine, createTexts(testLines.join("\n")), alwaysContinue);
   assert.deepEqual([outcomes[0].cycles, outcomes[0].failure.line], [7 + 13 * 538, 15]);
   assert.equal(outcomes[0].failure.words,
-    "2152 cycles have passed, but the test expects at most 2000; in turn 4 of 5 of line 13, in turn 1 of 2 of line 12");
+    "2152 cycles have passed, but the test expects at most 2000; "
+      + "in pass 4 of 5 of the repeat at line 13, in pass 1 of 2 of the repeat at line 12");
   assert.equal(outcomes[1].failure.words, "it did not become true within 4 cycles: pc is 016 (turn), but must be @first; "
-    + "the last label passed is turn, 2 cycles ago; @first was passed last 10 cycles ago");
+    + "the last label passed is turn, 2 cycles ago; @first was last passed 10 cycles ago");
 });
 
 test("`until` reads `owed` at the end of an instruction, where it is 0", async () => {

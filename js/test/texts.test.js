@@ -25,7 +25,7 @@ test("errors have messages", () => {
   const noMemory = errorMessages.failureMessage(new BenchRefusal(90));
   assert.equal(noMemory, "It was not done: no 90: out of memory. The session is as it was before.");
   const trap = errorMessages.failureMessage(new BenchTrap("unreachable"));
-  assert.match(trap, /the module stopped inside a call \(unreachable\) and was started again/);
+  assert.match(trap, /the module stopped during a call \(unreachable\) and was restarted/);
   assert.match(errorMessages.failureMessage(new WorkerDiedError()), /The session is as it was before/);
   assert.equal(errorMessages.failureMessage(new CancelledError()), "It was cancelled. The session is as it was before.");
   assert.equal(errorMessages.failureMessage(new Error("odd")), "The page failed: odd. What was answered ok is kept.");

@@ -78,8 +78,8 @@ test("values that an instruction reads or writes through SRC", async () => {
   const location = "bank 0, chip 0, register 1";
   assert.equal(joinPieces(piecesOf("  WRM", "WRM", openedSession)), `${location}, character 2 = 7; acc 5, cy 1`);
   assert.equal(joinPieces(piecesOf("  rd2", "rd2", openedSession)), `${location}, status character 2 = 9; acc 5, cy 1`);
-  assert.equal(joinPieces(piecesOf("  WMP", "WMP", openedSession)), "bank 0, chip 0: its port puts out 0; acc 5, cy 1");
-  assert.match(joinPieces(piecesOf("  RDR", "RDR", openedSession)), /^ROM 1: puts out \d, RDR reads [\dA-F]; acc 5, cy 1$/);
+  assert.equal(joinPieces(piecesOf("  WMP", "WMP", openedSession)), "bank 0, chip 0: its port outputs 0; acc 5, cy 1");
+  assert.match(joinPieces(piecesOf("  RDR", "RDR", openedSession)), /^ROM 1: outputs \d, RDR reads [\dA-F]; acc 5, cy 1$/);
   assert.equal(joinPieces(piecesOf("  ADD R4", "ADD", openedSession)), "acc 5, cy 1");
   assert.deepEqual(piecesOf("  JUN end", "JUN", openedSession), []);
   const bank2Session = await openSession("poke dcl 2\npoke ram.2.0x00 3\n");
@@ -93,7 +93,7 @@ test("values of numbers and names", async () => {
   assert.equal(joinPieces(piecesOf("  LDM 6", "6", openedSession)), "6 = 0x6, 0110");
   assert.equal(joinPieces(piecesOf("  FIM P0, k", "k", openedSession)),
     "k 18, 0001 0010; sent by SRC, it selects ROM 1; bank 0, chip 0, register 1, character 2 = 7");
-  assert.equal(joinPieces(piecesOf("  JUN end", "end", openedSession)), "end 5, and comes next");
+  assert.equal(joinPieces(piecesOf("  JUN end", "end", openedSession)), "end 5; the next instruction is there");
   assert.deepEqual(piecesOf("  JUN other", "other", openedSession), []);
 });
 

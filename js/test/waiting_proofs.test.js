@@ -46,7 +46,8 @@ test("a proof uses the shortest wait of a text last", () => {
   ]);
   assert.deepEqual(limitsOf("wait 5 to 9\ntogether 1").map(({ maxKeysDown, words }) => [maxKeysDown, words]),
     [[1, ["together 1"]], [1, ["together 1", "wait"]]]);
-  // The default wait is only for a search. A line `held` shortens waits. A saved state has other inputs before it.
+  // There are no limits without a `wait` (its default is only for searches), with `held`, which shortens waits, or from a saved state,
+  // which other inputs precede.
   for (const text of ["", "wait 1 to 9", "wait 2 to 9\nheld at most 1 s", "wait 2 to 9\nfrom saved"]) assert.deepEqual(limitsOf(text), []);
 });
 
@@ -96,7 +97,8 @@ test("two inputs that change in the same cycle break the shortest wait, unless o
   const programOf = (reads) => `${DRIVE_ROW_0}one:    SRC P2\n${reads}${SWITCH_LAMP_ON}`;
   const isAllowed = async (reads, text, levelList) => (
     (await replay(`${text}${NEVER_ON}`, levelList, createSubject(moduleEngine, BOARD, programOf(reads)))).isAllowed);
-  // The program reads A without B, and 7 cycles later B without A. The first two steps begin at power-on and at a read without A.
+  // The program waits until A is down and B is up; 7 cycles later it waits until B is down and A is up. `exchanged` has the levels at
+  // power-on, at a read that does not find A down, and at the two last reads.
   const exchanged = [levels(0), levels(0), levels(1), levels(0, 1)];
   const readExchanged = `${readBoth(true, false, "one")}${readBoth(false, true, "one")}`;
   assert.equal(await isAllowed(readExchanged, "", exchanged), true);
@@ -120,7 +122,7 @@ test("a counterexample with values must keep the shortest wait, too", async () =
   assert.equal((await found(`wait 60 to 90\n${NEVER_ON}`)).isAllowed, false);
 });
 
-/** The answer to a question about several properties, which is never proved for all of them. */
+/** The prover's answer to each question about several properties: they are not all proved. */
 const JOINT_ANSWER = "may fail 0 1 0 1\n";
 const judge = (propertiesText, answer) => (
   judgeFirst(new AnsweringEngine(answer, JOINT_ANSWER), { boardText: BOARD, programText: PROGRAM, propertiesText }));

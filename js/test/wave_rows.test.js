@@ -13,7 +13,7 @@ const ALL_LINES = NAMES.map((_, line) => line);
 /** Returns the names of the rows as a single string. A group heading is written as `[NAME`, the heading of a folded group as `]NAME`. */
 const rowsOf = (rows, chosen = ALL_LINES) => rows.arrange(LINES, chosen).map(({ line, name, group, isFolded }) => (
   line < 0 ? `${isFolded ? "]" : "["}${group}` : name)).join(" ");
-/** Moves a row to the position of another row. Returns the rows in the form of `rowsOf`. */
+/** Moves a row to the position of another row. Returns the rows as `rowsOf` formats them. */
 function moveRow(rows, from, to, chosen = ALL_LINES) {
   rows.move(rows.arrange(LINES, chosen), rows.sortNames(chosen.map((line) => NAMES[line])), from, to);
   return rowsOf(rows, chosen);

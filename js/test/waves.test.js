@@ -139,7 +139,7 @@ function beginRecording(state = STATE, values = []) {
   return builder;
 }
 
-/** Adds a run to a recording, and the state after it, which is STATE with `changes`. Returns the recording. */
+/** Adds a run to a recording, and then the state after the run: STATE with `changes`. Returns the recording. */
 function addRun(builder, levels, instructions, answer, changes) {
   builder.recordRun(new ForecastAnswers([...answersOf(builder, levels, instructions), answer]));
   builder.recordState(stateWith(changes));

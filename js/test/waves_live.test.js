@@ -41,7 +41,7 @@ test("a live recording of frames, keys, lines and steps equals a recording of th
   assert.deepEqual([...liveWaves.waves.listing].sort(), [...wholeWaves.listing].sort());
   assert.ok(liveWaves.waves.changesOf(lineIndexOf(liveWaves.waves, "key.1")).length === 2);
   liveWaves.append(calls.endRecording());
-  assert.match(liveWaves.statusText, /^Recorded .* Stopped by you\.$/);
+  assert.match(liveWaves.statusText, /^Recorded .* You stopped it\.$/);
   assert.equal(calls.advance(100).waves, null);
 });
 

@@ -54,7 +54,7 @@ test("a buzzer is a part with a wire from its line", () => {
   assert.deepEqual(parts.map(({ title }) => title), ["4004", "ROM 0 · 4001", "Buzzer"]);
   assert.deepEqual(wires.map(({ from, to }) => `${from.label} ${to.label}`), ["out 3 the horn"]);
   assert.equal(parts[1].descriptions[3], "line rom0.3, an output, sounds the buzzer");
-  assert.deepEqual(parts[2].descriptions, ["the horn sounds the edges of rom0.3"]);
+  assert.deepEqual(parts[2].descriptions, ["the horn sounds at each edge of rom0.3"]);
 });
 
 test("an empty board has a processor", () => {

@@ -14,17 +14,17 @@ export const ROM_CONTENTS = "the contents of ROM";
 export const DISASSEMBLED_FROM_ROM = "disassembled from ROM";
 /** @type {(name: string) => string} */
 export const onlySourceMessage = (name) => `there is one source, ${name}`;
-export const NO_REFERENCE = "this reference is unknown";
-export const NO_FRAME = "there is no such frame; frameId is one of stackTrace";
-export const NO_LINE = "text has no such line";
+export const UNKNOWN_REFERENCE = "this reference is unknown";
+export const NO_SUCH_FRAME = "there is no such frame; use a frameId that stackTrace returned";
+export const NO_SUCH_LINE = "`text` has no such line";
 /** @type {(maximum: number) => string} */
-export const instructionCountRangeMessage = (maximum) => `instructionCount is 0 to ${maximum}`;
+export const instructionCountRangeMessage = (maximum) => `instructionCount must be 0 to ${maximum}`;
 
 // --- adapter/memory.js ---
 /** @type {(part: string) => string} */
 export const boardHasNo = (part) => `the board has no ${part}`;
-export const COUNT_RANGE = "count is 0 or more";
-export const OUTSIDE_OF_MEMORY = "it is outside the memory";
+export const COUNT_RANGE = "count must be 0 or more";
+export const OUTSIDE_OF_MEMORY = "it is outside memory";
 /** @type {(line: string, answer: string) => string} */
 export const benchAnswered = (line, answer) => `${line}: the bench answered ${answer}`;
 export const BASE_64_REQUIRED = "data must be in base 64";
@@ -35,17 +35,17 @@ export const HIT_COUNT_SYNTAX = "a hit count is a number, such as 5: the breakpo
 export const tooManyEnabledMessage = (maximum) => `at most ${maximum} breakpoints can be on`;
 /** @type {(place: string) => string} */
 export const notWatchedMessage = (place) => (
-  `${place} cannot be watched; registers, pairs, ports, lines, lamps, chains and RAM characters that the board has can`);
-export const ONLY_CHANGES = "only changes are watched (accessType write)";
+  `${place} cannot be watched; registers, pairs, and the board's ports, lines, lamps, chains and RAM characters can`);
+export const ONLY_CHANGES = "only changes can be watched (accessType write)";
 /** @type {(kind: string) => string} */
-export const noFilterMessage = (kind) => `unknown exception filter: ${kind}`;
+export const unknownFilterMessage = (kind) => `unknown exception filter: ${kind}`;
 /** @type {(place: string) => string} */
 export const placeChanges = (place) => `${place} changes`;
 
 // --- adapter/console.js ---
 export const HELP = `Lines of the bench (regs, list @show 5, ram 0, poke r4 7, run 100, step, reset, ..), with @NAME for an address.
 press KEY, release KEY: a key goes down, or up; while running, press is a short press. keys KEYS: short presses, as time passes.
-until LABEL or ADDRESS, change PLACE: runs up to there. back, back PLACE: an instruction back, or before the last change. forward: returns.
+until LABEL or ADDRESS, change PLACE: runs up to there. back: an instruction back; back PLACE: to before its last change. forward: returns.
 R4, P2, ram.0.0x12, rom1, lamps, display, a name, a condition (r9 = 9 or lamp open on): its current value. set PLACE = VALUE.`;
 /** @type {(maximum: number) => string} */
 export const tooLongMessage = (maximum) => `a line has at most ${maximum} characters`;
@@ -69,36 +69,36 @@ export const ADDRESS_RANGE = "addresses are 0x000 to 0xFFF";
 // --- adapter/debug_adapter.js ---
 export const NOTHING_LAUNCHED = "nothing is launched yet: send launch or attach first";
 export const PATHS_ONLY = "pathFormat must be \"path\"; URIs are not supported";
-export const EXCEPTION_CONDITION_HINT = "a condition, as in r5 > 8 and lamp open on: it pauses only if this holds before the instruction";
+export const EXCEPTION_CONDITION_HINT = "a condition, as in r5 > 8 and lamp open on: it pauses only if this is true before the instruction";
 export const RUNNING_LINES = "Running lines";
 /** @type {(done: number, total: number) => string} */
 export const characterProgress = (done, total) => `${done.toLocaleString("en")} of ${total.toLocaleString("en")} characters`;
 export const CONFIGURED_ONCE = "configurationDone can be sent only once";
 export const LAUNCH_ONCE = "launch can be sent only once";
 /** @type {(reason: string) => string} */
-export const sourceDiffers = (reason) => `The source differs from ROM now: ${reason}.`;
+export const sourceDiffers = (reason) => `The source now differs from ROM: ${reason}.`;
 /** @type {(name: string) => string} */
-export const notInProgramMessage = (name) => `it is not in the program that is debugged, ${name}`;
-export const NO_DEBUG = "this runs without a debugger (noDebug)";
+export const notInProgramMessage = (name) => `it is not in ${name}, the program being debugged`;
+export const RUNS_WITHOUT_DEBUGGER = "this runs without a debugger (noDebug)";
 
 // --- node/file_locks.mjs, node/debug_host.mjs ---
 /** @type {(holder: string) => string} */
-export const heldByMessage = (holder) => `it is open in ${holder}`;
+export const openInMessage = (holder) => `it is open in ${holder}`;
 /** @type {(name: string, holder: string) => string} */
 export const sessionInUse = (name, holder) => `${name} is in use by ${holder || "another program"}; wait until that has ended`;
 
 // --- adapter/session_writer.js ---
 /** @type {(answer: string) => string} */
-export const fileNotWritten = (answer) => `the session's file was not written: the program answered ${answer}`;
+export const sessionFileNotWritten = (answer) => `the session's file was not written: the program answered ${answer}`;
 export const STATES_DIFFER = "the session's file reached another state than the session in memory";
 
 // --- adapter/session_launch.js ---
-export const TEST_NEEDS_TESTS = "a test needs `tests`, the name of its text";
+export const TEST_NEEDS_TESTS = "`test` needs `tests`, the file of tests that has it";
 export const LAUNCH_SYNTAX =
   "launch needs \"project\", a folder with mcs4.toml, or \"program\", a program's text, or \"session\", a session file";
 /** @type {(error: string) => string} */
-export const boardHint = (error) => `${error}; without "board" it is the project's, or board.toml next to the program`;
-export const ONE_FILE = "program and session name the same file";
+export const boardHint = (error) => `${error}; without "board", the board is the project's, or board.toml next to the program`;
+export const FILE_NAMED_TWICE = "program and session name the same file";
 /** @type {(file: string) => string} */
 export const noProjectFileMessage = (file) => `there is no ${file}, which names the board and the program of a project`;
 export const DOT_ALONE = "a line with only a dot";
@@ -121,9 +121,9 @@ export const loadHint = (difference) => (
 // --- adapter/debugged_machine.js ---
 export const RUNNING = "Running";
 export const SEARCHING_BACK = "Searching the past";
-export const MACHINE_RUNS_ALREADY = "the machine is running already: pause it first";
+export const MACHINE_RUNS_ALREADY = "the machine is already running: pause it first";
 /** @type {(count: number) => string} */
-export const earlierNotesOmitted = (count) => `(${count} notes before these)`;
+export const earlierNotesOmitted = (count) => `(${count} earlier notes omitted)`;
 
 // --- adapter/test_launch.js ---
 /** @type {(name: string, file: string) => string} */
@@ -134,10 +134,10 @@ export const testHasPassed = (name) => `The test ${name} passed. The session is 
 export const testsHaveError = (file, line, error) => `${file}, line ${line}: ${error || "it has an error"}; no test is run`;
 
 // --- adapter/move_requests.js ---
-export const CONFIGURED_FIRST = "send configurationDone first";
-export const ONE_THREAD = "there is one thread, 1";
-export const NO_TARGET = "there is no such target";
-export const NOT_CALLED = "this frame is the program itself, which nothing called; restart starts it again";
+export const CONFIGURATION_NOT_DONE = "send configurationDone first";
+export const ONLY_ONE_THREAD = "there is one thread, 1";
+export const NO_SUCH_TARGET = "there is no such target";
+export const PROGRAM_FRAME_HAS_NO_CALLER = "this frame is the program itself, which no call entered; restart starts it again";
 
 // --- adapter/number_format.js ---
 export const FORMAT_OBJECT_SYNTAX = "format must be an object, such as { \"hex\": true }";
@@ -184,7 +184,7 @@ export const valueRangeMessage = (place, maximum) => `${place} holds 0 to ${maxi
 export const cannotBeSetMessage = (place, answer) => `${place} cannot be set: the bench answered ${answer}`;
 
 // --- adapter/remote_front_panel.js ---
-export const KEY_PLACE = "a key's place is its row and column, such as 0 2, or test and a level";
+export const KEY_PLACE_SYNTAX = "a key's place is its row and column, such as 0 2, or test and a level";
 
 // --- adapter/expression_values.js ---
 export const NOTHING_TO_EVALUATE = "there is nothing to evaluate";

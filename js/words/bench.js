@@ -14,7 +14,7 @@ export const extraAnswerMessage = (answerLine, answer) => (
 
 // --- bench/script_progress.js ---
 /** @type {(commands: number, maximum: number) => string} */
-export const tooManyCommandsMessage = (commands, maximum) => `it has accepted ${commands} commands, but the whole script makes ${maximum}`;
+export const tooManyCommandsMessage = (commands, maximum) => `it has accepted ${commands} commands, but the whole script has ${maximum}`;
 /** @type {(commands: number) => string} */
 export const answersDiffer = (commands) => `after ${commands} commands some answers differ`;
 
@@ -31,7 +31,7 @@ export const NAMES_UNKNOWN = "names are known only while the source is the same 
 export const mergedRuns = (runs, cycles) => `run .. (${runs} lines, ${cycles} cycles); the last one was answered`;
 
 // --- bench/rom_image.js ---
-export const NO_BYTE = "it has no byte";
+export const IMAGE_IS_EMPTY = "it has no byte";
 /** @type {(bytes: string, capacity: string) => string} */
 export const tooManyBytesMessage = (bytes, capacity) => `it has ${bytes} bytes, and ROM has ${capacity}`;
 /** @type {(bytes: string, freeBytes: string, first: string) => string} */
@@ -40,12 +40,12 @@ export const tooManyBytesFromMessage = (bytes, freeBytes, first) => (
 export const BEGINS_WITH_COLON = "a record of Intel HEX begins with `:`";
 export const RECORD_SYNTAX = "a record has `:`, ten hexadecimal digits and two for each byte";
 /** @type {(count: number, bytes: number) => string} */
-export const wrongByteCountMessage = (count, bytes) => `it announces ${count} bytes and has ${bytes}`;
+export const wrongByteCountMessage = (count, bytes) => `it announces ${count} bytes, but has ${bytes}`;
 /** @type {(actual: string, expected: string) => string} */
-export const wrongChecksum = (actual, expected) => `the checksum is ${actual}, and ${expected} would be right`;
+export const wrongChecksum = (actual, expected) => `the checksum is ${actual}, but should be ${expected}`;
 export const PAST_LAST_ADDRESS = "past the last address, FFF";
 /** @type {(address: string) => string} */
-export const duplicateAddress = (address) => `the address ${address}, which an earlier line has`;
+export const duplicateAddress = (address) => `the address ${address}, which an earlier line already fills`;
 /** @type {(type: number) => string} */
 export const addressPastLast = (type) => `type 0${type} with a value other than 0: an address past FFF`;
 /** @type {(type: string, size: number) => string} */
@@ -70,9 +70,9 @@ export const bnpfWithoutEnd = (word) => `a word without its end, \`F\`: ${word}`
 // --- bench/error_messages.js ---
 export const UNKNOWN_REFUSAL = "no refusal has this number; the manual lists them";
 /** @type {(error: string) => string} */
-export const moduleStopped = (error) => `the module stopped inside a call (${error}) and was started again`;
+export const moduleStopped = (error) => `the module stopped during a call (${error}) and was restarted`;
 /** @type {(error: string) => string} */
-export const restartedMessage = (error) => `${error} and was started again`;
+export const restartedMessage = (error) => `${error} and was restarted`;
 export const CALL_CANCELLED = "It was cancelled. The session is as it was before.";
 /** @type {(reason: string) => string} */
 export const notDoneMessage = (reason) => `It was not done: ${reason}. The session is as it was before.`;

@@ -8,7 +8,7 @@ export const keyAt = (legend, row, column) => `key ${legend}, row ${row}, column
 /** @type {(kind: string, legend: string) => string} */
 export const keyAtTest = (kind, legend) => `${kind} ${legend}, at TEST`;
 export const NO_KEYS = "This board has no keys.";
-export const NAMES_KEYS = " Lines such as # row 0: 7 8 9 in the board's text give them names.";
+export const KEY_NAMING_HINT = " Lines such as # row 0: 7 8 9 in the board's text give them names.";
 /** @type {(naming: string) => string} */
 export const keysHint = (naming) => `Shift-click holds a key. Paused: a click toggles it.${naming}`;
 
@@ -39,7 +39,7 @@ export const rowAndColumn = (row, column) => `row ${row}, column ${column}`;
 /** @type {(number: number, count: number) => string} */
 export const lampOfRow = (number, count) => `lamp ${number} of ${count}`;
 /** @type {(column: string, row: string) => string} */
-export const columnAndRow = (column, row) => `${column} and ${row}`;
+export const linesOfColumnAndRow = (column, row) => `${column} and ${row}`;
 export const LAMPS = "lamps";
 
 // --- board/sound.js ---
@@ -103,7 +103,7 @@ export const labelIsAt = (label, line) => `${label} is at ${line}`;
 /** @type {(count: number) => string} */
 export const lampsTitle = (count) => `Lamps · ${count}`;
 /** @type {(name: string, place: string) => string} */
-export const soundsEdges = (name, place) => `${name} sounds the edges of ${place}`;
+export const soundsAtEdges = (name, place) => `${name} sounds at each edge of ${place}`;
 export const BUZZER = "Buzzer";
 
 // --- board/wiring_view.js ---
@@ -129,5 +129,5 @@ export const answerShowsInstantMessage = (line, board) => (
 /** @type {(line: number, count: number, board: string, needed: number) => string} */
 export const tooFewLampsMessage = (line, count, board, needed) => (
   `line ${line} of the answers has ${count} lamps, and the display of ${board} needs ${needed}`);
-export const ENDS_WITHIN_TRACE = "the answers end within one to `trace`";
+export const ENDS_WITHIN_TRACE = "the answers end in the middle of an answer to `trace`";
 export const NO_LAMPS_SHOWN = "no answer shows the lamps";

@@ -51,7 +51,7 @@ export const COMMAND_WORDS = {
       The log starts again after a snapshot, which is made when the log is full, or after 4,000,000 cycles. A session file that the page
       has saved, or one of version 1, has no commands before that.
 
-      One byte of SESSION is written, so a stop in the middle leaves one session or the other. The result is first tried on a copy.
+      One byte of SESSION is written, so an interruption leaves either the old session or the new one. The result is first tried on a copy.
       During that time SESSION is locked, as mcs4 locks it.`,
     options: {},
     examples: [["mcs4 back s.mcs", "prints how far back it can go"], ["mcs4 back s.mcs 3", "goes back by three commands"]],
@@ -106,8 +106,8 @@ export const COMMAND_WORDS = {
       which can be set; the disassembly; and in the console the bench's lines and keys by their names. editors/README.md has the settings of
       editors, and the keys of \`launch\` and \`attach\`.
 
-      A session file that is launched is in use during that time, and is updated at each stop. Nothing else is written: a file that is
-      attached to stays as it is.`,
+      A launched session file is in use until the debugger ends, and is updated at each stop. Nothing else is written: an attached session
+      file stays as it is.`,
     options: { stdio: "Does nothing: some editors pass this option." },
     examples: [["mcs4 dap", "is what an editor starts"]],
     status: [
@@ -118,8 +118,8 @@ export const COMMAND_WORDS = {
   debug: {
     summary: "a debugger at the prompt: breakpoints, steps, back, values, keys",
     text: `
-      Debugs a program at a prompt, with the commands of gdb: breakpoints with conditions, over, into, out, back; registers, RAM, ROM, lamps
-      and keys; what is written where, and since when. \`help\` shows the commands.
+      Debugs a program at a prompt, with the commands of gdb: breakpoints with conditions; steps over, into, out and back; registers, RAM,
+      ROM, lamps and keys; and what changed a value last. \`help\` shows the commands.
 
       Without BOARD and PROGRAM it debugs the project of this folder. Without SESSION it works in memory. A session file is updated at each
       stop. If the source of a session is not known, it is disassembled from ROM.
@@ -285,7 +285,7 @@ export const COMMAND_WORDS = {
     status: ["0: the editor ended it by `shutdown` and `exit`.", "1: the editor ended without them, or another error.", WRONG_ARGUMENTS],
   },
   names: {
-    summary: "replaces @NAME by addresses in lines",
+    summary: "replaces @NAME with addresses in lines",
     text: `
       Reads lines for mcs4, and prints them with numbers instead of names: \`@NAME\` becomes the number that the assembler gives NAME,
       and \`set PLACE = VALUE\` becomes the lines that set the place. Texts after \`wire\`, \`asm\` and \`map\` stay as they are.
@@ -598,16 +598,16 @@ export const BUILT_IN_COMPLETIONS = {
   help: "the commands, or the usage of one",
   version: "which program is started",
 };
-export const ENVIRONMENT_HEAD = "Environment:";
+export const ENVIRONMENT_HEADING = "Environment:";
 /** @type {(top: string) => string} */
 export const manualLocation = (top) => `The manual is ${top}/docs/MANUAL.md, the page ${top}/page/fethsaim.html.`;
 
 // --- help ---
 
 export const GROUPS = { tests: "a program and its tests", session: "a session", texts: "texts of others" };
-export const OPTIONS_HEAD = "Options:";
-export const EXAMPLES_HEAD = "Examples:";
-export const STATUS_HEAD = "Exit status:";
+export const OPTIONS_HEADING = "Options:";
+export const EXAMPLES_HEADING = "Examples:";
+export const STATUS_HEADING = "Exit status:";
 export const HELP_OPTION = "Prints this help.";
 
 // --- wrong arguments ---
@@ -630,7 +630,7 @@ export const valueMissing = (value, option) => `${value} is missing after ${opti
 /** @type {(option: string) => string} */
 export const noValueMessage = (option) => `${option} takes no value`;
 /** @type {(option: string) => string} */
-export const optionTwice = (option) => `${option} is given twice`;
+export const optionRepeated = (option) => `${option} is given twice`;
 /** @type {(word: string) => string} */
 export const extraArgument = (word) => `'${word}' is one argument too many`;
 export const WAITS_FOR_EDITOR =
@@ -647,7 +647,7 @@ export const notInRangeMessage = (name, word, maximum) => `${name}: '${word}' is
 /** @type {(file: string, kind: string) => string} */
 export const projectLacks = (file, kind) => `${file} names no ${kind}; name some there, or after the command`;
 /** @type {(first: string, second: string) => string} */
-export const excludeEachOther = (first, second) => `${first} and ${second} exclude each other`;
+export const cannotCombine = (first, second) => `${first} and ${second} cannot be combined`;
 
 // --- errors of several commands ---
 
@@ -671,8 +671,8 @@ export const runsOnModuleMessage = (error) => (
 /** @type {(session: string, number: number, meaning: string) => string} */
 export const sessionRejectedMessage = (session, number, meaning) => `the session ${session} was rejected: no ${number}: ${meaning}`;
 /** @type {(program: string, address: string, romByte: string, line: number, sourceByte: string) => string} */
-export const otherProgramMessage = (program, address, romByte, line, sourceByte) => (
-  `the session has another program than ${program}: ${address} has ${romByte}, and line ${line} makes ${sourceByte}`);
+export const programDiffersMessage = (program, address, romByte, line, sourceByte) => (
+  `the session's program differs from ${program}: ${address} has ${romByte}, but line ${line} makes ${sourceByte}`);
 /** @type {(cycles: number, reason: string) => string} */
 export const sessionStopped = (cycles, reason) => `the session stopped after ${cycles} cycles: ${reason}`;
 
@@ -693,7 +693,7 @@ export const folderNotWritableMessage = (name) => `cannot write ${name}: its fol
 export const SOUND_NEEDS_NO_NAMES = "--wav writes the sound of a line; it needs no --names";
 export const NOT_A_WAV_FILE = "is not a WAV file";
 /** @type {(board: string) => string} */
-export const boardDiffers = (board) => `the session has another board than ${board}`;
+export const boardDiffers = (board) => `the session's board differs from ${board}`;
 const BUZZER_COMMENT = "a comment `# buzzer rom0.3: NAME`";
 export const NO_BUZZER_GIVEN = `no line of a buzzer is given; name it, or give --board BOARD, whose text has ${BUZZER_COMMENT}`;
 /** @type {(board: string) => string} */
@@ -748,7 +748,7 @@ export const textIsNotImageMessage = (name) => (
   `${name} is a text, but not Intel HEX, S-records or BNPF; if its characters are the bytes of an image: rom load --binary`);
 export const BINARY_HINT = " (is it a binary file? --binary)";
 export const NO_TERMINAL = "an image cannot be shown at a terminal; write it to a file (> IMAGE), or as --hex";
-export const NO_ANSWERS = "no answers on standard input; it reads what mcs4 has answered, as in: mcs4 rom save FIRST COUNT < ANSWERS";
+export const NO_ANSWERS = "standard input has no answers; redirect the answers of mcs4 to it, as in: mcs4 rom save FIRST COUNT < ANSWERS";
 /** @type {(line: number, text: string) => string} */
 export const answerIsRefusalMessage = (line, text) => `line ${line} of the answers is a refusal: ${text}; mcs4 explain says why`;
 /** @type {(address: string) => string} */
@@ -775,7 +775,7 @@ export const errorInLine = (line, message) => `line ${line}: ${message.replace(/
 // --- answers on standard input ---
 /** @type {(command: string) => string} */
 export const noAnswersMessage = (command) => (
-  `no answers on standard input; it reads what mcs4 has answered, as in: mcs4 ${command} .. < ANSWERS`);
+  `standard input has no answers; redirect the answers of mcs4 to it, as in: mcs4 ${command} .. < ANSWERS`);
 
 // --- cycles ---
 /** @type {(word: string) => string} */
@@ -804,7 +804,7 @@ export const scriptDoesNotMatch = (session, script, mismatch, differences) => [
   ...differences,
 ].join("\n");
 /** @type {(session: string) => string} */
-export const changedMeanwhile = (session) => `${session} is in use: it changed meanwhile; end the program that uses it, or try again`;
+export const changedMeanwhile = (session) => `${session} is in use: it changed in the meantime; end the program that uses it, or try again`;
 
 // --- back ---
 export const NO_FLOCK = "the program flock is not found; on Debian: apt-get install util-linux";
@@ -828,7 +828,7 @@ export const wouldDiffer = (session, expected, actual) => `${session} would not 
 
 // --- temporary_folders.mjs ---
 /** @type {(parent: string) => string} */
-export const cannotMakeFolderMessage = (parent) => `cannot make a folder in ${parent}; TMPDIR names another place for temporary files`;
+export const cannotMakeFolderMessage = (parent) => `cannot make a folder in ${parent}; set TMPDIR to another folder for temporary files`;
 
 // --- debug ---
 export const NOT_A_BREAKPOINTS_FILE = "is not a file of breakpoints: it does not begin with `# Breakpoints of mcs4 debug`";
@@ -842,7 +842,7 @@ export const nameOneFile = (file, names) => `${file} names ${names.length} texts
 export const testsMustSave = (properties, line, message, state) => (
   `${properties}:${line}: ${message}; its tests must save the state ${state}`);
 /** @type {(status: string, output: string) => string} */
-export const modelEnded = (status, output) => `the model has ended with ${status}${output && `: ${output}`}`;
+export const modelEnded = (status, output) => `the model has ended with status ${status}${output && `: ${output}`}`;
 /** @type {(lines: number, chains: number) => string} */
 export const modelPrinted = (lines, chains) => `the model has printed ${lines} lines for ${chains} lines of keys`;
 /** @type {(properties: string, line: number, command: string) => string} */
@@ -856,4 +856,4 @@ export const jobEnded = (status) => `a job ended with status ${status}`;
 /** @type {(name: string) => string} */
 export const notAReportMessage = (name) => `${name} is not a report of mcs4 explore (--report)`;
 /** @type {(name: string, first: string) => string} */
-export const differentTexts = (name, first) => `${name} has another board, program or properties than ${first}`;
+export const differentTexts = (name, first) => `${name} differs from ${first} in its board, program or properties`;

@@ -32,7 +32,7 @@ const romPortSyntax = (name) => `write \`${name} in VALUE\` or \`${name} out VAL
 const ramPortSyntax = (name) => `write \`${name} out VALUE\`, 0 to 15`;
 /** @type {(chain: string, bits: number) => string} */
 export const chainBits = (chain, bits) => `chain ${chain} has ${bits} bits, each 0, 1, or ? for any`;
-export const NO_RAM_FOR_LAST = "the board has no RAM chip for the last of these characters";
+export const NO_RAM_FOR_LAST_CHARACTER = "the board has no RAM chip for the last of these characters";
 /** @type {(place: string) => string} */
 export const placeHasOneValueMessage = (place) => `${place} holds one value; only RAM characters can be compared with several`;
 /** @type {(place: string, maximum: number, word: string) => string} */
@@ -50,14 +50,14 @@ export const wrongCycleCountMessage = (passed, expected, isNot) => (
 export const tooManyPlacesMessage = (count, maximum) => `it reads ${count} places; at most ${maximum} are allowed`;
 export const AT_SYNTAX = "write `at LABEL`";
 export const DIGITS_ARE_MULTIPLEXED = "the digits are multiplexed, so no instant shows a number: `display` is only for the lines of a test";
-export const LINE_BY_LINE = "printed text arrives line by line: `printed` is only for the lines of a test";
+export const PRINTED_ONLY_IN_TESTS = "printed text arrives line by line: `printed` is only for the lines of a test";
 /** @type {(subject: string) => string} */
 export const onlyInTests = (subject) => `no run changes ${subject}, and no trace shows it: it is only for the lines of a test`;
 /** @type {(place: string) => string} */
 export const noTraceShowsMessage = (place) => `no run changes ${place}, and no trace shows it: ask for it at a breakpoint`;
 
 // --- conditions/scanner.js ---
-export const NO_END_OF_TEXT = "the closing quotation mark is missing";
+export const CLOSING_QUOTE_MISSING = "the closing quotation mark is missing";
 /** @type {(word: string) => string} */
 export const unknownSign = (word) => `${word} has no meaning in a condition`;
 /** @type {(text: string) => string} */
@@ -68,9 +68,9 @@ export const notANumeralMessage = (text) => `${text} is not a number; numbers ar
 export const tooLongMessage = (maximum) => `a condition has at most ${maximum} characters`;
 /** @type {(maximum: number) => string} */
 export const tooDeepMessage = (maximum) => `parentheses can be nested at most ${maximum} deep`;
-export const NOT_CLOSED = "this parenthesis is not closed";
+export const PARENTHESIS_NOT_CLOSED = "this parenthesis is not closed";
 /** @type {(word: string) => string} */
-export const notExpectedMessage = (word) => `${word}: a condition ends before this; join two by and, or`;
+export const unexpectedWordMessage = (word) => `${word}: the condition ends before this; join two conditions with and, or`;
 /** @type {(value: string) => string} */
 export const noComparisonMessage = (value) => `${value}: a comparison is missing, as in: ${value} = 4`;
 /** @type {(name: string) => string} */
@@ -81,7 +81,7 @@ export const noValueMessage = (condition) => `${condition}: this is a condition,
 export const missingBefore = (word) => `a value is missing before ${word}`;
 /** @type {(sign: string) => string} */
 export const missingAfter = (sign) => `a value is missing after ${sign}`;
-export const SPACED_SYNTAX = "write ram.BANK.SRC or st.BANK.REGISTER.NUMBER";
+export const DOTTED_PLACE_SYNTAX = "write ram.BANK.SRC or st.BANK.REGISTER.NUMBER";
 export const KEY_SYNTAX = "write `key NAME down` or `key NAME up`";
 
 // --- conditions/values.js ---
@@ -114,7 +114,7 @@ export const REGISTERS_HINT = "the registers are r0 to r15";
 export const RAM_PLACES_HINT = "a place of RAM is ram.BANK.SRC or st.BANK.REGISTER.NUMBER";
 export const PORTS_HINT = "ports are rom1 and ram0.1, their lines rom1.0 to rom1.3";
 /** @type {(names: string) => string} */
-export const suggestion = (names) => `perhaps ${names}`;
+export const suggestNames = (names) => `perhaps ${names}`;
 export const PLACES_HINT = "places are acc, cy, pc, dcl, test, r0 to r15, p0 to p7, ram.B.S, st.B.H.K, rom1, ram0.1, lamps, "
   + "and names of the source, of Watch and of lamps";
 
@@ -125,7 +125,7 @@ export const nameIsConditionMessage = (name, text) => `${name} is the condition 
 /** @type {(name: string, error: string) => string} */
 export const errorInName = (name, error) => `in ${name}: ${error}`;
 /** @type {(text: string) => string} */
-export const noConstantMessage = (text) => `${text} is neither a number nor a name of the program`;
+export const notAConstantMessage = (text) => `${text} is neither a number nor a name of the program`;
 /** @type {(text: string) => string} */
 export const namesUnknownMessage = (text) => `${text} is not a number; names are known only while the source is the same as ROM`;
 

@@ -3,7 +3,7 @@
 // --- debug/breakpoint_manager.js ---
 /** @type {(maximum: number) => string} */
 export const tooManyEnabledMessage = (maximum) => (
-  `${maximum} breakpoints are on, the most that the bench has. This one is off: disable another one first.`);
+  `${maximum} breakpoints are on, the most that the bench allows. This one is off: disable another one first.`);
 /** @type {(reason: string) => string} */
 export const inactiveUntilThen = (reason) => `${reason} Until then this breakpoint stops nothing.`;
 /** @type {(maximum: number) => string} */
@@ -24,7 +24,7 @@ export const insideAndMoved = (address, line, next) => (
 // --- debug/data_watches.js ---
 /** @type {(place: string, from: string, to: string) => string} */
 export const changedFrom = (place, from, to) => `${place} changed from ${from} to ${to}`;
-export const CHANGES_ALWAYS = "pc changes at each instruction";
+export const PC_ALWAYS_CHANGES = "pc changes at each instruction";
 
 // --- debug/debug_session.js ---
 /** @type {(pause: string, line: string) => string} */
@@ -45,7 +45,7 @@ export const noOutputsMessage = (access, location) => `${access}, whose port has
 export const noInputsMessage = (access, location) => `${access}, whose port has no input line${location}`;
 /** @type {(instruction: string, earlierRom: number, lastSrc: string) => string} */
 export const selectedByEarlierSrc = (instruction, earlierRom, lastSrc) =>
-  `this ${instruction}, and before it used ROM ${earlierRom}: the last SRC${lastSrc}`;
+  `this ${instruction}, but the last time it used ROM ${earlierRom}: the last SRC${lastSrc}`;
 /** @type {(address: string) => string} */
 export const atAddress = (address) => `, at ${address},`;
 /** @type {(lastSrc: string, user: string) => string} */
@@ -71,7 +71,7 @@ export const srcOfBank = (bank) => `SRC of bank ${bank}`;
 
 // --- debug/common_mistakes.js ---
 /** The names of the kinds of common mistakes: labels of the check boxes that make the session pause at such a mistake. */
-export const KINDS = /** @type {Record<import("../core/debug/common_mistakes.js").Kind, string>} */ ({
+export const MISTAKE_KINDS = /** @type {Record<import("../core/debug/common_mistakes.js").Kind, string>} */ ({
   calls: "a fourth JMS inside three others",
   return: "a BBL without a call",
   lines: "WRR at a port without outputs, or RDR at a port without inputs",
@@ -81,7 +81,7 @@ export const KINDS = /** @type {Record<import("../core/debug/common_mistakes.js"
 });
 export const LEFT_PROGRAM = "execution left the program";
 /** @type {(address: string) => string} */
-export const returnWithoutCall = (address) => `a BBL without a call: it goes to ${address}, which is after no JMS`;
+export const returnWithoutCall = (address) => `a BBL without a call: it goes to ${address}, which does not follow a JMS`;
 /** @type {(address: string) => string} */
 export const returnAddressLost = (address) => `4th nested JMS: return address ${address} was overwritten`;
 
@@ -92,21 +92,21 @@ export const inBank = (bank, character) => `bank ${bank}, ${character}`;
 export const boardLacks = (selection) => `${selection}, which the board lacks`;
 /** @type {(chip: number) => string} */
 export const romChip = (chip) => `ROM ${chip}`;
-export const NOTHING_THERE = "nothing that the board has";
+export const NOTHING_ON_BOARD = "nothing that the board has";
 export const SELECTS = "; selects ";
 /** @type {(chip: number, out: string, read: string) => string} */
-export const portOfRom = (chip, out, read) => `ROM ${chip}: puts out ${out}, RDR reads ${read}`;
+export const portOfRom = (chip, out, read) => `ROM ${chip}: outputs ${out}, RDR reads ${read}`;
 /** @type {(bank: number, chip: number, out: string) => string} */
-export const portOfRam = (bank, chip, out) => `bank ${bank}, chip ${chip}: ${out === "" ? BOARD_LACKS_IT : `its port puts out ${out}`}`;
+export const portOfRam = (bank, chip, out) => `bank ${bank}, chip ${chip}: ${out === "" ? BOARD_LACKS_IT : `its port outputs ${out}`}`;
 export const BOARD_LACKS_IT = "the board lacks it";
-export const NEVER_CHANGES = "it uses no place of the machine, so it never becomes true";
+export const READS_NO_PLACE = "it uses no place of the machine, so it never becomes true";
 /** @type {(bank: number, chip: number, register: number, character: string) => string} */
 export const statusAt = (bank, chip, register, character) => (
   `bank ${bank}, chip ${chip}, register ${register}, status character ${character}`);
 /** @type {(value: string, binary: string) => string} */
 export const valueSentBySrc = (value, binary) => `${value}, ${binary}; sent by SRC, it selects `;
 /** @type {(description: string) => string} */
-export const comesNext = (description) => `${description}, and comes next`;
+export const withNextInstructionNote = (description) => `${description}; the next instruction is there`;
 
 // --- debug/watch_expressions.js ---
 /** @type {(out: string, read: string) => string} */

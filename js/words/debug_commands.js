@@ -12,7 +12,7 @@ export const COMMAND_WORDS = [
   command("break b br", "break [PLACE] [from N] [if CONDITION] [log \"NOTE\"]", "sets a breakpoint, before the instruction at PLACE", `
     PLACE is a line of the source (12), a label (show, show + 2) or an address (0x00F); without PLACE it is the next instruction.
     CONDITION is
-    as in r4 = 7 and (acc > 8 or lamp open on), key 7 down. from N: it stops from the N-th hit. log: it does not stop, but prints
+    as in r4 = 7 and (acc > 8 or lamp open on), key 7 down. from N: it stops from the Nth hit on. log: it does not stop, but prints
     NOTE, with
     values in braces: "R4 is {r4}".`),
   command("tbreak tb tbr", "tbreak [PLACE] [from N] [if CONDITION]", "sets a breakpoint that is deleted at its first stop",
@@ -41,10 +41,10 @@ export const COMMAND_WORDS = [
   command("finish fin", "finish", "runs up to the return from this subroutine"),
   command("until u advance", "until PLACE", "runs up to a place in the program, or to a condition", `
     Examples: until show, until r5 > 8 and cy = 1. A condition is reached when it becomes true.`),
-  command("reverse-step rs rsi reverse-stepi", "reverse-step [N]", "goes an instruction back"),
-  command("reverse-next rn rni reverse-nexti", "reverse-next [N]", "goes an instruction back, and over a subroutine that was called"),
+  command("reverse-step rs rsi reverse-stepi", "reverse-step [N]", "goes back an instruction"),
+  command("reverse-next rn rni reverse-nexti", "reverse-next [N]", "goes back an instruction, or a whole subroutine that it called"),
   command("reverse-continue rc", "reverse-continue", "goes back to the last arrival at a breakpoint", `
-    Conditions are checked, and so are changes of watched values; from N is not. Without such an arrival it goes back as far as
+    It checks conditions and changes of watched values, but not from N. Without such an arrival it goes back as far as
     the session remembers.`),
   command("back", "back [PLACE]", "goes back to the last change of a place", `
     Examples: back ram.0.0x12, back r4, back lamps; it finds the instruction that wrote the value. back r5 > 8 or lamp open on goes to
@@ -74,10 +74,10 @@ export const COMMAND_WORDS = [
   command("backtrace bt where", "backtrace", "shows the open calls"),
   command("view layout tui", "view [on|off]", "shows source, registers and lamps above the commands", `
     Commands and their answers scroll below it, and it is drawn again after each command. It needs a terminal of 40 columns and 12 rows.
-    view once more, or view off, leaves it.`),
+    view again, or view off, leaves it.`),
   command("load", "load", "reads the source again, assembles it and puts it into ROM", "Breakpoints move with their lines."),
   command("reset", "reset", "cycles the power"),
-  command("bench", "bench LINE", "serves a line of the bench",
+  command("bench", "bench LINE", "sends a line to the bench",
     "Examples: bench state, bench count 20. @NAME in it is an address. A run ends at breakpoints."),
   command("help h", "help [COMMAND]", "lists all commands, or explains one"),
   command("quit q exit", "quit", "ends the debugger"),

@@ -2,7 +2,7 @@
 // possible.
 
 // --- drawing/drawing_actions.js ---
-export const TEST_IN_USE = "TEST has its button or switch: delete that one first.";
+export const TEST_IN_USE = "TEST already has a button or a switch: delete it first.";
 /** @type {(part: string) => string} */
 export const boardHasNoMessage = (part) => `The board has no ${part}.`;
 /** @type {(name: string, target: string) => string} */
@@ -11,7 +11,7 @@ export const needsInput = (name, target) => `${name} is an output line: ${target
 export const needsOutput = (name, target) => `${name} is an input line: ${target} needs an output line.`;
 /** @type {(name: string) => string} */
 export const cannotDriveMessage = (name) => (
-  `Consecutive bits of one chain drive the rows of the keys: ${name} cannot drive this one.`);
+  `Consecutive bits of one chain drive the rows of the keys: ${name} cannot drive this row.`);
 /** @type {(name: string, kind: string, target: string) => string} */
 export const needsChipLine = (name, kind, target) => (
   `${name} is a ${kind} of a chain: ${target} needs an output line of a ROM or a RAM chip.`);
@@ -19,8 +19,8 @@ export const needsChipLine = (name, kind, target) => (
 export const lineInUse = (line, connections) => `${line} is wired to ${connections}: wire that to another line first.`;
 export const AND = " and ";
 export const ONLY_ONCE = "A board has only one of these.";
-export const COPY_IN_TEXT = "Lamps that belong together can only be copied in the board's text.";
-export const GRID_DIFFERS = "Another lamp would then be at its place in the grid: choose another name.";
+export const COPY_ONLY_IN_TEXT = "Lamps that belong together can only be copied in the board's text.";
+export const NAME_WOULD_CHANGE_GRID = "Another lamp would then be at its place in the grid: choose another name.";
 export const TEST_NEEDS_NAME = "The part at TEST needs a name.";
 export const BUZZER_NEEDS_NAME = "A buzzer needs a name.";
 export const CANNOT_BE_NAMED = "This part cannot have a name.";
@@ -41,7 +41,7 @@ export const outputReadsAs = (level) => `output that reads as ${level}`;
 export const chainResized = (chain, chips) => `Chain ${chain} has ${chips}`;
 /** @type {(rows: string) => string} */
 export const keyRowsSet = (rows) => `The keys have ${rows}`;
-export const MORE_COLUMNS = "The keys have one more column";
+export const COLUMN_ADDED = "The keys have one more column";
 /** @type {(effect: string) => string} */
 export const andWithIt = (effect) => `, and with it ${effect}`;
 /** @type {(part: string, name: string) => string} */
@@ -49,12 +49,12 @@ export const partNamed = (part, name) => (name ? `${part} is called ${name}` : `
 /** @type {(lamp: number, colour: string) => string} */
 export const lampColoured = (lamp, colour) => `Lamp ${lamp} is ${colour}`;
 export const USUAL_RED = "red, as usual";
-export const FACE_UNREADABLE = "The front panel of the board could then not be read.";
+export const FRONT_PANEL_UNREADABLE = "The front panel of the board could then not be read.";
 export const TEXT_HAS_ERRORS = "The board's text has errors: see Board.";
 /** @type {(parts: string) => string} */
 export const withAddedParts = (parts) => `, with ${parts}`;
 /** @type {(items: string[]) => string} */
-export const listOf = (items) => items.join(", ").replace(/, ([^,]*)$/, " and $1");
+export const joinWithAnd = (items) => items.join(", ").replace(/, ([^,]*)$/, " and $1");
 
 // --- drawing/part_addition.js ---
 /** @type {(maximum: number) => string} */
@@ -72,14 +72,14 @@ export const ONE_MATRIX = "A board has one key matrix: give it more rows and col
 export const NO_KEYS = "The board has no keys.";
 /** @type {(maximum: number) => string} */
 export const tooManyRowsMessage = (maximum) => `A key matrix has at most ${maximum} rows.`;
-export const TOO_FEW_ROWS = "A key matrix has at least one row; or delete the keys.";
+export const TOO_FEW_ROWS = "A key matrix has at least one row; to remove it, delete the keys.";
 /** @type {(chain: number) => string} */
 export const noBitForRowMessage = (chain) => `Chain ${chain} has no bit for another row: give it another chip.`;
 /** @type {(maximum: number) => string} */
 export const tooManyColumnsMessage = (maximum) => `A key matrix has at most ${maximum} columns.`;
 /** @type {(maximum: number, count: number) => string} */
 export const tooManyLampsMessage = (maximum, count) => `A board has at most ${maximum} lamps; it has ${count}.`;
-export const ONE_BUZZER = "A board has one buzzer: delete that one first.";
+export const ONE_BUZZER = "A board can have only one buzzer: delete it first.";
 export const TOO_FEW_DIGITS = "A display has a whole number of digits, at least 1.";
 /** @type {(maximum: number) => string} */
 export const multiplexedDigitsMessage = (maximum) => `A multiplexed display has 1 to ${maximum} digits.`;
@@ -89,7 +89,7 @@ export const buzzerIsAt = (place) => `The buzzer is at ${place}: give it another
 export const printerIsAt = (line) => `The printer is at ${line}: give it other lines first, in Board.`;
 /** @type {(maximum: number) => string} */
 export const tooManyChipsMessage = (maximum) => `A chain has at most ${maximum} chips.`;
-export const TOO_FEW_CHIPS = "A chain has at least one chip; or delete the chain.";
+export const TOO_FEW_CHIPS = "A chain has at least one chip; to remove it, delete the chain.";
 /** @type {(bit: string) => string} */
 export const bitInUse = (bit) => `${bit} is in use: wire the part there to another line first.`;
 
@@ -100,8 +100,8 @@ export const ofChain = (kind, number) => `the ${kind} of chain ${number}`;
 export const ofKeys = (target) => `${target} of the keys`;
 
 // --- drawing/part_deletion.js ---
-export const PROCESSOR_STAYS = "Each board has its processor.";
-export const CHAIN_NEEDS_LINES = "A chain needs a clock and data: wire it to another line, or delete the chain.";
+export const PROCESSOR_STAYS = "Every board has a processor.";
+export const CHAIN_NEEDS_LINES = "A chain needs a clock line and a data line: wire it to another line, or delete the chain.";
 export const LINE_STAYS = "A line is deleted only with its chip.";
 /** @type {(bank: number, chip: number) => string} */
 export const deleteChipFirst = (bank, chip) => `The chips of a bank are numbered from 0: delete RAM ${bank}.${chip} first.`;
@@ -110,13 +110,13 @@ export const DELETE_LAST_ROW = "The rows of the keys are numbered from 0: delete
 export const allLampsOf = (count) => `all ${count} lamps of its display`;
 
 // --- drawing/board_drawing.js ---
-export const CANNOT_READ = "The board's text is written in a way that the picture cannot change; change it in Board.";
+export const CANNOT_EDIT = "The drawing cannot change a board's text that is written in this way; change it in Board.";
 /** @type {(reason: string) => string} */
 export const benchRejectsMessage = (reason) => `The bench rejects the board's text: ${reason}. The Board tab shows where.`;
 /** @type {(name: string) => string} */
 export const lineOfBoard = (name) => `line ${name}`;
 /** @type {(pin: string, pins: string) => string} */
-export const wireBegins = (pin, pins) => `Wire from ${pin}: it can end at ${pins}.`;
+export const wireStarted = (pin, pins) => `Wire from ${pin}: it can end at ${pins}.`;
 export const NO_WIRE = "No wire was drawn.";
 export const NO_CHANGE = "No change.";
 /** @type {(reason: string) => string} */
@@ -145,7 +145,7 @@ export const SHELF = {
   switch: ["Switch", "at the processor's TEST pin; it stays"],
   buzzer: ["Buzzer", "at the chosen output line, else at the next free one; each edge of its line makes a sound"],
 };
-export const NOT_WIRED = "Not applied yet.";
+export const NOT_APPLIED = "Not applied yet.";
 export const SHOW_IN_BOARD = "Show in text";
 export const INSERT_SCAN = "Insert code that scans these keys";
 
@@ -162,7 +162,7 @@ export const DELETE = "Delete";
 /** @type {(chip: number) => string} */
 export const romWithPort = (chip) => `ROM ${chip}, a 4001 with a port`;
 /** @type {(chain: number) => string} */
-export const chainOf = (chain) => `Chain ${chain} of 4003`;
+export const chainOfChips = (chain) => `Chain ${chain} of 4003s`;
 export const ANOTHER_COLUMN = "Another column";
 export const KEYS = "Keys";
 export const COPY_DISPLAY = "Copy the display";

@@ -7,7 +7,7 @@ export const PROGRAM_IN_SOURCE = "The program of this step is in Source.";
 
 // --- help/help_view.js ---
 /** @type {(count: number) => string} */
-export const rowsFound = (count) => `${count} ${count === 1 ? "row has" : "rows have"} it.`;
+export const rowsFound = (count) => `${count} ${count === 1 ? "row matches" : "rows match"}.`;
 
 // --- help/manual.js, commands/key_list.js ---
 export const INSTRUCTIONS = "The 45 instructions";

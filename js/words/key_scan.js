@@ -21,16 +21,16 @@ export const ramPort = (bank, chip) => `the port of RAM ${bank}.${chip}`;
 export const FIRST_ROW = "row 0 comes first";
 /** @type {(rows: number) => string} */
 export const countsRows = (rows) => `counts ${rows === 1 ? "1 row" : `${rows} rows`}`;
-export const ONE_ENTERS = "a single 1 enters the chain";
+export const SINGLE_1_ENTERS = "a single 1 enters the chain";
 /** @type {(bit: number) => string} */
-export const movesTo = (bit) => `it moves on to bit ${bit}`;
+export const bitMovesTo = (bit) => `it moves on to bit ${bit}`;
 /** @type {(column: number) => string} */
 export const columnInCarry = (column) => `column ${column} is in the carry`;
 export const NEXT_ROW = "the 1 drives the next row";
 export const NO_KEY = "no key is down";
 /** @type {(column: number) => string} */
 export const columnIsDown = (column) => `the key is in column ${column}`;
-export const LEAVES_ROWS = "the 1 leaves the rows";
+export const BIT_LEAVES_ROWS = "the 1 leaves the rows";
 export const KEY_IS_DOWN = "a key is down";
 export const BIT_ENTERS = "the bit that enters the chain";
 export const CLOCK_LOW = "data, with the clock at 0";

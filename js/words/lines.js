@@ -39,7 +39,7 @@ export const LINES_BY_GROUPS = [
       ["breaks", "shows the breakpoints"],
       ["watches", "shows the RAM characters that are watched"],
       ["seq", "shows how many commands were accepted"],
-      ["state", "shows all but ROM and RAM, in one line"],
+      ["state", "shows all but ROM and RAM, on one line"],
       ["count n", "shows how often n cycles would run each address"],
       ["trace n place ..", "shows what n cycles would change at these places"],
     ] },
@@ -57,7 +57,7 @@ export const lineSyntax = (word) => `${word} is written as: ${FORM_BY_FIRST_WORD
 export const noPlaceMessage = (word, similarWords) => (
   `${word} is not a place${didYouMean(similarWords) || "; help places shows the places"}`);
 /** @type {(word: string) => string} */
-export const noSuchPlaceMessage = (word) => `there is no place ${word}; help places shows the ranges of the numbers in it`;
+export const noSuchPlaceMessage = (word) => `there is no place ${word}; help places shows which numbers are allowed in it`;
 /** @type {(maximum: number) => string} */
 export const tooManyPlacesMessage = (maximum) => `trace has at most ${maximum} places`;
 /** @type {(word: string, first: number, last: number) => string} */
@@ -67,5 +67,6 @@ export const tooLongMessage = (maximum, length) => `the line has ${length} chara
 /** @type {(character: string) => string} */
 export const invalidCharacter = (character) => {
   const code = /** @type {number} */ (character.codePointAt(0)).toString(16).toUpperCase();
-  return `a line has ASCII characters and tabs; this one has ${character > "\x7f" ? character : `the byte ${code.padStart(2, "0")}`}`;
+  const name = character > "\x7f" ? character : `the byte ${code.padStart(2, "0")}`;
+  return `a line can have only ASCII characters and tabs; this one has ${name}`;
 };

@@ -39,7 +39,7 @@ export const HIT_COUNT = "Hit count";
 export const STOPS_FROM_HIT = "stops from this hit on";
 export const NOTE_EXAMPLE = "such as R4 is {r4}";
 export const LOG_MESSAGE = "Log message";
-export const LOG_MESSAGE_HINT = "is logged instead of a stop; {r9}, {lamps} give values";
+export const LOG_MESSAGE_HINT = "is logged instead of stopping; {r9} and {lamps} are replaced by values";
 export const APPLY = "Apply";
 export const CANCEL = "Cancel";
 
@@ -80,10 +80,10 @@ export const ONCE = "once";
 export const manyTimes = (count) => `${count} times`;
 export const LAST_CHANGE = ", last";
 /** @type {(count: string, cause: string) => string} */
-export const changesSeenRunning = (count, cause) => `${count} as seen while running, last seen by ${cause}`;
+export const changesSeenRunning = (count, cause) => `at least ${count} while running, most recently by ${cause}`;
 /** @type {(chips: number, isComplete: boolean) => string} */
-export const heatCounted = (chips, isComplete) => (
-  `Counted while running${chips > 1 ? `, in one of ${chips} chips at a time` : ""}${isComplete ? "" : ", at full speed in samples"}.`);
+export const heatStatus = (chips, isComplete) => (
+  `Counted while running${chips > 1 ? `, in one of ${chips} chips at a time` : ""}${isComplete ? "" : "; sampled at full speed"}.`);
 export const NOTHING_EARLIER = "No earlier cycle is remembered.";
 /** @type {(time: string, isComplete: boolean) => string} */
 export const inTheLast = (time, isComplete) => `In the last ${time}${isComplete ? "" : " (no more is remembered)"},`;
@@ -110,18 +110,19 @@ export const breakpointInsideInstruction = (address) => (
   `breakpoint at ${address}, inside this instruction: a run that gets here does not stop; click to clear it`);
 
 // --- machine/machine_view.js ---
-export const PENDING_CYCLE_IS_READ_ONLY = "No line can set the pending cycle; a step or a run changes it.";
-export const PORTS_ARE_READ_ONLY = "No line can set a port: a program writes its latch by WRR, and keys and wires determine what it reads.";
+export const PENDING_CYCLE_IS_READ_ONLY = "No command sets the pending cycle; a step or a run changes it.";
+export const PORTS_ARE_READ_ONLY =
+  "No command sets a port: a program writes its latch with WRR, and keys and wires determine what it reads.";
 export const LINES_3_TO_0 = "lines 3 to 0";
 export const PORTS_OF_ROMS = "Ports of the ROMs";
 export const SRC_OF_ROMS = "SRC, ROMs";
 
 // --- machine/ram_view.js ---
-export const RAM_PORTS_ARE_READ_ONLY = "No line can set the output of a RAM chip's port: a program does, by WMP.";
+export const RAM_PORTS_ARE_READ_ONLY = "No command sets the output of a RAM chip's port: a program does, with WMP.";
 /** @type {(bank: number, chip: number, register: number) => string} */
 export const registerOfChip = (bank, chip, register) => `bank ${bank}, chip ${chip}, register ${register}`;
 export const NO_RAM = "This board has no RAM.";
-export const CHARACTERS = "nibbles 0 to F";
+export const NIBBLES = "nibbles 0 to F";
 export const PORT = "port ";
 /** @type {(bank: number) => string} */
 export const bankOf = (bank) => `bank ${bank}`;
@@ -134,23 +135,23 @@ export const portTitle = (bank, chip) => `bank ${bank}, chip ${chip}: what its o
 
 // --- machine/return_addresses.js ---
 export const STALE_RETURN = "stale";
-export const NO_CALL_WAITS = "No call is waiting for a BBL with this address.";
+export const NO_CALL_FOR_ADDRESS = "No call is waiting for a BBL with this address.";
 /** @type {(line: number) => string} */
-export const callInLine = (line) => `call in line ${line}`;
+export const callInLine = (line) => `call on line ${line}`;
 
 // --- page/compose_debug.js ---
-export const NO_ADDRESS = "Nothing was done: the source is not the same as ROM, or this line of it puts nothing there.";
+export const LINE_HAS_NO_ADDRESS = "Nothing was done: the source is not the same as ROM, or this line puts no bytes into ROM.";
 
 // --- machine/source_map.js ---
 /** @type {(word: string, address: string, line: string) => string} */
 export const wordWithAddress = (word, address, line) => `${word}: address 0x${address}${line}`;
 /** @type {(line: number) => string} */
-export const inLine = (line) => `, line ${line}`;
+export const lineSuffix = (line) => `, line ${line}`;
 
 // --- machine/source_sync.js ---
 export const DOT_ENDS = "a line with only a dot ends the text";
 /** @type {(line: number) => string} */
-export const inSourceLine = (line) => ` in line ${line}`;
+export const onSourceLine = (line) => ` on line ${line}`;
 /** @type {(location: string, error: string) => string} */
 export const sourceHasError = (location, error) => `The source has an error${location}: ${error}.`;
 /** @type {(address: string, line: number) => string} */
@@ -170,7 +171,7 @@ export const COUNTER_AND_RETURNS = "Counter and return addresses";
 // --- machine/mistakes_view.js ---
 /** @type {(error: string) => string} */
 export const stopsBefore = (error) => `pauses before ${error}`;
-export const STOP_AT_THIS = " Break on this";
+export const BREAK_ON_THIS = " Break on this";
 
 // --- machine/watch_view.js ---
 /** @type {(maximum: number) => string} */

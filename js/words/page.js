@@ -1,17 +1,17 @@
 // Messages and labels of the console, the dialogs, the notices and the status bar, and messages about missing browser features.
 
 // --- lines/lines_view.js ---
-export const LINES_HINT = "Enter runs, Shift+Enter adds a line, the up arrow recalls. Type help for commands.";
+export const LINES_HINT = "Enter runs the lines, Shift+Enter adds one, the up arrow recalls earlier ones. Type help for commands.";
 
 // --- lines/log_view.js ---
 /** @type {(line: string, count: number) => string} */
 export const textLines = (line, count) => `${line} .. (${count === 1 ? "1 line" : `${count} lines`})`;
 /** @type {(error: string) => string} */
-export const notKeptMessage = (error) => `not kept: ${error}`;
+export const lineNotSavedMessage = (error) => `not saved: ${error}`;
 
 // --- lines/line_server.js ---
 export const SENDING_LINES = "Sending the lines.";
-export const TOO_MANY_BYTES = "Not all lines were done: at most 16,777,216 bytes are read at once.";
+export const TOO_MANY_BYTES = "Not all lines were run: at most 16,777,216 bytes are read at once.";
 export const RESET_RUNNING = "Running. The board was reset.";
 /** @type {(counter: string) => string} */
 export const resetTo = (counter) => `The board was reset; the program counter is at ${counter}.`;
@@ -21,7 +21,7 @@ export const YES = "Yes";
 export const NO = "No";
 
 // --- ui/folds.js ---
-export const FOLDS = "folds or unfolds this panel";
+export const FOLD_HINT = "folds or unfolds this panel";
 
 // --- ui/notice.js ---
 export const DISMISS = "Dismiss";
@@ -63,7 +63,7 @@ export const cannotStartMessage = (reason, requirements) => `The bench could not
 export const ROM_MATCHES = "ROM matches source";
 export const ROM_DIFFERS = "ROM differs from source";
 /** The status bar's messages about saving, by the session's state. */
-export const SAVED = { example: "Not saved", saved: "Saved in this browser", failed: "Not saved" };
+export const SAVING_STATES = { example: "Not saved", saved: "Saved in this browser", failed: "Not saved" };
 
 // --- print_view.js ---
 /** @type {(name: string) => string} */
@@ -85,6 +85,6 @@ export const RUNNING_TESTS = "Running the tests.";
 export const KEY_SCAN_INSERTED = "A routine that scans the keys is at the end of the source.";
 /** @type {(line: number) => string} */
 export const keyScanAt = (line) => `A routine that scans the keys is at line ${line} of the source.`;
-export const HAS_TEST = "Tests has it already.";
+export const TEST_ALREADY_THERE = "Tests already has it.";
 export const TEST_ADDED = "A test was added.";
 export const TEST_AT_END = "It is at the end of Tests, where Run tests runs it.";

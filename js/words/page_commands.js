@@ -144,16 +144,16 @@ export const NOT_NOW = "not possible now";
 export const NOTHING_UNDONE = "nothing was undone";
 export const NO_BUZZER = "the board has no buzzer";
 export const NO_PRINTER = "the board has no printer";
-export const NO_TEST_PIN = "the front panel has its own TEST control";
+export const TEST_HAS_OWN_CONTROL = "the front panel has its own TEST control";
 export const HAS_BOARD = "the board is not empty";
-export const HAS_TEXT = "there is a text already";
+export const HAS_TEXT = "there is already a text";
 export const NO_RESULTS = "there are no results";
 export const NO_BREAKPOINTS = "there are no breakpoints";
-export const NO_WAVES = "nothing was recorded yet";
+export const NOTHING_RECORDED = "nothing was recorded yet";
 export const NO_KEYS = "the board has no key matrix";
 export const NO_NOTICES = "there were no notices";
-export const NO_EDITOR = "show a text first";
-export const NO_NAMES = "show Source first";
+export const NEEDS_TEXT = "show a text first";
+export const NEEDS_SOURCE = "show Source first";
 
 // --- commands/toolbar_view.js ---
 export const FILE = "File";
@@ -162,7 +162,7 @@ export const THEME = "Theme";
 export const SHORT_LABELS = { "project.share": "Share" };
 /** @type {Record<string, string>} the tooltips of command buttons, by command id */
 export const TOOLTIPS = {
-  "time.over": "Step over: one instruction; a subroutine that it calls runs whole",
+  "time.over": "Step over: one instruction; a subroutine that it calls runs to its end",
   "time.into": "Step into: one instruction, into a subroutine that it calls",
   "time.out": "Step out: up to the return from this subroutine",
   "time.stepBack": "Step back: to before the last instruction",
@@ -203,8 +203,8 @@ export const A_PROJECT = "project";
 
 // --- commands/key_list.js ---
 export const KEY_TABLE = "Keys of commands";
-export const KEY_HEAD = "Key";
-export const EFFECT_HEAD = "Does";
+export const KEY_HEADING = "Key";
+export const EFFECT_HEADING = "Effect";
 /** The part of the page in which a key works, by the key's scope. */
 export const KEY_SCOPES = {
   everywhere: "", texts: "in the texts", source: "in Source", board: "in Board", tests: "in Tests", properties: "in Properties",

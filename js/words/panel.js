@@ -9,7 +9,7 @@ export const noKeyMessage = (key) => `the board has no key ${key}`;
 
 // --- panel/screen.js ---
 /** @type {(title: string, session: string, commands: string, state: string) => string} */
-export const headLine = (title, session, commands, state) => ` ${title && `${title}: `}${session}   ${commands} commands   ${state}`;
+export const titleLine = (title, session, commands, state) => ` ${title && `${title}: `}${session}   ${commands} commands   ${state}`;
 export const RUNNING = "running";
 /** @type {(reason: string) => string} */
 export const pausedState = (reason) => `paused${reason && ` ${reason}`}`;
@@ -18,9 +18,9 @@ export const displayLine = (text) => `display ${text}`;
 /** @type {(marks: string) => string} */
 export const lampsLine = (marks) => `lamps ${marks}`;
 /** @type {(place: string, line: number, text: string) => string} */
-export const sourceHere = (place, line, text) => `${place}, line ${line}: ${text}`;
+export const nextSourceLine = (place, line, text) => `${place}, line ${line}: ${text}`;
 /** @type {(place: string) => string} */
-export const returnTo = (place) => `  ret ${place}`;
+export const returnAddressLine = (place) => `  ret ${place}`;
 /** @type {(chip: string, out: string) => string} */
 export const portOutput = (chip, out) => `${chip} out ${out}`;
 export const PRINTOUT_TITLE = "--- printout -----------";
@@ -29,11 +29,11 @@ export const keyLine = (test, hasMoreRam) => (
   `space pause/run  Enter step  Tab break  ^T ${test}  ^R reset  ^D end${hasMoreRam ? "  arrows RAM" : ""}`);
 export const TEST_PIN = "test";
 /** @type {(name: string) => string} */
-export const testKey = (name) => `${name}:^T`;
+export const testKeyLabel = (name) => `${name}:^T`;
 
 // --- node/commands/panel.mjs, node/panel_terminal.mjs ---
 /** @type {(line: number, error: string) => string} */
-export const noteOfBoard = (line, error) => `line ${line}: ${error}`;
+export const boardErrorLine = (line, error) => `line ${line}: ${error}`;
 export const NO_TERMINAL = "standard input and output must be a terminal";
 /** @type {(kind: string) => string} */
 export const unsuitableTerminalMessage = (kind) => (
@@ -43,4 +43,4 @@ export const tooSmallMessage = (minimum, columns, rows) => `it needs a terminal 
 /** @type {(columns: number, rows: number) => string} */
 export const columnsByRows = (columns, rows) => `${columns} columns by ${rows} lines`;
 /** @type {(minimum: string, columns: number, rows: number) => string} */
-export const needsRoom = (minimum, columns, rows) => `panel: needs ${minimum}, this is ${columns} by ${rows}`;
+export const tooSmallNote = (minimum, columns, rows) => `panel: needs ${minimum}, this is ${columns} by ${rows}`;

@@ -14,11 +14,11 @@ export const placeIsWatchedMessage = (place) => `${place} is watched.`;
 export const onlyOneWatchAllowed = (watched) => (
   `${watched} is watched, and only one place other than RAM characters can be watched: delete ${watched} first`);
 /** @type {(place: string) => string} */
-export const watchedByContinue = (place) => `${place} is watched by continue.`;
+export const watchedByContinue = (place) => `${place} is watched, but only continue stops at its changes.`;
 /** @type {(place: string) => string} */
 export const notWatchedMessage = (place) => `${place} is not watched`;
 /** @type {(place: string) => string} */
-export const byContinue = (place) => `${place}, by continue`;
+export const continueOnlyWatch = (place) => `${place}, for continue only`;
 export const NOTHING_WATCHED = "nothing is watched";
 
 // --- prompt/stop_commands.js ---
@@ -31,7 +31,7 @@ export const IGNORE_SYNTAX = "write ignore N COUNT, as in ignore 1 5";
 export const COMMANDS_SYNTAX = "write commands N, and lines up to end";
 export const SAVE_SYNTAX = "write save breakpoints FILE";
 /** The first line of a breakpoints file. */
-export const SAVED_HEAD = "# Breakpoints of mcs4 debug";
+export const BREAKPOINTS_HEADER = "# Breakpoints of mcs4 debug";
 export const TEMPORARY = ", temporary";
 /** @type {(id: number) => string} */
 export const conditionRemovedMessage = (id) => `Breakpoint ${id} has no condition now.`;
@@ -61,12 +61,12 @@ export const notANumberMessage = (value) => `${value} is not a number, so it has
 
 // --- prompt/change_commands.js ---
 export const BENCH_SYNTAX = "write bench LINE, as in bench state";
-export const NO_FILE = "there is no file of the source to read";
+export const NO_SOURCE_FILE = "there is no source file to read";
 export const SOURCE_IN_ROM = "The source is in ROM.";
 
 // --- prompt/prompt_commands.js ---
 /** @type {(word: string) => string} */
-export const noCommandMessage = (word) => `there is no command ${word}; help shows them all`;
+export const noCommandMessage = (word) => `there is no command ${word}; help lists all commands`;
 /** @type {(word: string, names: string) => string} */
 export const ambiguousCommand = (word, names) => `${word} is ambiguous: ${names}`;
 /** @type {(names: string) => string} */
@@ -86,8 +86,8 @@ export const noKeyMessage = (word, names) => `the board has no key ${word}; it h
 export const NO_LAMPS = "the board has no lamps";
 export const PRINT_SYNTAX = "write print WHAT, as in print r4";
 export const VIEW_SYNTAX = "write view, view on or view off";
-export const VIEW_NEEDS_TERMINAL = "the view needs a terminal: it is above the commands that are typed there";
-export const NO_DISPLAY = "there is no such display; info display shows their numbers";
+export const VIEW_NEEDS_TERMINAL = "the view needs a terminal: it is drawn above the commands that are typed there";
+export const NO_SUCH_DISPLAY = "there is no such display; info display shows their numbers";
 /** @type {(place: string) => string} */
 export const noPlaceOfMemoryMessage = (place) => (
   `${place} is neither a label nor an address; examples: x/8 LABEL, x/8 0x00F, x/16 ram.0.0x10`);
@@ -100,11 +100,11 @@ export const linesOf = (program, count) => `${program}, ${count} lines`;
 export const SESSION_FILE = "a session file, which is updated at each stop";
 export const IN_MEMORY = "in memory: nothing is saved";
 /** @type {(kinds: string) => string} */
-export const infoShows = (kinds) => `info shows ${kinds}`;
+export const infoSyntax = (kinds) => `write info and one of ${kinds}`;
 /** @type {(kind: string) => string} */
 export const infoTakesNoArgument = (kind) => `info ${kind} takes no argument`;
 export const SYMBOL_SYNTAX = "write info symbol PLACE, as in info symbol 0x00F";
-export const NO_LOCALS = "a 4004 has no local variables; info registers shows the registers, info names the names of the program";
+export const NO_LOCALS = "a 4004 has no local variables; info registers shows the registers, info names shows the program's names";
 
 // --- prompt/state_text.js ---
 /** @type {(line: number, first: string, name: string, last: string) => string} */

@@ -1,7 +1,7 @@
 // Messages and labels about proofs: the verdicts on properties, and the reasons why a property is not decided.
 
 // --- prove/condition_comparisons.js ---
-export const READS_TOO_MUCH = "its condition uses too many places at once";
+export const USES_TOO_MANY_PLACES = "its condition uses too many places at once";
 /** @type {(place: string) => string} */
 export const dependsOnInput = (place) => `its condition uses ${place}, an input`;
 
@@ -12,7 +12,7 @@ export const togetherLine = (count) => `together ${count}`;
 export const WAIT_WORD = "wait";
 export const HELD_WORD = "held";
 export const NEEDS_WAIT = "keys can go up and down unseen between two reads; write a line `wait TIME to TIME`, from 2 cycles";
-export const HELD_SHORTENS_WAITS = "with its line `held`, a proof cannot use `wait`; this property does not need `held`";
+export const HELD_SHORTENS_WAITS = "a proof cannot use `wait` if the text has a line `held`; this property does not need `held`";
 /** @type {(maximum: number) => string} */
 export const tooManyCombinations = (maximum) => "a proof can use `wait` only if keys and TEST have at most "
   + `${maximum} allowed combinations; name fewer keys with \`press\`, or write \`together 1\``;
@@ -63,7 +63,7 @@ export const TRUE_BEFORE_KEYS_ARE_READ = "it can become true before the program 
 
 // --- prove/bounded_proof.js ---
 /** @type {(states: string) => string} */
-export const moreStatesThan = (states) => `more than ${states} states; enter a larger number beside Prove to allow more`;
+export const moreStatesThan = (states) => `more than ${states} states; enter a larger number next to Prove to allow more`;
 /** @type {(states: string) => string} */
 export const memoryFullAfter = (states) => `memory has room for only ${states} states; mcs4 prove in a terminal can use more`;
 
@@ -101,9 +101,10 @@ export const foundBy = (steps, cycles, isGoal) => `${isGoal ? "reached" : "broke
 export const moreStates = (maximum) => `more than ${maximum} states; --most allows more`;
 export const NO_MEMORY = "memory is full";
 /** @type {(states: string) => string} */
-export const noRoom = (states) => `memory has room for only ${states} states`;
+export const memoryHasRoomFor = (states) => `memory has room for only ${states} states`;
 /** @type {(states: string, megabytes: number) => string} */
-export const noRoomIn = (states, megabytes) => `there is no room for more than ${states} states in ${megabytes} MB; --memory allows more`;
+export const memoryLimitReached = (states, megabytes) =>
+  `there is no room for more than ${states} states in ${megabytes} MB; --memory allows more`;
 export const GAVE_UP = "the prover gave up";
 /** @type {(number: number, count: number, property: string, seconds: number) => string} */
 export const provingSoFar = (number, count, property, seconds) => `proving ${number} of ${count}, ${seconds} s: ${property}`;
@@ -121,11 +122,11 @@ export const nextStepBreaks = (property) => `The next step breaks: ${property}`;
 export const nextStepReaches = (property) => `The next step reaches: ${property}`;
 
 // --- page/prove/proofs_view.js ---
-export const CHANGED = "the program, the board or the text has changed since then";
-export const ITS_TEST = "Show as test";
-export const ITS_LINES = "Its lines";
-export const OPEN_FOUND = "Open counterexample";
-export const OPEN_WAY = "Open the way there";
+export const TEXTS_HAVE_CHANGED = "the program, the board or the text has changed since then";
+export const SHOW_AS_TEST = "Show as test";
+export const COUNTEREXAMPLE_LINES = "Its lines";
+export const OPEN_COUNTEREXAMPLE = "Open counterexample";
+export const OPEN_STEPS_TO_GOAL = "Open the steps to it";
 export const BEFORE_BREAK = "a new session, paused before the step that breaks it; you can step back from there";
 export const BEFORE_GOAL = "a new session, paused before the step that reaches it; you can step back from there";
 export const ADD_TO_TESTS = "Add to tests";

@@ -5,7 +5,7 @@
 export const dependencyMissing = (file) =>
   `there is no ${file} here, so this text is not checked; mcs4.toml can name a board and a program`;
 /** @type {(file: string, line: number) => string} */
-export const dependencyHasError = (file, line) => `${file} has an error${line > 0 ? ` in line ${line}` : ""}, so this text is not checked`;
+export const dependencyHasError = (file, line) => `${file} has an error${line > 0 ? ` on line ${line}` : ""}, so this text is not checked`;
 
 // --- server/board_language.js ---
 export const NO_BOARD_NAMES = "A board's text has no names that can be changed here.";
@@ -18,30 +18,30 @@ export const bitOfChain = (bit, chain) => `bit ${bit} of chain ${chain}`;
 /** @type {(line: string, chip: string, bank: string) => string} */
 export const lineOfRam = (line, chip, bank) => `line ${line} of the port of RAM chip ${chip} in bank ${bank}`;
 /** @type {(isChain: boolean, line: number) => string} */
-export const definedIn = (isChain, line) => `; its ${isChain ? "chain" : "chip"} is in line ${line}`;
+export const definitionSuffix = (isChain, line) => `; its ${isChain ? "chain" : "chip"} is on line ${line}`;
 
 // --- server/connection.js, server/message_stream.js ---
 /** @type {(bytes: number) => string} */
-export const messageTooLong = (bytes) => `a message of ${bytes} bytes was not read`;
+export const messageNotRead = (bytes) => `a message of ${bytes} bytes was not read`;
 export const NOT_JSON = "a message is not JSON";
 export const MESSAGE_SYNTAX = "a message has jsonrpc \"2.0\", a method, and an id if it is answered";
 export const EXIT_AFTER_SHUTDOWN = "after shutdown only exit is accepted";
 export const INITIALIZE_FIRST = "send initialize first";
 export const INITIALIZE_ONCE = "initialize can be sent only once";
 /** @type {(method: string) => string} */
-export const noMethodMessage = (method) => `there is no ${method} here`;
+export const noMethodMessage = (method) => `there is no method ${method} here`;
 /** @type {(id: number | string | null) => string} */
 export const requestPending = (id) => `a request with the id ${id} waits for its answer`;
 
 // --- server/diagnostics.js ---
 export const MAY_BE_MORE = "There may be more errors.";
 /** @type {(maximum: string, size: string) => string} */
-export const textTooLong = (maximum, size) => `a text has at most ${maximum} characters; this one has ${size} and passes the limit here`;
+export const textTooLong = (maximum, size) => `a text has at most ${maximum} characters; this one has ${size} and exceeds the limit here`;
 /** @type {(text: string) => string} */
 export const quickFixTitle = (text) => `Write ${text}`;
 
 // --- server/framing.js ---
-export const HEADER_SYNTAX = "a message begins with one line Content-Length: N, and an empty one after it";
+export const HEADER_SYNTAX = "a message begins with the line Content-Length: N, then an empty line";
 /** @type {(maximum: number) => string} */
 export const headerTooLongMessage = (maximum) => `the header of a message has more than ${maximum} bytes`;
 
@@ -71,24 +71,24 @@ export const TEXT_OF_CHANGE = "the text of a change";
 export const cannotCheckMessage = (uri, message) => `cannot check ${uri}: ${message}`;
 
 // --- server/program_calls.js ---
-export const PROGRAM_BEGIN = "(start of the program)";
+export const PROGRAM_START = "(start of the program)";
 /** @type {(count: number, noun: string) => string} */
 const countOf = (count, noun) => `${count} ${noun}${count === 1 ? "" : "s"}`;
 /** @type {(calls: number, otherReferences: number) => string} */
-export const usesOf = (calls, otherReferences) => (
+export const describeUses = (calls, otherReferences) => (
   calls === 0 ? countOf(otherReferences, "reference")
     : `${countOf(calls, "call")}${otherReferences === 0 ? "" : `, ${countOf(otherReferences, "other reference")}`}`);
 
 // --- server/program_hover.js ---
-export const HEAD_OF_INSTRUCTIONS = ["Instruction", "Code", "Words", "Cycles", "What it does"];
+export const INSTRUCTION_HEADINGS = ["Instruction", "Code", "Words", "Cycles", "What it does"];
 /** @type {(value: number, meaning: string) => string} */
 export const conditionIs = (value, meaning) => `condition ${value}: ${meaning}`;
 
 // --- server/program_language.js ---
 /** @type {(cycles: string) => string} */
-export const cyclesOf = (cycles) => `, ${cycles} cycle${cycles === "1" ? "" : "s"}`;
+export const cyclesSuffix = (cycles) => `, ${cycles} cycle${cycles === "1" ? "" : "s"}`;
 /** @type {(line: number, address: string, codes: string, cycles: string) => string} */
-export const lineAt = (line, address, codes, cycles) => `line ${line}: address 0x${address}, ${codes}${cycles}`;
+export const describeProgramLine = (line, address, codes, cycles) => `line ${line}: address 0x${address}, ${codes}${cycles}`;
 export const NO_NAME_HERE = "There is no name of the program here.";
 
 // --- server/lsp_protocol.js ---
@@ -113,7 +113,7 @@ export const noTestMessage = (name) => `There is no test ${name}.`;
 /** @type {(name: string) => string} */
 export const testPassed = (name) => `The test ${name} passed.`;
 /** @type {(name: string, line: number, message: string) => string} */
-export const testFailed = (name, line, message) => `The test ${name} failed in line ${line}: ${message}.`;
+export const testFailed = (name, line, message) => `The test ${name} failed on line ${line}: ${message}.`;
 /** @type {(file: string, line: number, message: string) => string} */
 export const notRunMessage = (file, line, message) => `Nothing was run: ${file}${line > 0 ? `:${line}` : ""}: ${message}.`;
 
@@ -124,7 +124,7 @@ export const tooLongMessage = (size, maximum) => `it has ${size} bytes, more tha
 export const CONTAINS_NUL = "it contains NUL bytes, so it is not a text";
 
 /** @type {(path: string) => string} */
-export const leadsOut = (path) => `${path} is a link that leads out of the project's folder`;
+export const linkLeadsOut = (path) => `${path} is a link that leads out of the project's folder`;
 
 // --- project/project_toml.js ---
 export const BOARD_SYNTAX = "board is the path of a file: board = \"board.toml\"";
@@ -138,15 +138,15 @@ export const emptyPath = (key, syntax) => `${key} has an empty path; ${syntax}`;
 /** @type {(key: string) => string} */
 export const pathHasControlCharacter = (key) => `a path of ${key} has a control character`;
 /** @type {(key: string) => string} */
-export const pathHasBackslash = (key) => `a path of ${key} has a \\; separate folders by /`;
+export const pathHasBackslash = (key) => `a path of ${key} has a \\; separate folders with /`;
 /** @type {(path: string, key: string) => string} */
 export const noPathMessage = (path, key) => `${path} is not a path from the project's folder; ${key} names files in it`;
 /** @type {(path: string, key: string) => string} */
-export const outOfFolder = (path, key) => `${path} leads out of the project's folder; ${key} names files in it`;
+export const pathLeadsOut = (path, key) => `${path} leads out of the project's folder; ${key} names files in it`;
 /** @type {(name: string) => string} */
 export const noKeyMessage = (name) => `a project has no key ${name}; it has board, program, tests, properties and speed`;
 /** @type {(name: string, line: number) => string} */
-export const keyRepeated = (name, line) => `${name} is already in line ${line}`;
+export const keyRepeated = (name, line) => `${name} is already on line ${line}`;
 export const NO_TABLES = "a project has no tables; each of its keys begins a line";
 /** @type {(name: string, syntax: string | undefined) => string} */
 export const keyMissing = (name, syntax) => `${name} is missing; ${syntax}`;

@@ -2,7 +2,7 @@
 
 // --- session/trash.js ---
 /** @type {(count: number) => string} */
-export const manySessions = (count) => `${count} sessions`;
+export const sessionCount = (count) => `${count} sessions`;
 /** @type {(name: string) => string} */
 export const openElsewhere = (name) => `The session "${name}" is open in another tab, so it was not deleted.`;
 /** @type {(name: string, reason: string) => string} */
@@ -15,7 +15,7 @@ export const PAUSED = "Paused.";
 /** @type {(name: string) => string} */
 export const titleOfPage = (name) => `${name} - Fethsaim`;
 /** @type {(reason: string) => string} */
-export const notKeptMessage = (reason) => `This session is not kept: ${reason}. It is still in this page; save it to a file.`;
+export const notSavedMessage = (reason) => `This session is not saved: ${reason}. It is still in this page; save it to a file.`;
 
 // --- session/session_summary.js ---
 /** The kinds of parts that a session's summary counts, in the singular. */
@@ -45,9 +45,9 @@ export const NO_PROJECT_FILE = "there is no such file; it names the files of a p
 export const noFileMessage = (path) => `there is no file ${path}`;
 
 // --- session/session_list.js ---
-export const DELETE_CHOSEN = "Delete selected";
+export const DELETE_SELECTED = "Delete selected";
 /** @type {(count: number) => string} */
-export const deleteSome = (count) => `Delete ${count} selected`;
+export const deleteSelected = (count) => `Delete ${count} selected`;
 export const SHOWN = "Shown";
 export const OPEN = "Open";
 /** @type {(name: string) => string} */
@@ -59,7 +59,7 @@ export const DELETE = "Delete";
 /** @type {(name: string) => string} */
 export const deleteNamed = (name) => `delete ${name}`;
 /** @type {(name: string) => string} */
-export const chooseNamed = (name) => `select ${name}`;
+export const selectNamed = (name) => `select ${name}`;
 export const RESTORE = "Restore";
 /** @type {(name: string) => string} */
 export const restoreNamed = (name) => `restore ${name}`;
@@ -70,7 +70,7 @@ export const withCycles = (cycles) => `, ${cycles} cycles`;
 export const NOT_A_HISTORY = "it is not a recorded past";
 
 // --- session/offered_lines.js ---
-export const OTHER_LINES = "Other lines have replaced the lines that you had not sent.";
+export const LINES_REPLACED = "Other lines have replaced the lines that you had not sent.";
 export const UNDO = "Undo";
 
 // --- session/opened_file.js ---
@@ -89,7 +89,7 @@ export const EMPTY = "it is empty";
 /** The second line of a project file. */
 export const ABOUT_PROJECT =
   "# A board, its program and a session of the bench Fethsaim. Its page opens this file; mcs4 project splits it.";
-export const HEAD_LINE = "a line of the head: `name`, `unended`, `break`, `value`, `#`, or `wire`, which starts the board's text";
+export const HEADER_LINE = "a header line: `name`, `unended`, `break`, `value`, `#`, or `wire`, which starts the board's text";
 export const BOARD_TEXT = "the board's text";
 export const THE_SOURCE = "the source";
 export const TESTS_TEXT = "the tests' text";
@@ -105,10 +105,10 @@ export const NO_PROJECT = "not a project of Fethsaim";
 export const otherVersion = (version) => `a project of version ${version}, which is unknown here`;
 /** @type {(line: string) => string} */
 export const projectCutOff = (line) => `the project is cut off: its last line, \`${line}\`, is missing`;
-export const OTHER_CHECKSUM = "the project is damaged or was edited: its checksum is wrong. "
+export const WRONG_CHECKSUM = "the project is damaged or was edited: its checksum is wrong. "
   + "After editing a project, delete its line `cksum`";
 /** @type {(line: number) => string} */
-export const notOfSessionMessage = (line) => `line ${line} of the project is not one of a session`;
+export const notOfSessionMessage = (line) => `line ${line} of the project is not a line of a session`;
 export const TOO_MANY_BYTES = "the file has more bytes than a project can have";
 export const END_OF_FILE = "the end of the file";
 export const NOT_UTF8 = "the project is damaged: it is not a text in UTF-8";
@@ -118,7 +118,7 @@ export const CONTAINS_NUL = "the project contains NUL bytes, so it is not a text
 // --- session/project_parts.js ---
 /** The first line of the `mcs4.toml` file that `mcs4 project split` writes. */
 export const ABOUT_PROJECT_FILE = "# The project of this folder: commands, editors and the page use these files unless others are named.";
-export const UNNAMED = "session";
+export const UNNAMED_SESSION = "session";
 /** @type {(line: number) => string} */
 export const noBreakpointMessage = (line) => `line ${line} is not a breakpoint such as \`break line 14\` or \`break at 0x00F\``;
 /** @type {(count: number, maximum: number) => string} */
@@ -138,14 +138,14 @@ export const bytesInRom = (bytes, name, isOne, first) => (
 export const IN_ANOTHER_TAB = "This session is open in another tab. Continue there, close that tab, or open a copy of it.";
 export const OPEN_A_COPY = "Open a copy";
 /** @type {(reason: string) => string} */
-export const cannotReadKeptMessage = (reason) => `The saved sessions could not be read: ${reason}.`;
-export const NO_LONGER_KEPT = "it is no longer saved here";
+export const cannotReadSessionsMessage = (reason) => `The saved sessions could not be read: ${reason}.`;
+export const NO_LONGER_SAVED = "it is no longer saved here";
 /** @type {(reason: string) => string} */
 export const notOpenedMessage = (reason) => `Cannot open the session: ${reason}.`;
 /** @type {(reason: string) => string} */
-export const notMadeMessage = (reason) => `No session was made: ${reason}.`;
+export const notCreatedMessage = (reason) => `No session was created: ${reason}.`;
 /** @type {(name: string) => string} */
-export const copyName = (name) => `${name}, a copy`;
+export const nameOfCopy = (name) => `${name}, a copy`;
 /** @type {(name: string, reason: string) => string} */
 export const fileNotOpened = (name, reason) => `Cannot open ${name}: ${reason}. The session shown is unchanged.`;
 export const THE_FOLDER = "the folder";
@@ -159,13 +159,13 @@ export const SAVED_IN_BROWSER_ONLY = "They are saved in this browser only. Downl
 export const STORAGE_IS_PERSISTENT = " The browser has promised to keep them even when space is short.";
 export const NOT_SAVED_ANYWHERE = "This browser stores nothing for this page: save a session to a file before you leave.";
 /** @type {(name: string, isKept: boolean) => string} */
-export const sessionLeft = (name, isKept) => (
+export const leftSessionMessage = (name, isKept) => (
   `"${name}" ${isKept ? "is saved" : "stays until this page is closed"}.`);
 export const REOPEN = "Reopen";
 /** @type {(name: string) => string} */
 export const noSuchExampleMessage = (name) => `The address names an example, "${name}", that this page does not have.`;
 /** @type {(hash: string) => string} */
-export const namesNothing = (hash) => (
+export const addressNamesNothing = (hash) => (
   `The address ends with ${hash}, which names nothing here. It can end with #example= and a name, or with a link that Share has made.`);
 /** @type {(names: string) => string} */
 export const sessionsDeleted = (names) => `Deleted ${names}.`;
@@ -184,7 +184,7 @@ export const WITH_STORY = "with its story";
 
 // --- session/share_link.js ---
 export const DAMAGED = "it is cut off or was changed";
-export const CONTAINS_OTHER_TEXTS = "its texts are longer than the page accepts";
+export const TEXTS_TOO_LONG = "its texts are longer than the page accepts";
 export const CANNOT_DECOMPRESS = "this browser cannot read compressed texts (it has no DecompressionStream); it needs Chrome "
   + "103, Firefox 113 or Safari 16.4 or later, or a project file instead of the link";
 export const NEWER_PAGE = "it was made by a newer page than this one";
@@ -240,7 +240,7 @@ export const storeFailed = (name) => `the browser's store failed (${name})`;
 
 // --- session/texts_controller.js ---
 /** The names of the texts as the subject of a sentence. */
-export const WHICH_TEXT = {
+export const TEXT_SUBJECTS = {
   board: "The board's text", program: "The source", tests: "The text of tests", properties: "The text of properties",
 };
 /** The end of the message about an opened text: its tab and its use. */
@@ -263,7 +263,7 @@ export const REPLACE_SOURCE = "Replace the source?";
 export const sizesOfSources = (oldSize, newSize) =>
   `The source has ${oldSize}. The disassembly of ROM has ${newSize}, without comments and names.`;
 /** @type {(name: string) => string} */
-export const replaceByProbableNonProgram = (name) => `Replace the source by ${name}?`;
+export const replaceByProbableNonProgram = (name) => `Replace the source with ${name}?`;
 /** @type {(name: string) => string} */
 export const eachLineWrong = (name) => `Each line of ${name} has an error, so it is probably not a program.`;
 export const REPLACE_IT = "Replace it";

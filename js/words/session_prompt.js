@@ -1,11 +1,11 @@
 // Messages of the `mcs4 new` and `mcs4 open` prompt. They complement the bench's answers.
 
 // --- prompt/bench_prompt.js, prompt/source_command.js, node/session_terminal.mjs ---
-export const GREETING = "help shows the lines, quit leaves.";
+export const GREETING = "help lists the commands, quit leaves.";
 export const PROMPT_LINES_TITLE = "At this prompt:";
 /** @type {[string, string][]} the lines that only the prompt accepts, with their effects */
 export const PROMPT_LINES = [
-  ["wire FILE, asm FILE", "reads the text of the board, or program, in a file"],
+  ["wire FILE, asm FILE", "reads a board's or a program's text from a file"],
   ["map FILE", "shows the addresses of the program in a file"],
   ["wiring FILE, errors FILE", "shows what is wrong with the text in a file"],
   ["source FILE", "serves the lines of a file, up to an error"],

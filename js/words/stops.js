@@ -12,7 +12,7 @@ import { formatCycles } from "../core/time/cycles.js";
  */
 
 /** @type {Record<string, string>} the reasons why a run stopped, by the stop reason (debug/debugger.js) */
-export const REASONS = {
+export const PAUSE_REASONS = {
   code: "before a code that is not an instruction",
   break: "at a breakpoint",
   watch: "after a watched nibble changed",
@@ -21,7 +21,7 @@ export const REASONS = {
 };
 
 /** The message of Step out if no subroutine is running. */
-export const NO_CALL_WAITS = "no call is open here";
+export const NO_OPEN_CALL = "no call is open here";
 
 /** @type {(line: number) => string} a reference to a line, by its number */
 export const lineReference = (line) => `line ${line}`;
@@ -72,7 +72,7 @@ export function describeTimeTravel(goal, travel, location, breakpoint) {
  * @param {string} failure the word for the reason in the bench's result
  */
 function travelFailureReason(goal, failure) {
-  if (goal.kind === "forward") return "forward returns to where going back started, until something else is done";
+  if (goal.kind === "forward") return "forward works only after going back, until something else is done";
   if (goal.kind === "stop") return "no stop before this one is remembered";
   if (goal.kind === "call") return "the remembered past does not reach back to the call";
   if (goal.kind === "instruction" || failure === "short" && goal.kind === "arrival") return "the remembered past reaches no further back";
@@ -138,10 +138,10 @@ function describeReachedGoal(goal, isReturn, location) {
  */
 export function pauseMessage(goal, { reason, cycles, endsAtReturn, change }, location, conditionText = "") {
   if (reason === "lacks") return `Nothing was done: this board has no ${goal && goal.kind === "change" ? goal.place : "such place"}.`;
-  if (reason === "outside") return `Nothing was done: ${NO_CALL_WAITS}.`;
+  if (reason === "outside") return `Nothing was done: ${NO_OPEN_CALL}.`;
   const after = `after ${formatCycles(cycles)}`;
   if (goal && reason === "goal") return `${describeReachedGoal(goal, endsAtReturn, location)}, ${after}.`;
-  const stopText = (REASONS[reason] || reason) + (reason === "break" ? conditionText : "");
+  const stopText = (PAUSE_REASONS[reason] || reason) + (reason === "break" ? conditionText : "");
   const reasonText = reason === "watch" && change ? `after ${change}` : stopText;
   if (!goal) return `Paused at ${location}, ${reasonText}.`;
   return `Paused at ${location}, ${reasonText}, ${after}; ${describeGoal(goal)} was not reached.`;
@@ -161,7 +161,7 @@ export function describeBreakpointCondition(breakpoint, error = "") {
 }
 
 /** @type {(address: string) => string} */
-export const stoppedAt = (address) => `Paused at ${address}.`;
+export const pausedAt = (address) => `Paused at ${address}.`;
 
 /**
  * Returns the message after the user has paused the session. If the run has a goal, the message says that the goal was not reached.
@@ -170,7 +170,7 @@ export const stoppedAt = (address) => `Paused at ${address}.`;
  * @param {string} location
  */
 export function describeUserPause(goal, cycles, location) {
-  return goal ? `Paused at ${location}, after ${formatCycles(cycles)}; ${describeGoal(goal)} was not reached.` : stoppedAt(location);
+  return goal ? `Paused at ${location}, after ${formatCycles(cycles)}; ${describeGoal(goal)} was not reached.` : pausedAt(location);
 }
 
 /**

@@ -1,9 +1,9 @@
 // Messages and labels about tests: errors, results, coverage and profiles.
 
 // --- testing/coverage.js ---
-/** @type {(counts: number[], percent: string, percentOfWays: string) => string} */
-export const coverageSummary = ([run, all, directionsRun, ways], percent, percentOfWays) => (
-  `${run} of ${all} instructions were run${percent}, ${directionsRun} of ${ways} branch directions${percentOfWays}`);
+/** @type {(counts: number[], percent: string, percentOfDirections: string) => string} */
+export const coverageSummary = ([executed, instructions, taken, directions], percent, percentOfDirections) => (
+  `${executed} of ${instructions} instructions were run${percent}, ${taken} of ${directions} branch directions${percentOfDirections}`);
 
 // --- testing/coverage_text.js ---
 export const NEVER = "never";
@@ -28,7 +28,7 @@ export const lastLabel = (label, ago) => `; the last label passed is ${label}, $
 /** @type {(label: string, place: string, time: string) => string} */
 export const lastLabelAndCondition = (label, place, time) => `${label}; ${place} was ${time}`;
 /** @type {(ago: string) => string} */
-export const lastPassedAgo = (ago) => `passed last ${ago}`;
+export const lastPassedAgo = (ago) => `last passed ${ago}`;
 export const NOT_PASSED = "not passed in this test";
 
 // --- testing/profile_text.js ---
@@ -36,8 +36,8 @@ export const NOT_PASSED = "not passed in this test";
 export const inMilliseconds = (time) => `${time} ms`;
 /** @type {(cycles: number, time: string) => string} */
 export const cyclesInTime = (cycles, time) => `${cycles} cycles, ${time}`;
-export const PROFILE_HEAD = ["label", "at", "own", "own %", "calls", "with calls", "longest"];
-export const KEYS_HEAD = ["key", "presses", "answered", "longest to a lamp", "to the last lamp"];
+export const PROFILE_HEADINGS = ["label", "at", "own", "own %", "calls", "with calls", "longest"];
+export const KEY_TABLE_HEADINGS = ["key", "presses", "answered", "longest to a lamp", "to the last lamp"];
 
 // --- testing/tap.js ---
 /** @type {(text: string) => string} */
@@ -60,9 +60,9 @@ export const stateMissing = (state, test) => `the state ${state} is missing, bec
 /** @type {(line: number, file: string) => string} a reference to a line in this text, or in another file */
 const lineLocation = (line, file) => (file ? `${file}:${line}` : `line ${line}`);
 /** @type {(name: string, line: number, file: string) => string} */
-export const describeSharedSteps = (name, line, file) => `the steps ${name} of ${lineLocation(line, file)}`;
+export const describeSharedSteps = (name, line, file) => `the steps ${name} called at ${lineLocation(line, file)}`;
 /** @type {(iteration: number, count: number, line: number) => string} */
-export const describeTurn = (iteration, count, line) => `turn ${iteration} of ${count} of line ${line}`;
+export const repetitionText = (iteration, count, line) => `pass ${iteration} of ${count} of the repeat at line ${line}`;
 /** @type {(cycles: number, reason: string) => string} */
 export const runStopped = (cycles, reason) => `the run stopped after ${cycles} cycles ${reason}`;
 /** @type {(address: string) => string} */
@@ -91,20 +91,20 @@ export const FIRST_WORDS = "test, steps, from, save, press, release, keys, pace,
 export const NO_TEST = "there is no line `test NAME`";
 export const NOT_ASCII = "a byte that is neither a tab nor a printable ASCII character";
 /** @type {(line: string) => string} */
-export const beginsWithTest = (line) => `a text of tests begins with \`test NAME\`, and this is: ${line}`;
-export const TEST_NAME_MISSING = "a test has a name: test NAME";
-export const STEPS_NAME_MISSING = "shared steps have a name of one word: steps NAME";
+export const beginsWithTest = (line) => `tests begin with \`test NAME\`, but this line is: ${line}`;
+export const TEST_NAME_MISSING = "a test needs a name: test NAME";
+export const STEPS_NAME_MISSING = "shared steps need a name of one word: steps NAME";
 /** @type {(name: string, line: number, file: string) => string} */
-export const stepsDefinedTwice = (name, line, file) => `the steps ${name} are already at ${lineLocation(line, file)}`;
-export const NO_END = "this `repeat` has no `end`";
+export const stepsDefinedTwice = (name, line, file) => `the steps ${name} are already defined at ${lineLocation(line, file)}`;
+export const REPEAT_END_MISSING = "this `repeat` has no `end`";
 export const END_SYNTAX = "`end` takes no argument";
-export const NO_REPEAT = "there is no `repeat` for this `end`";
+export const REPEAT_MISSING = "there is no `repeat` for this `end`";
 export const TOO_MANY_LINES = "this repeats more than 1,000,000 lines";
 export const DO_SYNTAX = "write `do STEPS`, the name of shared steps";
 /** @type {(name: string) => string} */
 export const stepsUseThemselves = (name) => `the steps ${name} cannot run themselves`;
 /** @type {(knownNames: string, name: string) => string} */
-export const knownSteps = (knownNames, name) => (knownNames ? `; there are: ${knownNames}` : `; \`steps ${name}\` starts them`);
+export const knownSteps = (knownNames, name) => (knownNames ? `; shared steps: ${knownNames}` : `; define them with \`steps ${name}\``);
 /** @type {(name: string, knownNames: string) => string} */
 export const noStepsMessage = (name, knownNames) => `there are no steps ${name} before this line${knownNames}`;
 /** @type {(word: string) => string} */
@@ -117,10 +117,10 @@ export const SAVED_ONCE = "a state is saved once: `save` cannot be in a `repeat`
 /** @type {(word: string) => string} */
 export const noStatesMessage = (word) => `shared steps have no states: \`${word}\` belongs in a test`;
 /** @type {(state: string, test: string) => string} */
-export const savedBefore = (state, test) => `the state ${state} is already saved by an earlier test, \`${test}\``;
+export const stateAlreadySaved = (state, test) => `the state ${state} is already saved by an earlier test, \`${test}\``;
 export const FROM_POSITION = "`from` must be right below `test`";
 /** @type {(states: string) => string} */
-export const knownStates = (states) => `; there is: ${states}`;
+export const knownStates = (states) => `; saved states: ${states}`;
 /** @type {(state: string, hint: string) => string} */
 export const noSuchStateMessage = (state, hint) => `no earlier test saves a state ${state}${hint}`;
 export const OWN_STATE = "a test cannot begin with a state that it saves itself";
@@ -134,7 +134,7 @@ export const noKeyMessage = (key, keyNames) => (
 export const UNTIL_SYNTAX = "write `until CONDITION within TIME`";
 export const WITHIN_SYNTAX = "it ends with `within TIME`, as in: within 500, within 20 ms, within 1.5 s";
 export const CYCLES_NOT_ALLOWED = "`until` cannot ask for cycles; use `run` or `expect`";
-export const PACE_SYNTAX = "write `pace TIME TIME`: how long a key is down, and how long it is up after it";
+export const PACE_SYNTAX = "write `pace TIME TIME`: how long each key is down, and how long it is up before the next key";
 
 // --- testing/tests_tab.js ---
 export const TESTS_CANCELLED = "It was cancelled; the results shown are from the previous run.";
@@ -142,8 +142,8 @@ export const TESTS_CANCELLED = "It was cancelled; the results shown are from the
 // --- testing/tests_view.js ---
 export const NOT_OK = "not ok";
 export const LAST_INSTRUCTIONS = "The last instructions";
-export const OPEN_AT_FAILURE = "Open the session as it is there";
+export const OPEN_AT_FAILURE = "Open the session at the failure";
 export const NO_LABEL = "(no label)";
-export const BEGUN_BEFORE = "(begun before)";
+export const BEGUN_EARLIER = "(begun earlier)";
 /** @type {(cycles: string, milliseconds: string) => string} */
 export const cyclesAndTime = (cycles, milliseconds) => `${cycles}, ${milliseconds} ms`;

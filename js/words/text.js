@@ -8,7 +8,8 @@ export const didYouMean = (similarWords, end = "") => (
 
 // --- text/asm_texts.js ---
 /** @type {(bytes: string, isOne: boolean, first: string) => string} */
-export const bytesRemainingMessage = (bytes, isOne, first) => `${bytes} from before ${isOne ? "stays" : "stay"} in ROM, from ${first}.`;
+export const bytesRemainingMessage = (bytes, isOne, first) =>
+  `${bytes} of the previous program ${isOne ? "stays" : "stay"} in ROM, from ${first}.`;
 /** @type {(bytes: string, remaining: string, counter: string) => string} */
 export const bytesAssembledMessage = (bytes, remaining, counter) => (
   `${bytes} assembled.${remaining} The counter stays at ${counter}; nothing was reset.`);
@@ -32,28 +33,28 @@ export const A_LAMP = "a lamp";
 export const TABLE_SYNTAX = "a table's name is in brackets: [[rom]]";
 /** @type {(table: string) => string} */
 export const bracketMissing = (table) => `] is missing: ${table}`;
-export const LINE_ENDS = "the line must end here";
-export const KEY_SYNTAX = "a key is missing before =";
+export const LINE_MUST_END = "the line must end here";
+export const KEY_MISSING = "a key is missing before =";
 /** @type {(name: string) => string} */
 export const equalsMissing = (name) => `= is missing after ${name}`;
 /** @type {(key: string) => string} */
 export const valueMissing = (key) => `the value of ${key} is missing`;
 /** @type {(text: string) => string} */
-export const noValueMessage = (text) => `a value is needed here, not ${text}`;
+export const noValueMessage = (text) => `a value must be here, not ${text}`;
 /** @type {(text: string) => string} */
 export const leadingZeroMessage = (text) => `a number has no leading zero; write a text in quotes: "${text}"`;
 /** @type {(text: string) => string} */
 export const needsQuotesMessage = (text) => `${text} is a text: write it in quotes: "${text}"`;
 /** @type {(maximum: number) => string} */
 export const tooDeepMessage = (maximum) => `more than ${maximum} brackets and braces are open here`;
-export const NO_BRACKET = "the closing ] is missing";
+export const BRACKET_NOT_CLOSED = "the closing ] is missing";
 export const VALUE_COMMA_MISSING = "write a comma between two values, ] after the last";
-export const NO_BRACE = "the closing } is missing in this line";
+export const BRACE_NOT_CLOSED = "the closing } is missing in this line";
 export const KEY_COMMA_MISSING = "write a comma between two keys, } after the last";
 
 // --- text/board_error.js ---
 /** @type {(name: string, line: number) => string} */
-export const alreadyThere = (name, line) => `${name} is already in line ${line}`;
+export const alreadyOnLine = (name, line) => `${name} is already on line ${line}`;
 /** @type {(line: string, chip: string) => string} */
 export const noSuchRomMessage = (line, chip) => `the board has no line ${line}: no [[rom]] has chip = ${chip}`;
 /** @type {(line: string, bank: string) => string} */
@@ -119,13 +120,13 @@ export const textSize = (size, maximum, unit) => `${size} of ${maximum} ${unit}`
 // --- text/editors.js, text/problems_view.js ---
 export const MAY_BE_MORE = "There may be more.";
 /** @type {(bytes: string) => string} */
-export const assembledAll = (bytes) => `Assembled ${bytes}; running from 000.`;
+export const assembledAndRunning = (bytes) => `Assembled ${bytes}; running from 000.`;
 /** @type {Record<string, string>} the titles of the texts, by kind */
 const TAB_NAMES = { program: "Source", board: "Board", tests: "Tests", properties: "Properties" };
 /** @type {(name: string, line: number) => string} */
-export const problemAt = (name, line) => `${TAB_NAMES[name]}, line ${line}: `;
-export const BOARD_WIRED = "Board applied.";
-export const FIRST_BOARD = "The first board's text is in Board.";
+export const problemLocation = (name, line) => `${TAB_NAMES[name]}, line ${line}: `;
+export const BOARD_APPLIED = "Board applied.";
+export const FIRST_BOARD_INSERTED = "The first board's text is in Board.";
 /** @type {(line: number, message: string, others: number) => string} */
 export const firstErrorMessage = (line, message, others) => `line ${line}: ${message}${others > 0 ? `, and ${others} more` : ""}`;
 
@@ -144,14 +145,14 @@ export const CHANGES_BY_LINE = "what this line has changed";
 export const editHint = (name) => `${name}: a double click or Enter edits it`;
 
 // --- text/name_view.js ---
-export const NO_NAME = "There is no name of this text at the caret.";
+export const NO_NAME = "There is no name at the caret.";
 export const PLACES_OF_NAME = "Locations of a name";
 /** @type {(name: string, places: string) => string} */
 export const nameIsAt = (name, places) => `${name} is at ${places} `;
 /** @type {(line: number, isDefinition: boolean) => string} */
 export const lineOfName = (line, isDefinition) => `line ${line}${isDefinition ? ", where it is defined" : ""}`;
 /** @type {(name: string) => string} */
-export const otherName = (name) => `Another name for ${name}`;
+export const renameLabel = (name) => `Another name for ${name}`;
 export const RENAME = "Rename";
 /** @type {(oldName: string, newName: string, places: string) => string} */
 export const renamedMessage = (oldName, newName, places) => `${oldName} is now ${newName}, at ${places}.`;
@@ -167,7 +168,7 @@ export const noRomForLineMessage = (chip, address) => (
 
 // --- text/program_format.js ---
 /** @type {(maximum: string, size: string) => string} */
-export const layoutTooLong = (maximum, size) => `in columns the program would have ${size} characters; at most ${maximum} are accepted`;
+export const formattedTooLong = (maximum, size) => `formatted, the program would have ${size} characters; at most ${maximum} are accepted`;
 
 // --- text/program_words.js ---
 /** The terms of other assemblers, each with its replacement in the bench's syntax. */
@@ -209,7 +210,7 @@ export const operandExpected = (instruction, operands) => `${instruction} takes 
 export const operandExpectedAfterComma = (instruction, operand) => `${instruction} takes ${operand}, after the comma`;
 export const NO_WPM = "this bench has no WPM: a program cannot write its ROM";
 /** @type {(name: string, number: string) => string} */
-export const nameGetsNumber = (name, number) => `define a name with =: ${name} = ${number}`;
+export const definitionSyntax = (name, number) => `define a name with =: ${name} = ${number}`;
 /** @type {(name: string, question: string) => string} */
 export const noInstructionMessage = (name, question) => `${name} is not an instruction${question}`;
 /** @type {(name: string) => string} */
@@ -219,26 +220,26 @@ export const orgSyntax = (reason) => `ORG takes one number, 0 to 4095 (0xFFF)${r
 export const DB_SYNTAX = "DB takes bytes, 0 to 255, separated by commas";
 /** @type {(reason: string) => string} */
 export const equalsSyntax = (reason) => `write one number after =${reason}`;
-export const COLON_SYNTAX = "a name is missing before the colon";
+export const LABEL_NAME_MISSING = "a name is missing before the colon";
 /** @type {(name: string) => string} */
-export const takesNothing = (name) => `${name} takes no operand`;
-export const AND_AFTER = ", and ";
+export const takesNoOperand = (name) => `${name} takes no operand`;
+export const OPERAND_SEPARATOR = ", and ";
 /** @type {(name: string, operands: string, hasExtraOperand: boolean) => string} */
 export const operandCountMessage = (name, operands, hasExtraOperand) => `${name} takes ${operands}${hasExtraOperand ? ", no more" : ""}`;
-export const NAME_VALUE_RANGE = "the number of a name is 0 to 4095";
+export const NAME_VALUE_RANGE = "the value of a name is 0 to 4095";
 export const ORG_ADDRESS = "an address, 0 to 4095";
 /** @type {(name: string, operands: string, extra: string) => string} */
 export const wrongOperandMessage = (name, operands, extra) => `${name} takes ${operands}${extra}`;
 /** @type {(operand: string) => string} */
-export const extraOperandNote = (operand) => `; ${operand} is more`;
+export const extraOperandNote = (operand) => `; ${operand} is one too many`;
 /** @type {(name: string, suggestion: string) => string} */
 export const notDefinedMessage = (name, suggestion) => `${name} is not defined${suggestion}`;
 /** @type {(name: string, line: number|undefined) => string} */
-export const definedBefore = (name, line) => `${name} is already defined in line ${line}`;
+export const alreadyDefinedOnLine = (name, line) => `${name} is already defined on line ${line}`;
 /** @type {(name: string, head: string) => string} */
 export const otherPageMessage = (name, head) => `${name} is on another page; ${head} reaches the page of the address after its two words`;
 export const IT = "it";
-export const BYTE_TWICE = "an earlier line has put a byte at this address; check the ORG lines";
+export const ADDRESS_ALREADY_FILLED = "an earlier line has put a byte at this address; check the ORG lines";
 
 // --- text/property_words.js ---
 export const INPUTS_TITLE = "Inputs";
@@ -257,7 +258,7 @@ export const nameIsInstructionMessage = (name) => `${name} is an instruction.`;
 /** @type {(name: string) => string} */
 export const nameIsRegisterMessage = (name) => `${name} is a register.`;
 /** @type {(name: string, line: number) => string} */
-export const alreadyDefinedMessage = (name, line) => `${name} is already defined in line ${line}.`;
+export const alreadyDefinedMessage = (name, line) => `${name} is already defined on line ${line}.`;
 
 // --- text/search_bar.js ---
 /** @type {(label: string) => string} */
@@ -285,7 +286,7 @@ export const sampleTest = (key, milliseconds, condition) => [
   `${ABOUT_TESTS}test ${milliseconds} ms after ${key === "" ? "power-on" : `the key ${key}`}`,
   ...(key === "" ? [] : [`  press ${key}`]), `  run ${milliseconds} ms`, `  expect ${condition}`, "",
 ].join("\n");
-export const SAMPLE_OF_CYCLES = `${ABOUT_TESTS}test it has run for 100 cycles\n  run 100\n  expect cycles 100\n`;
+export const SAMPLE_CYCLE_TEST = `${ABOUT_TESTS}test it has run for 100 cycles\n  run 100\n  expect cycles 100\n`;
 
 // --- text/test_words.js ---
 export const LINES_OF_TEST = "The lines of a test";
@@ -296,22 +297,22 @@ export const TAB_INDENTS = "Tab indents. Escape and then Tab leaves the text.";
 
 // --- text/sendable_text.js ---
 /** @type {(character: string) => string} */
-export const otherQuote = (character) => `${character} is not the ASCII quotation mark "`;
+export const notAsciiQuote = (character) => `${character} is not the ASCII quotation mark "`;
 export const NON_BREAKING_SPACE_HINT = "a non-breaking space (U+00A0); write a plain space";
 /** @type {(code: string) => string} */
 export const invisibleCharacter = (code) => `an invisible character (U+${code}); delete it`;
 export const CONTROL_CHARACTER = "a control character; only tabs and printable ASCII characters can be sent";
 /** @type {(character: string) => string} */
-export const otherCharacter = (character) => `${character} is not an ASCII character; it can be only in comments`;
-export const DOT_ENDS = "a line with only a dot would end the text here";
+export const notAsciiCharacter = (character) => `${character} is not an ASCII character; it is allowed only in comments`;
+export const DOT_ENDS_TEXT = "a line with only a dot would end the text here";
 /** @type {(maximum: number, length: number) => string} */
 export const lineTooLong = (maximum, length) => `a line has at most ${maximum} characters without its comment; this has ${length}`;
 /** @type {(maximum: string, size: string) => string} */
 export const textTooLong = (maximum, size) => (
-  `a text has at most ${maximum} bytes without its comments; this one has ${size} and passes the limit here`);
+  `a text has at most ${maximum} bytes without its comments; this one has ${size} and exceeds the limit here`);
 
 // --- text/text_help.js ---
-export const CARRY_UNCHANGED = ". The carry stays";
+export const CARRY_UNCHANGED = ". The carry does not change";
 /** @type {(pair: number, upper: number, lower: number) => string} */
 export const describePair = (pair, upper, lower) => `P${pair}: the pair of R${upper} (upper four bits) and R${lower} (lower four bits).`;
 /** @type {(register: number, isUpper: boolean, pair: number) => string} */
@@ -319,8 +320,8 @@ export const describeRegister = (register, isUpper, pair) => `R${register}: the 
 export const ORG_HELP = "ORG n: the next statement is at address n, 0 to 4095.";
 export const DB_HELP = "DB v, v, ..: bytes, each 0 to 255.";
 /** @type {(name: string, line: number) => string} */
-export const definedInLine = (name, line) => `${name}: defined in line ${line}.`;
-export const KEYS_OF_TEXT = "The TOML keys";
+export const definedInLine = (name, line) => `${name}: defined on line ${line}.`;
+export const TOML_KEYS_TITLE = "The TOML keys";
 /** @type {(name: string, table: string, values: string) => string} */
 export const describeKey = (name, table, values) => `${name} of ${table}: ${values}.`;
 

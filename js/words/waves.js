@@ -3,7 +3,7 @@
 // --- waves/live_waves.js ---
 /** @type {Record<string, string>} the reasons why a recording ended */
 export const END_REASONS = {
-  hand: "Stopped by you.",
+  hand: "You stopped it.",
   back: "It ended when the session went back or forward.",
   board: "It ended when the board was wired again.",
   program: "It ended when other bytes were put into ROM.",
@@ -19,11 +19,11 @@ export const recordedDuration = (duration, trigger) => `Recorded ${duration}.${t
 export const recordedUntil = (duration, endReason, trigger) => `Recorded ${duration}. ${endReason}${trigger}`;
 export const NOTHING = "nothing";
 /** @type {(trigger: string) => string} */
-export const recordsAfter = (trigger) => `Recording the cycles after the trigger.${trigger}`;
+export const recordingAfterTrigger = (trigger) => `Recording the cycles after the trigger.${trigger}`;
 export const RECORDS_WHEN_RUNNING = "Records as soon as the machine runs.";
 export const RECORDING = "Recording.";
 /** @type {(trigger: string) => string} */
-export const waitsFor = (trigger) => ` Waiting for ${trigger}.`;
+export const waitingForTrigger = (trigger) => ` Waiting for ${trigger}.`;
 
 // --- waves/scope.js ---
 export const RECORD = "Record";
@@ -36,7 +36,7 @@ export const triggerNotUnderstood = (error) => `The trigger is not understood: $
 export const STOP_RECORDING = "Stop recording";
 /** @type {(query: string, isForward: boolean, cycle: string) => string} */
 export const notFoundMessage = (query, isForward, cycle) => (
-  `${query}: not ${isForward ? "after" : "before"} cycle ${cycle} of this recording.`);
+  `${query}: not found ${isForward ? "after" : "before"} cycle ${cycle} of this recording.`);
 export const NO_LINE_CHOSEN = "No line is chosen: choose the lines for the file.";
 
 // --- waves/trigger.js ---
@@ -91,8 +91,8 @@ export const TITLES = {
 };
 
 // --- waves/wave_choice.js, waves/wave_catalog.js ---
-/** @type {(names: string, isOne: boolean) => string} */
-export const recordedNext = (names, isOne) => `${names} ${isOne ? "is" : "are"} recorded from the next recording on.`;
+/** @type {(names: string) => string} */
+export const inNextRecording = (names) => `${names} will be in the next recording.`;
 
 /** @type {(group: string) => string} */
 export const titleOfChip = (group) => group.replace(/^rom/, "ROM ").replace(/^ram/, "RAM ").replace(/^chain/, "Chain ");
@@ -131,7 +131,7 @@ export const searchQuestion = (forms) => `Enter a search: ${forms}.`;
 export const noLabelMessage = (label) => `The program of this recording has no label ${label}.`;
 /** @type {(name: string) => string} */
 export const notRecordedMessage = (name) => `Nothing that was recorded is called ${name}: select it and record again.`;
-export const NO_LINE_MARKED = "No row is selected: click one first.";
+export const NO_ROW_SELECTED = "No row is selected: click one first.";
 /** @type {(name: string) => string} */
 export const decodedRowMessage = (name) => `${name} is decoded: search for its next change, or for a key of the key scan.`;
 /** @type {(name: string) => string} */
@@ -155,7 +155,7 @@ export const cursorAt = (name, cycle, time, instruction) => `${name}: cycle ${cy
 export const valueIs = (name, value) => `${name} is ${value}, `;
 /** @type {(value: string, cycle: string, instruction: string) => string} */
 export const cursorDescription = (lineValue, cycle, instruction) => `${lineValue}cycle ${cycle}, ${instruction}`;
-export const NOTHING_BEFORE = "Nothing was recorded: no cycle was done since the session was opened or wired.";
+export const NOTHING_HAS_RUN = "Nothing was recorded: no cycle has run since the session was opened or its board was wired.";
 /** @type {(cycles: string, time: string) => string} */
 export const recordedSpan = (cycles, time) => `${cycles} recorded, ${time}.`;
 /** @type {(text: string) => string} */
@@ -168,4 +168,4 @@ export const noFurtherBackMessage = (text) => `${text} The remembered past reach
 export const noSuchLineMessage = (name) => `the board has no line ${name}; mcs4 wave --lines SESSION prints the names of its lines`;
 export const LABEL_NEEDS_PROGRAM = "`label` needs the program that is in ROM: --names PROGRAM";
 /** @type {(name: string) => string} */
-export const lineTwice = (name) => `the line ${name} is given twice`;
+export const lineRepeated = (name) => `the line ${name} is given twice`;

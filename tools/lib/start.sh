@@ -25,14 +25,14 @@ case ${XDG_CACHE_HOME:-} in
         *) cache= ;;
     esac ;;
 esac
-names=
+encoded_top=
 remaining_path=$top
 while [ "$remaining_path" != "${remaining_path#*/}" ]; do
-    names=$names${remaining_path%%/*}%
+    encoded_top=$encoded_top${remaining_path%%/*}%
     remaining_path=${remaining_path#*/}
 done
-names=$cache/$names$remaining_path.names
-stamps=${names%.names}.seen
+names_file=$cache/$encoded_top$remaining_path.names
+stamps_file=$cache/$encoded_top$remaining_path.seen
 # A line for each program that this user has built, with the checksums of its sources and of its bytes. The file is outside the tree: a tree
 # from somebody else could contain a program and a forged file.
 build_record=$cache/built
@@ -46,14 +46,14 @@ file_stamps() {
 # user could have written.
 read_cache() {
     if [ -z "$cache" ] || [ ! -O "$cache" ]; then return 1; fi
-    for cache_file in "$names" "$stamps"; do
+    for cache_file in "$names_file" "$stamps_file"; do
         if [ -h "$cache_file" ] || [ ! -O "$cache_file" ]; then return 1; fi
     done
-    file_stamps "$names" | {
+    file_stamps "$names_file" | {
         read -r mode _
-        [ "$mode" = 700 ] && exec cmp -s - "$stamps"
+        [ "$mode" = 700 ] && exec cmp -s - "$stamps_file"
     } || return 1
-    read -r program < "$names"
+    read -r program < "$names_file"
     program=$top/$program
 }
 
@@ -71,9 +71,10 @@ write_cache() {
     {
         echo "${program#"$top/"}"
         list_start_files
-    } > "$names.$$" && file_stamps "$names.$$" | sed 1d > "$stamps.$$" && cmp -s "$stamps.$$" "$stamps.$$.before" &&
-        awk -v now="$(date +%s)" '$4 >= now - 3 || $5 >= now - 3 { young = 1 } END { exit young || NR < 10 }' "$stamps.$$" &&
-        rm -f -- "$stamps" && mv -f "$names.$$" "$names" && mv -f "$stamps.$$" "$stamps"
+    } > "$names_file.$$" && file_stamps "$names_file.$$" | sed 1d > "$stamps_file.$$" &&
+        cmp -s "$stamps_file.$$" "$stamps_file.$$.before" &&
+        awk -v now="$(date +%s)" '$4 >= now - 3 || $5 >= now - 3 { young = 1 } END { exit young || NR < 10 }' "$stamps_file.$$" &&
+        rm -f -- "$stamps_file" && mv -f "$names_file.$$" "$names_file" && mv -f "$stamps_file.$$" "$stamps_file"
 }
 
 # Succeeds if a program runs on this system: without arguments it prints its usage, with status 2. Sets `output` to its output, or to the
@@ -169,12 +170,12 @@ find_program() {
         (umask 077 && {
             echo
             list_start_files
-        } > "$names.$$" && file_stamps "$names.$$" | sed 1d > "$stamps.$$.before") 2> /dev/null || can_cache=
+        } > "$names_file.$$" && file_stamps "$names_file.$$" | sed 1d > "$stamps_file.$$.before") 2> /dev/null || can_cache=
     fi
     find_by_sources
     if [ -n "$can_cache" ]; then
         if [ -n "$program" ]; then (umask 077 && write_cache) 2> /dev/null || :; fi
-        rm -f -- "$names.$$" "$stamps.$$" "$stamps.$$.before"
+        rm -f -- "$names_file.$$" "$stamps_file.$$" "$stamps_file.$$.before"
     fi
 }
 

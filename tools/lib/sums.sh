@@ -114,7 +114,7 @@ list_start_files() {
     } | tr '\n' '\000'
 }
 
-# Prints the word after a name in shipped/SUMS.
+# Prints what shipped/SUMS has for a name: a checksum, or the version of the kit.
 shipped_sum() {
     awk -v name="$1" '$1 == name { print $2 }' < "$sums"
 }

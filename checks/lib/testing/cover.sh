@@ -92,7 +92,7 @@ verdict "$(sed -n 's/^DA://p' "$folder/calc.info")" "$(awk '
         if (text ~ /^[ \t]*[A-Za-z]/ && text !~ /=|ORG|DB/) print FNR "," runs[at[++k]] + 0
     }
 ' "$folder/answers" "$folder/listing" $calculator/calculator.asm)" "counts of \`cover\`, and of steps"
-check_rejected 1 "cover: the session has another program than $lock/lock.asm: 001 has 24, and line 16 makes 2C" \
+check_rejected 1 "cover: the session's program differs from $lock/lock.asm: 001 has 24, but line 16 makes 2C" \
     ./mcs4 cover --session "$folder/calc.mcs" 100 $lock/lock.asm
 check_rejected 1 "cover: cannot write $folder/none/x.info: its folder does not exist or cannot be written" ./mcs4 cover --lcov "$folder/none/x.info" --session "$folder/calc.mcs" 10 $calculator/calculator.asm
 check_usage_error "CYCLES: '0' is not a decimal number from 1 to 100000000" ./mcs4 cover --session "$folder/calc.mcs" 0 $calculator/calculator.asm

@@ -40,12 +40,12 @@ test: $folder/bad.test:11: a line of a test cannot begin with \`foo\`; it can be
 test: $folder/bad.test:12: \`from\` must be right below \`test\`
 test: $folder/bad.test:13: the board has no key z, nor 12z; it has: 1 2 3 4 5 6 7 8 9 * 0 #
 test: $folder/bad.test:14: write \`until CONDITION within TIME\`
-test: $folder/bad.test:17: no earlier test saves a state b; there is: a
-test: $folder/bad.test:18: a test has a name: test NAME
+test: $folder/bad.test:17: no earlier test saves a state b; saved states: a
+test: $folder/bad.test:18: a test needs a name: test NAME
 test: $folder/bad.test:19: chain 0 has 10 bits, each 0, 1, or ? for any (column 10)
 test: $folder/bad.test:20: the board has no ROM 2 (column 10)
 test: $folder/bad.test:21: write \`cycles TIME\`, \`cycles at most TIME\` or \`cycles at least TIME\` (column 10)
-test: $folder/bad.test:22: write \`pace TIME TIME\`: how long a key is down, and how long it is up after it" \
+test: $folder/bad.test:22: write \`pace TIME TIME\`: how long each key is down, and how long it is up before the next key" \
     ./mcs4 test $lock/board.toml $lock/lock.asm "$folder/bad.test"
 cat > "$folder/bad_steps.test" <<'end_of_tests'
 steps
@@ -76,17 +76,17 @@ test a
     end
     save y
 end_of_tests
-check_rejected 1 "test: $folder/bad_steps.test:1: shared steps have a name of one word: steps NAME
+check_rejected 1 "test: $folder/bad_steps.test:1: shared steps need a name of one word: steps NAME
 test: $folder/bad_steps.test:4: the steps one cannot run themselves
 test: $folder/bad_steps.test:5: shared steps have no states: \`save\` belongs in a test
-test: $folder/bad_steps.test:6: there are no steps two before this line; \`steps two\` starts them
+test: $folder/bad_steps.test:6: there are no steps two before this line; define them with \`steps two\`
 test: $folder/bad_steps.test:7: shared steps have no states: \`from\` belongs in a test
-test: $folder/bad_steps.test:8: the steps one are already at line 3
+test: $folder/bad_steps.test:8: the steps one are already defined at line 3
 test: $folder/bad_steps.test:10: write \`repeat COUNT\`, 1 to 100,000: the lines down to its \`end\` are run COUNT times
 test: $folder/bad_steps.test:11: write \`repeat COUNT\`, 1 to 100,000: the lines down to its \`end\` are run COUNT times
 test: $folder/bad_steps.test:14: there is no \`repeat\` for this \`end\`
 test: $folder/bad_steps.test:15: write \`do STEPS\`, the name of shared steps
-test: $folder/bad_steps.test:16: there are no steps three before this line; there are: one
+test: $folder/bad_steps.test:16: there are no steps three before this line; shared steps: one
 test: $folder/bad_steps.test:17: r16: no such place; the registers are r0 to r15
 test: $folder/bad_steps.test:18: the board has no key x; it has: 1 2 3 4 5 6 7 8 9 * 0 #
 test: $folder/bad_steps.test:19: to choose a key by a value, write \`{PLACE}\` or \`{PLACE:KEY,KEY}\`; places are acc, cy, dcl, r0 to r15, ram.B.S and st.B.H.K
@@ -108,7 +108,7 @@ test: $folder/no.test:9: the board has no key {, nor {r1; it has: 1 2 3 4 5 6 7 
 test: $folder/no.test:10: the board has no key {, nor {}; it has: 1 2 3 4 5 6 7 8 9 * 0 #" \
     ./mcs4 test $lock/board.toml $lock/lock.asm "$folder/no.test"
 printf 'hello\n' > "$folder/no.test"
-check_rejected 1 "test: $folder/no.test:1: a text of tests begins with \`test NAME\`, and this is: hello" \
+check_rejected 1 "test: $folder/no.test:1: tests begin with \`test NAME\`, but this line is: hello" \
     ./mcs4 test $lock/board.toml $lock/lock.asm "$folder/no.test"
 printf '# nothing\n' > "$folder/no.test"
 check_rejected 1 "test: $folder/no.test:1: there is no line \`test NAME\`" ./mcs4 test $lock/board.toml $lock/lock.asm "$folder/no.test"

@@ -12,7 +12,7 @@ verdict "$(outcome ./mcs4 profile --session "$folder/inside.mcs" 4 $three_lamps/
 
 label             at          own  own %     calls with calls    longest
 turn              016           3   75.0
-(begun before)                  1   25.0
+(begun earlier)                 1   25.0
 status 0" "the cycles of a session that begins and ends within instructions"
 printf 'test t\nrun 5\nrun 4\n' > "$folder/odd.test"
 printf 'y: NOP\n NOP\nx: JUN x\n' > "$folder/odd.asm"

@@ -1,4 +1,4 @@
-# Checks that mcs4 test repeats lines, runs shared steps, chooses keys by values, and reports the label that was passed last.
+# Checks that mcs4 test repeats lines, runs shared steps, chooses keys by values, and reports the label that was last passed.
 # shellcheck shell=sh
 
 # Each lamp is on for 538 cycles. These times are counted from the cycle in which a lamp turns on. The iterations of the delay loop begin after 4, 6,
@@ -61,22 +61,22 @@ test not in this test
 end_of_tests
 verdict "$(outcome ./mcs4 test $three_lamps/board.toml $three_lamps/three_lamps.asm "$folder/shared.test" | results)" "ok 1 - it goes round
 not ok 2 - once more
-  message: \"it did not become true within 1609 cycles: pc is 003 (first), within an instruction, but must be @first; the last label passed is turn, 13 cycles ago; @first was passed last 1613 cycles ago\"
+  message: \"it did not become true within 1609 cycles: pc is 003 (first), within an instruction, but must be @first; the last label passed is turn, 13 cycles ago; @first was last passed 1613 cycles ago\"
   at: \"$folder/shared.test:26\"
 not ok 3 - it fails in the second turn
-  message: \"lamps are *.., but must not be *..; lit: left; in turn 2 of 5 of line 31, in turn 1 of 3 of line 29\"
+  message: \"lamps are *.., but must not be *..; lit: left; in pass 2 of 5 of the repeat at line 31, in pass 1 of 3 of the repeat at line 29\"
   at: \"$folder/shared.test:33\"
 not ok 4 - it fails in shared steps
-  message: \"it did not become true within 556 cycles: lamps are ..*, but must not be ..*; lit: right; the last label passed is turn, 2 cycles ago; in turn 1 of 2 of line 5, in the steps turn of line 39\"
+  message: \"it did not become true within 556 cycles: lamps are ..*, but must not be ..*; lit: right; the last label passed is turn, 2 cycles ago; in pass 1 of 2 of the repeat at line 5, in the steps turn called at line 39\"
   at: \"$folder/shared.test:6\"
 not ok 5 - a label before
-  message: \"it did not become true within 4 cycles: pc is 016 (turn), but must be @first; the last label passed is turn, 2 cycles ago; @first was passed last 10 cycles ago\"
+  message: \"it did not become true within 4 cycles: pc is 016 (turn), but must be @first; the last label passed is turn, 2 cycles ago; @first was last passed 10 cycles ago\"
   at: \"$folder/shared.test:42\"
 not ok 6 - a place before
-  message: \"it did not become true within 3 cycles: pc is 004 (first + 1), but must be 0; the last label passed is first, 1 cycle ago; pc 0 was passed last 4 cycles ago\"
+  message: \"it did not become true within 3 cycles: pc is 004 (first + 1), but must be 0; the last label passed is first, 1 cycle ago; pc 0 was last passed 4 cycles ago\"
   at: \"$folder/shared.test:45\"
 not ok 7 - long ago
-  message: \"it did not become true within 10 cycles: pc is 018 (turn + 2), within an instruction, but must be @next; the last label passed is turn, 249993 cycles ago; @next was passed last 250005 cycles ago\"
+  message: \"it did not become true within 10 cycles: pc is 018 (turn + 2), within an instruction, but must be @next; the last label passed is turn, 249993 cycles ago; @next was last passed 250005 cycles ago\"
   at: \"$folder/shared.test:50\"
 not ok 8 - not in this test
   message: \"it did not become true within 1 cycles: pc is 002, but must be @first; @first was not passed in this test\"
@@ -120,7 +120,7 @@ not ok 3 - no such key
   message: \"ram.0.0x21 is 10, and the board has no key 10, nor A\"
   at: \"$folder/chosen.test:20\"
 not ok 4 - no such key of two
-  message: \"ram.0.0x20 is 4, and {ram.0.0x20:1,2} has 2 keys; in turn 1 of 3 of line 23\"
+  message: \"ram.0.0x20 is 4, and {ram.0.0x20:1,2} has 2 keys; in pass 1 of 3 of the repeat at line 23\"
   at: \"$folder/chosen.test:24\"
 not ok 5 - no such key of one
   message: \"r5 is 2, and {r5:1} has 1 key\"

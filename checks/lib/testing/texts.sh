@@ -35,19 +35,19 @@ printf 'steps opened\n expect lamps open\nsteps enter # the code\n keys 4711#\n 
 printf 'test it opens\n run 100 ms\n do enter\ntest it does not\n run 100 ms\n keys 3\n do enter\n' > "$folder/opens.test"
 verdict "$(outcome ./mcs4 test $lock/board.toml $lock/lock.asm "$folder/steps.test" "$folder/opens.test" | results)" "ok 1 - it opens
 not ok 2 - it does not
-  message: \"lamps are *.., but must be .*.; lit: locked; in the steps opened of line 5, in the steps enter of $folder/opens.test:7\"
+  message: \"lamps are *.., but must be .*.; lit: locked; in the steps opened called at line 5, in the steps enter called at $folder/opens.test:7\"
   at: \"$folder/steps.test:2\"
 status 1" "shared steps of another text"
 check_rejected 1 "test: $folder/steps.test:1: there is no line \`test NAME\`" ./mcs4 test $lock/board.toml $lock/lock.asm "$folder/steps.test"
-check_rejected 1 "test: $folder/opens.test:3: there are no steps enter before this line; \`steps enter\` starts them
-test: $folder/opens.test:7: there are no steps enter before this line; \`steps enter\` starts them" \
+check_rejected 1 "test: $folder/opens.test:3: there are no steps enter before this line; define them with \`steps enter\`
+test: $folder/opens.test:7: there are no steps enter before this line; define them with \`steps enter\`" \
     ./mcs4 test $lock/board.toml $lock/lock.asm "$folder/opens.test" "$folder/steps.test"
 verdict "$(outcome ./mcs4 cover $lock/board.toml $lock/lock.asm "$folder/steps.test" "$folder/opens.test" | sed -n '/^status/p; /instructions were run/s/ (.*//p')" \
     "$(cat "$folder/steps.test" "$folder/opens.test" > "$folder/joined.test"
     outcome ./mcs4 cover $lock/board.toml $lock/lock.asm "$folder/joined.test" | sed -n '/^status/p; /instructions were run/s/ (.*//p')" "the coverage by two texts"
 cp "$folder/steps.test" "$folder/again.test"
-check_rejected 1 "test: $folder/again.test:1: the steps opened are already at $folder/steps.test:1
-test: $folder/again.test:3: the steps enter are already at $folder/steps.test:3" \
+check_rejected 1 "test: $folder/again.test:1: the steps opened are already defined at $folder/steps.test:1
+test: $folder/again.test:3: the steps enter are already defined at $folder/steps.test:3" \
     ./mcs4 test $lock/board.toml $lock/lock.asm "$folder/steps.test" "$folder/again.test" "$folder/opens.test"
 
 # Checks pipes and standard input instead of files.
@@ -67,7 +67,7 @@ status 1" "an error in a program on standard input"
 echo "first line" > "$folder/first.pipe.test"
 cat "$folder/first.pipe.test" > "$folder/test.pipe" &
 verdict "$(outcome ./mcs4 test $lock/board.toml $lock/lock.asm "$folder/test.pipe")" \
-    "test: $folder/test.pipe:1: a text of tests begins with \`test NAME\`, and this is: first line
+    "test: $folder/test.pipe:1: tests begin with \`test NAME\`, but this line is: first line
 status 1" "an error in a test from a pipe"
 check_rejected 1 "test: - is empty" ./mcs4 test $lock/board.toml - "$folder/first.test"
 

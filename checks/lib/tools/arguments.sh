@@ -81,8 +81,8 @@ check_usage_error "there is no option --frobnicate" ./mcs4 listing --frobnicate 
 check_usage_error "there is no option -n" ./mcs4 listing -n $lock/lock.asm
 check_usage_error "--names takes no value" ./mcs4 listing --names=3 $lock/lock.asm
 check_usage_error "--names is given twice" ./mcs4 listing --names --names $lock/lock.asm
-check_usage_error "--names and --labels exclude each other" ./mcs4 listing --names --labels $lock/lock.asm
-for arguments in "-C $lock" "--seconds 3" "--jobs 2" "--seed 4" --allow-model; do check_usage_error "--merge and ${arguments%% *} exclude each other" ./mcs4 explore $arguments --merge x; done
+check_usage_error "--names and --labels cannot be combined" ./mcs4 listing --names --labels $lock/lock.asm
+for arguments in "-C $lock" "--seconds 3" "--jobs 2" "--seed 4" --allow-model; do check_usage_error "--merge and ${arguments%% *} cannot be combined" ./mcs4 explore $arguments --merge x; done
 check_usage_error "FOLDER is missing after -C" ./mcs4 listing -C
 check_usage_error "FOLDER is missing after --folder" ./mcs4 listing --folder --names
 check_usage_error "SEED: '-1' is not a decimal number from 1 to 99999999" ./mcs4 explore --seed -1

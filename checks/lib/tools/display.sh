@@ -44,7 +44,7 @@ printf 'session 0\nlamps .**.....*...\n' > "$folder/answers"
 verdict "$(outcome ./mcs4 display examples/clock/board.toml < "$folder/answers")" "display: line 2 of the answers has the lamps at an instant, and the digits of examples/clock/board.toml are multiplexed; \`trace 2778 lamps\` reports what is perceived in 30 ms
 status 1" "the lamps at one instant of a multiplexed display"
 printf 'trace ran 2778 end lines 2 .**.....*...\n5 000 .**.........\n' > "$folder/answers"
-verdict "$(outcome ./mcs4 display examples/clock/board.toml < "$folder/answers")" "display: the answers end within one to \`trace\`
+verdict "$(outcome ./mcs4 display examples/clock/board.toml < "$folder/answers")" "display: the answers end in the middle of an answer to \`trace\`
 status 1" "an answer that is cut off"
 printf 'trace ran 2778 end lines 0 .**.\n' > "$folder/answers"
 verdict "$(outcome ./mcs4 display examples/clock/board.toml < "$folder/answers")" "display: line 1 of the answers has 4 lamps, and the display of examples/clock/board.toml needs 12

@@ -102,9 +102,9 @@ line 1: no 21, line 10 of the text: lamp is not a key of chain, which has clock,
     lamp = 3
 line 13: no 25, line 3 of the text: the board has no line ram3.0.0: no [[ram]] has bank = 3
         { line = "rom0.3" }, { line = "ram3.0.0" },
-line 34: no 24, line 10 of the text: chip 1 is already in line 1
+line 34: no 24, line 10 of the text: chip 1 is already on line 1
     chip = 1
-line 49: no 20, line 3 of the text: a value is needed here, not =
+line 49: no 20, line 3 of the text: a value must be here, not =
     chips = = 4
 line 55: no 33, line 2 of the text: LDM takes a value, 0 to 15
      LDM 16
@@ -166,7 +166,7 @@ line 13: no 12, line 1 of the text: a line of more than 255 bytes
     ; x
 status 1" "lines of texts that the answer does not name"
 printf ' NOP\n NO\303\244P ; \303\244\n' > "$folder/faulty.asm"
-check_rejected 1 "script: $folder/faulty.asm: line 2: no 14: $(printf '\303\244') is not an ASCII character; it can be only in comments
+check_rejected 1 "script: $folder/faulty.asm: line 2: no 14: $(printf '\303\244') is not an ASCII character; it is allowed only in comments
 script:      NO$(printf '\303\244')P ; $(printf '\303\244')" ./mcs4 script $three_lamps/board.toml "$folder/faulty.asm"
 printf ' NOP\n ORG 0x100\n NOP\n' > "$folder/faulty.asm"
 check_rejected 1 "script: $folder/faulty.asm: line 3: no 42: this line is at 100, and the board has no ROM 1: wire a [[rom]] with chip = 1

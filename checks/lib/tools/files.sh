@@ -67,9 +67,9 @@ check_rejected 1 "back: cannot read $folder/pipe: it is not a regular file" time
 check_rejected 1 "trace: cannot read $folder/pipe: it is not a regular file" timeout -s KILL 20 ./mcs4 trace "$folder/pipe" 10
 ln -s none "$folder/dangling"
 check_rejected 1 "project: cannot make $folder/dangling: something else has its name" ./mcs4 project split examples/a_fault_to_find.mcsp "$folder/dangling"
-check_rejected 1 "rom: no answers on standard input; it reads what mcs4 has answered, as in: mcs4 rom save FIRST COUNT < ANSWERS" ./mcs4 rom save 0 1
-check_rejected 1 "cycles: no answers on standard input; it reads what mcs4 has answered, as in: mcs4 cycles .. < ANSWERS" ./mcs4 cycles
-check_rejected 1 "explain: no answers on standard input; it reads what mcs4 has answered, as in: mcs4 explain .. < ANSWERS" ./mcs4 explain "$folder/two.txt"
+check_rejected 1 "rom: standard input has no answers; redirect the answers of mcs4 to it, as in: mcs4 rom save FIRST COUNT < ANSWERS" ./mcs4 rom save 0 1
+check_rejected 1 "cycles: standard input has no answers; redirect the answers of mcs4 to it, as in: mcs4 cycles .. < ANSWERS" ./mcs4 cycles
+check_rejected 1 "explain: standard input has no answers; redirect the answers of mcs4 to it, as in: mcs4 explain .. < ANSWERS" ./mcs4 explain "$folder/two.txt"
 check_rejected 1 "panel: standard input and output must be a terminal" ./mcs4 panel $lock/board.toml "$folder/session.mcs"
 check_rejected 2 "panel: SESSION is missing
 usage: mcs4 panel [-C FOLDER] [--stopped] [--source PROGRAM] [BOARD] SESSION" ./mcs4 panel $lock/board.toml

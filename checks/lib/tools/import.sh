@@ -163,23 +163,23 @@ START, NOP
        DB
 source
 sed '12s/START, //' "$folder/bad.src" > "$folder/bad2.src"
-check_rejected 1 "import: $folder/bad.src:12: the name START is also defined in line 11" ./mcs4 import "$folder/bad.src"
+check_rejected 1 "import: $folder/bad.src:12: the name START is also defined on line 11" ./mcs4 import "$folder/bad.src"
 check_rejected 1 "import: $folder/bad2.src:1: \`JMP\` is neither an instruction nor a directive that is supported
 import: $folder/bad2.src:2: the value of \`Y\` depends on itself
 import: $folder/bad2.src:3: the value of \`X\` depends on itself
 import: $folder/bad2.src:4: \`16\` is 16; it must be 0 to 15
-import: $folder/bad2.src:5: a pair begins at an even register, 0 to 14, and \`3<\` does not; if it is the number of a pair, write 3P
+import: $folder/bad2.src:5: \`3<\` is not an even register, 0 to 14, at which a pair begins; if it is the number of a pair, write 3P
 import: $folder/bad2.src:6: \`2\` is not a pair; pairs are 0P to 7P, or 0<, 2< to 14< by their first register
-import: $folder/bad2.src:7: NC means no condition (0) for Intel, and no carry (10) for AS: write 0 or 10
+import: $folder/bad2.src:7: NC means no condition (0) in Intel's syntax, but no carry (10) in that of AS: write 0 or 10
 import: $folder/bad2.src:8: INCLUDE is not supported; write the lines that it stands for
 import: $folder/bad2.src:9: HLT is an instruction of the 4040
 import: $folder/bad2.src:10: WPM writes program RAM, which a board here does not have
 import: $folder/bad2.src:13: no line defines the name nowhere
 import: $folder/bad2.src:14: an operand is missing
 import: $folder/bad2.src:15: a bracket is missing
-import: $folder/bad2.src:16: ADD is written with one operand
-import: $folder/bad2.src:17: NOP has no operand
-import: $folder/bad2.src:18: ISZ is written with two operands
+import: $folder/bad2.src:16: ADD takes one operand
+import: $folder/bad2.src:17: NOP takes no operand
+import: $folder/bad2.src:18: ISZ takes two operands
 import: $folder/bad2.src:19: DB has no values" ./mcs4 import "$folder/bad2.src"
 printf ' NOP\n JCN AZ, FAR / too far\n ORG 300H\nFAR, NOP\n' > "$folder/far.src"
 check_rejected 1 "import: $folder/far.src: line 2: no 34: an address on another page; JCN and ISZ reach the page of the address after their two words

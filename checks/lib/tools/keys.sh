@@ -20,9 +20,9 @@ status 0" "keys in a comment with another spelling"
 sed 's/# row 0: 1 2 3/# row 0: 1 2 3 A/' < $lock/board.toml > "$folder/board.toml"
 check_rejected 1 "keys: $folder/board.toml: line 8: the key A is in row 0, column 3, but the board has 4 rows and 3 columns" ./mcs4 keys "$folder/board.toml" 1
 sed 's/# row 1: 4 5 6/# row 1: 4 1 6/' < $lock/board.toml > "$folder/board.toml"
-check_rejected 1 "keys: $folder/board.toml: line 9: the key 1 is already named in line 8" ./mcs4 keys "$folder/board.toml" 1
+check_rejected 1 "keys: $folder/board.toml: line 9: the key 1 is already named on line 8" ./mcs4 keys "$folder/board.toml" 1
 sed 's/# row 1: 4 5 6/# row 0: 4 5 6/' < $lock/board.toml > "$folder/board.toml"
-check_rejected 1 "keys: $folder/board.toml: line 9: row 0 already has names, in line 8" ./mcs4 keys "$folder/board.toml" 1
+check_rejected 1 "keys: $folder/board.toml: line 9: row 0 already has names, on line 8" ./mcs4 keys "$folder/board.toml" 1
 grep -v '^# row' < $lock/board.toml > "$folder/board.toml"
 check_rejected 1 "keys: $folder/board.toml has no comments \`# row R: NAME ..\` that name its keys" ./mcs4 keys "$folder/board.toml" 1
 check_usage_error "CYCLES of --down: '0' is not a decimal number from 1 to 100000" ./mcs4 keys --down 0 $lock/board.toml 1

@@ -40,7 +40,7 @@ while [ "$lines" -lt 22 ]; do
 done
 verdict "$(./mcs4 resume "$folder/resume.txt" "$folder/cut.mcs" | sed 1q)" "session 6" "a script resumed where only queries are left"
 echo 'reset' | continue_session cut
-check_rejected 1 "resume: $folder/cut.mcs did not begin with $folder/resume.txt: it has accepted 7 commands, but the whole script makes 6" \
+check_rejected 1 "resume: $folder/cut.mcs did not begin with $folder/resume.txt: it has accepted 7 commands, but the whole script has 6" \
     ./mcs4 resume "$folder/resume.txt" "$folder/cut.mcs"
 printf 'poke r9 8\n' | new_session cut
 cp "$folder/cut.mcs" "$folder/copy.mcs"

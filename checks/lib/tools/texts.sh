@@ -58,11 +58,11 @@ check_rejected 1 "listing: $folder/wrong.asm: line 201: no 32: there is not defi
 listing:     here: JUN there ; not here" ./mcs4 listing "$folder/wrong.asm"
 awk 'BEGIN { for (i = 0; i < 1100; i++) print " DB 1, 2, 3, 4 ; four" }' > "$folder/wrong.asm"
 awk 'BEGIN { for (i = 0; i < 100; i++) print "DB 1, 2, 3, 4" }' >> "$folder/wrong.asm"
-check_rejected 1 "test: $folder/wrong.asm: line 1171: no 13: a text has at most 16,384 bytes without its comments; this one has 16,800 and passes the limit here
+check_rejected 1 "test: $folder/wrong.asm: line 1171: no 13: a text has at most 16,384 bytes without its comments; this one has 16,800 and exceeds the limit here
 test:     DB 1, 2, 3, 4" \
     ./mcs4 test "$board" "$folder/wrong.asm" "$folder/marked.test"
 printf ' NOP\n L\303\204M 1 ; \303\244\n' > "$folder/bad.asm"
-check_rejected 1 "listing: $folder/bad.asm: line 2: no 14: $(printf '\303\204') is not an ASCII character; it can be only in comments
+check_rejected 1 "listing: $folder/bad.asm: line 2: no 14: $(printf '\303\204') is not an ASCII character; it is allowed only in comments
 listing:      L$(printf '\303\204')M 1 ; $(printf '\303\244')" ./mcs4 listing "$folder/bad.asm"
 printf ' NOP\n \007 ; \007\n' > "$folder/bad.asm"
 verdict "$(outcome ./mcs4 listing "$folder/bad.asm" | sed 1q)" "listing: $folder/bad.asm: line 2: no 14: a control character; only tabs and printable ASCII characters can be sent" "a control character"

@@ -87,7 +87,7 @@ check_rejected_sources "trace --source PROGRAM $folder/source.mcs 1"
 
 # Checks that the error in the arguments is printed before the usage.
 usage="usage: mcs4 trace [-C FOLDER] [--names PROGRAM | --source PROGRAM] [--last N] SESSION CYCLES"
-check_rejected 2 "trace: --names and --source exclude each other
+check_rejected 2 "trace: --names and --source cannot be combined
 $usage" \
     ./mcs4 trace --names "$folder/source.asm" --source "$folder/source.asm" "$folder/source.mcs" 1
 
@@ -142,7 +142,7 @@ verdict "$(outcome ./mcs4 trace --names "$folder/trace.asm" "$folder/trace.mcs" 
        9  FFE BB    XCH R11          acc 0 cy 0  r11 3
       10  FFF 40 20 JUN 0x020        acc 0 cy 0
 status 0" "a trace of ports, a chain, and the last address"
-check_rejected 1 "trace: the session has another program than $three_lamps/three_lamps.asm: 003 has D2, and line 6 makes D1" \
+check_rejected 1 "trace: the session's program differs from $three_lamps/three_lamps.asm: 003 has D2, but line 6 makes D1" \
     ./mcs4 trace --names $three_lamps/three_lamps.asm "$folder/trace.mcs" 12
 
 # Traces a chain whose clock is a line of a RAM chip's port.

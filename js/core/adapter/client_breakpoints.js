@@ -15,7 +15,7 @@ import { MAX_CYCLES_PER_CALL } from "../debug/common_mistakes.js";
 import { optionalList, requireNumber, requireText, optionalText, errorMessage } from "./dap_protocol.js";
 import * as say from "../../words/adapter.js";
 import { errorInColumn, noLabelMessage } from "../../words/conditions.js";
-import { KINDS } from "../../words/debug.js";
+import { MISTAKE_KINDS } from "../../words/debug.js";
 import { stopsEachTime } from "../../words/machine.js";
 
 /**
@@ -341,7 +341,7 @@ export class ClientBreakpoints {
     commonMistakes.stoppingKinds = new Set();
     commonMistakes.conditions = new Map();
     const responses = exceptionFilters.map(({ kind, condition: text }) => {
-      if (!Object.prototype.hasOwnProperty.call(KINDS, kind)) return { verified: false, message: say.noFilterMessage(kind) };
+      if (!Object.prototype.hasOwnProperty.call(MISTAKE_KINDS, kind)) return { verified: false, message: say.unknownFilterMessage(kind) };
       const mistakeKind = /** @type {MistakeKind} */ (kind);
       const isUnconditional = text.trim() === "";
       const { condition, error, column } = isUnconditional ? { condition: null, error: "", column: -1 }

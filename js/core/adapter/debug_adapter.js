@@ -7,8 +7,8 @@
 
 import { Face } from "../board/face.js";
 import { instructionForLine } from "../debug/breakpoints.js";
-import { KINDS } from "../../words/debug.js";
-import { stoppedAt } from "../../words/stops.js";
+import { MISTAKE_KINDS } from "../../words/debug.js";
+import { pausedAt } from "../../words/stops.js";
 import { readInstructions } from "../help/manual.js";
 import { getField } from "../server/framing.js";
 import { ErrorMessages } from "../bench/error_messages.js";
@@ -70,7 +70,7 @@ const CAPABILITIES = {
   supportsDelayedStackTraceLoading: true,
   supportsClipboardContext: true,
   completionTriggerCharacters: [" ", "@", "."],
-  exceptionBreakpointFilters: Object.entries(KINDS).map(([filter, label]) => (
+  exceptionBreakpointFilters: Object.entries(MISTAKE_KINDS).map(([filter, label]) => (
     { filter, label, default: false, supportsCondition: true, conditionDescription: say.EXCEPTION_CONDITION_HINT })),
 };
 
@@ -298,7 +298,7 @@ export class DebugAdapter {
       return this.changeBreakpoints((breakpoints) => breakpoints.setLineBreakpoints(args, (line) => line + 1 - this.firstLine));
     }
     const message = launchResult.isDebugged ? say.notInProgramMessage(queryHandlers.programName)
-      : say.NO_DEBUG;
+      : say.RUNS_WITHOUT_DEBUGGER;
     const breakpoints = optionalList(args, "breakpoints");
     return { breakpoints: breakpoints.map((requested) => ({ verified: false, line: requireNumber(requested, "line"), message })) };
   }
@@ -495,7 +495,7 @@ export class DebugAdapter {
    * @returns {MoveEnd}
    */
   createMoveEnd(reason) {
-    return { reason, message: stoppedAt(this.currentSession.launchResult.session.counterText), id: 0 };
+    return { reason, message: pausedAt(this.currentSession.launchResult.session.counterText), id: 0 };
   }
 
   /**

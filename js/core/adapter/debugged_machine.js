@@ -8,7 +8,7 @@ import { CYCLE_MS, FRAME_CYCLES } from "../time/mcs4_time.js";
 import { FrontPanelText } from "./front_panel_text.js";
 import { fail, errorMessage } from "./dap_protocol.js";
 import * as say from "../../words/adapter.js";
-import { stoppedAt } from "../../words/stops.js";
+import { pausedAt } from "../../words/stops.js";
 
 /**
  * @typedef {import("../debug/debug_session.js").DebugSession} DebugSession
@@ -165,7 +165,7 @@ export class Machine {
     } catch (thrown) {
       const isPause = thrown instanceof CancelledError;
       if (!isPause) this.callbacks.output(`${errorMessage(thrown)}\n`, "stderr");
-      const message = isPause ? stoppedAt(this.session.counterText) : errorMessage(thrown);
+      const message = isPause ? pausedAt(this.session.counterText) : errorMessage(thrown);
       moveEnd = { reason: isPause ? "pause" : "exception", message, id: 0 };
     }
     this.allowsTasks = () => false;

@@ -9,7 +9,7 @@ import { readStackFrames } from "./frames.js";
 import { formatReference } from "./memory.js";
 import { AdapterError, NOT_STOPPED, fail, requireNumber } from "./dap_protocol.js";
 import * as say from "../../words/adapter.js";
-import { NO_CALL_WAITS } from "../../words/stops.js";
+import { NO_OPEN_CALL } from "../../words/stops.js";
 
 /**
  * @typedef {import("./adapter_connection.js").RequestHandler} RequestHandler
@@ -74,14 +74,14 @@ export class MoveHandlers {
     const target = requireNumber(args, "targetId", -1);
     if (target < 0) return this.createMoveResponse(args, (machine) => machine.stepInto());
     const { session } = this.adapter.currentSession.launchResult;
-    if (!(target <= LAST_ADDRESS) || !isCall(session.debugger.session.romBytes[target])) fail(say.NO_TARGET);
+    if (!(target <= LAST_ADDRESS) || !isCall(session.debugger.session.romBytes[target])) fail(say.NO_SUCH_TARGET);
     return this.createMoveResponse(args, (machine) => machine.stepIntoCall(target));
   }
 
   /** @param {any} args */
   stepOut(args) {
     const response = this.createMoveResponse(args, (machine) => machine.runToGoal({ kind: "out" }));
-    if (readStackFrames(this.adapter.currentSession.launchResult.session).length === 1) throw new AdapterError(NO_CALL_WAITS, true);
+    if (readStackFrames(this.adapter.currentSession.launchResult.session).length === 1) throw new AdapterError(NO_OPEN_CALL, true);
     return response;
   }
 
@@ -90,19 +90,19 @@ export class MoveHandlers {
     this.checkPaused();
     const { machine, queryHandlers } = this.adapter.currentSession;
     const { call, returns } = queryHandlers.requestedFrame(args);
-    if (call < 0) throw new AdapterError(say.NOT_CALLED, true);
+    if (call < 0) throw new AdapterError(say.PROGRAM_FRAME_HAS_NO_CALLER, true);
     return new ResponseWithFollowUp(undefined, () => machine.goBack({ kind: "call", call, returns }));
   }
 
   /** Throws AdapterError if the machine runs, or if the client has not sent `configurationDone` yet. */
   checkPaused() {
-    if (!this.adapter.isConfigured) fail(say.CONFIGURED_FIRST);
+    if (!this.adapter.isConfigured) fail(say.CONFIGURATION_NOT_DONE);
     if (this.adapter.currentSession.machine.isMoving) fail(NOT_STOPPED);
   }
 
   /** @param {any} args */
   checkThread(args) {
-    if (requireNumber(args, "threadId", THREAD_ID) !== THREAD_ID) fail(say.ONE_THREAD);
+    if (requireNumber(args, "threadId", THREAD_ID) !== THREAD_ID) fail(say.ONLY_ONE_THREAD);
   }
 
   /** @param {any} args */
@@ -122,7 +122,7 @@ export class MoveHandlers {
     this.checkThread(args);
     const { machine, launchResult } = this.adapter.currentSession;
     const address = requireNumber(args, "targetId");
-    if (!(address >= 0 && address <= LAST_ADDRESS)) fail(say.NO_TARGET);
+    if (!(address >= 0 && address <= LAST_ADDRESS)) fail(say.NO_SUCH_TARGET);
     await launchResult.session.debugger.session.serve(`poke pc ${address}\n`, async () => true);
     await machine.saveAndReport();
     return new ResponseWithFollowUp(undefined, () => this.adapter.sendStopped(this.adapter.createMoveEnd("goto")));

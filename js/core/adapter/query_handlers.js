@@ -110,7 +110,7 @@ export class QueryHandlers {
    * @param {number} [defaultId] the id if the request has no `frameId`
    */
   requestedFrame(args, defaultId) {
-    return readStackFrames(this.session)[requireNumber(args, "frameId", defaultId) - 1] || fail(say.NO_FRAME);
+    return readStackFrames(this.session)[requireNumber(args, "frameId", defaultId) - 1] || fail(say.NO_SUCH_FRAME);
   }
 
   /**
@@ -135,7 +135,7 @@ export class QueryHandlers {
 
   /** @param {any} args */
   variables(args) {
-    const variables = this.scopes.variables(requireNumber(args, "variablesReference"), requestedBase(args)) || fail(say.NO_REFERENCE);
+    const variables = this.scopes.variables(requireNumber(args, "variablesReference"), requestedBase(args)) || fail(say.UNKNOWN_REFERENCE);
     const from = Math.max(0, requireNumber(args, "start", 0));
     const count = requireNumber(args, "count", 0);
     const requestedVariables = variables.slice(from, count > 0 ? from + count : undefined);
@@ -193,7 +193,7 @@ export class QueryHandlers {
     const typedText = requireText(args, "text");
     const lines = typedText.split("\n");
     const lineIndex = requireNumber(args, "line", this.firstLine) - this.firstLine;
-    const text = lines[lineIndex] ?? fail(say.NO_LINE);
+    const text = lines[lineIndex] ?? fail(say.NO_SUCH_LINE);
     const column = Math.min(text.length, Math.max(0, requireNumber(args, "column", text.length + this.firstColumn) - this.firstColumn));
     const { words, word } = this.completionWords(text.slice(0, column));
     const targets = words.filter((completion) => completion.toLowerCase().startsWith(word.toLowerCase())).slice(0, MAX_COMPLETIONS);

@@ -100,7 +100,7 @@ export class RemoteFrontPanel {
  * @param {boolean} isDown
  */
 export async function changeKey(machine, debugConsole, text, isDown) {
-  const key = parseKey(text) || fail(say.KEY_PLACE);
+  const key = parseKey(text) || fail(say.KEY_PLACE_SYNTAX);
   const word = isDown ? "press" : "release";
   if (machine.isMoving) machine.session.debugger.session.queue[word](key);
   else await debugConsole.runBenchLines(`${keyLine(word, key)}\n`);

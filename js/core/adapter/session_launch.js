@@ -16,7 +16,7 @@ import { disassembleRom } from "../engine/text_recovery.js";
 import { SessionWriter } from "./session_writer.js";
 import { AdapterError, optionalFlag, optionalText } from "./dap_protocol.js";
 import * as say from "../../words/adapter.js";
-import { leadsOut } from "../../words/server.js";
+import { linkLeadsOut } from "../../words/server.js";
 
 /**
  * @typedef {import("../bench/answers.js").Refusal} Refusal
@@ -83,7 +83,7 @@ export function readRequestedFiles(args, host) {
     const message = say.LAUNCH_SYNTAX;
     throw new AdapterError(say.boardHint(message), true);
   }
-  if (program !== "" && session === program) throw new AdapterError(say.ONE_FILE, true);
+  if (program !== "" && session === program) throw new AdapterError(say.FILE_NAMED_TWICE, true);
   const boardFile = program === "" ? "" : findBoardFile(program, host);
   const board = namedBoard || projectNames.board || (host.fileExists(boardFile) ? boardFile : "");
   return { board, program, session, load: optionalFlag(args, "load", false), test: null };
@@ -103,7 +103,7 @@ function findProjectFiles(name, host) {
   const [board, program] = [names.board, names.program].map(({ path, key, line }) => {
     const fullName = host.resolveFrom(path, file);
     const folder = host.resolveFrom(".", file);
-    if (!host.isInside(fullName, folder)) throw new AdapterError(`${file}, line ${line}: ${key}: ${leadsOut(path)}`, true);
+    if (!host.isInside(fullName, folder)) throw new AdapterError(`${file}, line ${line}: ${key}: ${linkLeadsOut(path)}`, true);
     return fullName;
   });
   return { board, program };
@@ -118,7 +118,7 @@ function findProjectFiles(name, host) {
 function findBoardFile(program, host) {
   const { uri, folder } = findBoard(fileUri(program), (candidateUri) => host.read(uriFileName(candidateUri)));
   const board = uriFileName(uri);
-  if (folder !== "" && !host.isInside(board, uriFileName(folder))) throw new AdapterError(leadsOut(board), true);
+  if (folder !== "" && !host.isInside(board, uriFileName(folder))) throw new AdapterError(linkLeadsOut(board), true);
   return board;
 }
 

@@ -57,7 +57,7 @@ export class SessionWriter {
     /** @type {(answers: string[]) => void} */
     const checkAnswers = (answers) => {
       const rejectedAnswer = answers.find((answer) => parseRefusal(answer));
-      if (rejectedAnswer) throw new AdapterError(say.fileNotWritten(rejectedAnswer));
+      if (rejectedAnswer) throw new AdapterError(say.sessionFileNotWritten(rejectedAnswer));
       const isStateEqual = answers[answers.length - 1] === state;
       if (!isStateEqual) throw new AdapterError(say.STATES_DIFFER);
     };

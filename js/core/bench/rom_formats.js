@@ -49,7 +49,7 @@ export function readSRecords(text, offset = 0) {
     isEnded = storeSRecord(record, image);
   });
   if (!isEnded) throw new ImageError(say.NO_S9);
-  if (image.isEmpty) throw new ImageError(say.NO_BYTE);
+  if (image.isEmpty) throw new ImageError(say.IMAGE_IS_EMPTY);
   return image.bytes;
 }
 
@@ -98,7 +98,7 @@ export function readBnpf(text, from = 0) {
   });
   const lines = text.replace(/\n$/, "").split("\n").length;
   if (word !== "") throw new ImageError(say.imageErrorInLine(lines, say.bnpfWithoutEnd(word)));
-  if (count === 0) throw new ImageError(say.NO_BYTE);
+  if (count === 0) throw new ImageError(say.IMAGE_IS_EMPTY);
   return image.bytes;
 }
 

@@ -53,7 +53,7 @@ export class ImageBytes {
  * @param {number} [from] the address of the first byte
  */
 export function readBytes(file, from = 0) {
-  if (file.length === 0) throw new ImageError(say.NO_BYTE);
+  if (file.length === 0) throw new ImageError(say.IMAGE_IS_EMPTY);
   if (from + file.length > ADDRESS_COUNT) {
     const [size, maxSize] = [file.length, ADDRESS_COUNT - from].map((count) => count.toLocaleString("en"));
     throw new ImageError(from === 0 ? say.tooManyBytesMessage(size, maxSize) : say.tooManyBytesFromMessage(size, maxSize, hex(from, 3)));
@@ -131,7 +131,7 @@ export function readHex(text, offset = 0) {
     isEnded = parsedRecord.type === END_RECORD_TYPE;
   });
   if (!isEnded) throw new ImageError(say.NO_LAST_RECORD);
-  if (image.isEmpty) throw new ImageError(say.NO_BYTE);
+  if (image.isEmpty) throw new ImageError(say.IMAGE_IS_EMPTY);
   return image.bytes;
 }
 

@@ -21,7 +21,7 @@ const STATE_ANSWER = /^state seq \d+ (acc .* test (\d) .*) src (.* keys (\S+)) l
  */
 export function parseState(answer) {
   const match = STATE_ANSWER.exec(answer);
-  if (!match) throw new Error(`the bench answers \`state\` with ${answer}`);
+  if (!match) throw new Error(`unexpected answer to \`state\`: ${answer}`);
   const [, registers, test, ports, keys, lamps, breaks, watches] = match;
   return { registers, test, ports, keys, lamps, breaks, watches };
 }
@@ -33,7 +33,7 @@ export function parseState(answer) {
  */
 export function stateValue(answer, name) {
   const nameIndex = answer.indexOf(` ${name} `);
-  if (nameIndex < 0) throw new Error(`the bench answers \`state\` with ${answer}`);
+  if (nameIndex < 0) throw new Error(`unexpected answer to \`state\`: ${answer}`);
   return answer.slice(nameIndex + name.length + 2).split(" ", 1)[0];
 }
 

@@ -97,6 +97,6 @@ export function findBoardKey(keys, keyboardKey) {
  */
 export function keyHint(keys) {
   if (keys.length === 0) return say.NO_KEYS;
-  const namesHint = keys.some((key) => key.isNamed) ? "" : say.NAMES_KEYS;
+  const namesHint = keys.some((key) => key.isNamed) ? "" : say.KEY_NAMING_HINT;
   return say.keysHint(namesHint);
 }

@@ -278,7 +278,7 @@ function addLamps(column, lamps, { names, colours }) {
  * @param {Buzzer} buzzer
  */
 function addBuzzer(column, { place, name }) {
-  const descriptions = [say.soundsEdges(name, place)];
+  const descriptions = [say.soundsAtEdges(name, place)];
   return column.add({ id: "buzzer", kind: "buzzer", title: say.BUZZER, descriptions }, [{ id: "buzzer 0", line: place, label: name }], []);
 }
 

@@ -132,7 +132,7 @@ export function compileDisplay(words, names, dependencies) {
 export function compilePrinted(words, { face, board }, dependencies) {
   if (!findPrinter(board, face)) fail(say.NO_PRINTER);
   if (words.length === 0) fail(say.PRINTED_SYNTAX);
-  dependencies.addNeed("printed", say.LINE_BY_LINE);
+  dependencies.addNeed("printed", say.PRINTED_ONLY_IN_TESTS);
   const required = words.join(" ");
   return createKeywordCondition({
     subject: "printed", required, matches: (actual) => actual === required,

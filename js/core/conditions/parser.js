@@ -116,7 +116,7 @@ class Parser {
   parseCompleteText() {
     const node = this.parseJoined("or");
     const token = this.scanner.peek();
-    if (token.kind !== "end") fail(say.notExpectedMessage(this.tokenText(token)), token.column);
+    if (token.kind !== "end") fail(say.unexpectedWordMessage(this.tokenText(token)), token.column);
     return node;
   }
 
@@ -303,7 +303,7 @@ class Parser {
     const token = this.scanner.peek();
     if (token.text !== ")" || token.kind !== "sign") {
       const isEnd = token.kind === "end";
-      fail(isEnd ? say.NOT_CLOSED : say.notExpectedMessage(this.tokenText(token)), isEnd ? column : token.column);
+      fail(isEnd ? say.PARENTHESIS_NOT_CLOSED : say.unexpectedWordMessage(this.tokenText(token)), isEnd ? column : token.column);
     }
     this.depth -= 1;
     this.scanner.next();
@@ -331,7 +331,7 @@ class Parser {
     const numeralCount = SPACED_NUMERALS.get(word) || 0;
     for (let count = 0; count < numeralCount; count++) {
       const { kind, column } = this.scanner.next();
-      if (kind !== "number") fail(say.SPACED_SYNTAX, Math.min(column, this.lastColumn));
+      if (kind !== "number") fail(say.DOTTED_PLACE_SYNTAX, Math.min(column, this.lastColumn));
     }
     const text = numeralCount === 0 ? token.text : this.textFrom(token.column);
     return { kind: "name", text, direction: this.parseDirection(word), column: token.column };

@@ -100,7 +100,7 @@ export class Scanner {
     const number = this.match(NUMBER);
     if (!number) {
       const [invalidText] = /** @type {RegExpExecArray} */ (this.match(RAW_WORD));
-      return fail(invalidText.startsWith('"') ? say.NO_END_OF_TEXT : say.unknownSign(invalidText), column);
+      return fail(invalidText.startsWith('"') ? say.CLOSING_QUOTE_MISSING : say.unknownSign(invalidText), column);
     }
     if (Number.isNaN(parseNumeral(number[0]))) fail(say.notANumeralMessage(number[0]), column);
     return createToken("number", number[0]);

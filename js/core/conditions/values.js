@@ -233,7 +233,7 @@ function suggestionFor(text, { map, watched, face }) {
   if (hint) return hint;
   const knownNames = [...(map ? map.names.keys() : []), ...(watched ? watched.keys() : []), ...face.lampNumbers.keys()];
   const similarNames = findSimilarWords(text, knownNames);
-  return similarNames.length > 0 ? say.suggestion(similarNames.join(" ")) : say.PLACES_HINT;
+  return similarNames.length > 0 ? say.suggestNames(similarNames.join(" ")) : say.PLACES_HINT;
 }
 
 /**
@@ -313,7 +313,7 @@ export function valuesOfNibbles({ text, column }, count, names, dependencies) {
     return Array.from({ length: count }, (_, index) => {
       const nibbleAddress = parseInt(byte, 16) + index;
       const nibblePlace = nibbleAddress <= LAST_NIBBLE ? parsePlace(`ram.${bank}.${nibbleAddress}`) : null;
-      if (index > 0 && (!nibblePlace || nibblePlace.probesOn(names.board).length === 0)) fail(say.NO_RAM_FOR_LAST);
+      if (index > 0 && (!nibblePlace || nibblePlace.probesOn(names.board).length === 0)) fail(say.NO_RAM_FOR_LAST_CHARACTER);
       return valueOfPlace(nibblePlace || place, names, dependencies) || failForUnknownName(text, names);
     });
   });
@@ -342,7 +342,7 @@ export function evaluateConstant(node, map) {
   if (node.kind === "number") return node.value;
   if (node.kind === "sum") return OPERATIONS[node.sign](evaluateConstant(node.left, map), evaluateConstant(node.right, map));
   const programName = node.kind === "name" && node.direction === "" ? findProgramName(node.text.replace(/^@/, ""), map) : undefined;
-  return programName ? programName.value : fail(map ? say.noConstantMessage(node.text) : say.namesUnknownMessage(node.text), node.column);
+  return programName ? programName.value : fail(map ? say.notAConstantMessage(node.text) : say.namesUnknownMessage(node.text), node.column);
 }
 
 /**

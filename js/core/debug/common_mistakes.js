@@ -40,7 +40,7 @@ import * as say from "../../words/debug.js";
  */
 
 /** The number of kinds of mistakes. */
-const KIND_COUNT = Object.keys(say.KINDS).length;
+const KIND_COUNT = Object.keys(say.MISTAKE_KINDS).length;
 /**
  * The number of cycles in which every instruction is checked, after the machine starts and after each key change: half a second of a real
  * 4004. After these cycles, only samples are checked.

@@ -27,7 +27,7 @@ export function compileSearchCondition(text, names) {
     const { error, column } = value.expression ? conditionError : value;
     return { searchCondition: null, error: errorInColumn(error, column) };
   }
-  return condition.places.length > 0 ? { searchCondition: condition, error: "" } : { searchCondition: null, error: say.NEVER_CHANGES };
+  return condition.places.length > 0 ? { searchCondition: condition, error: "" } : { searchCondition: null, error: say.READS_NO_PLACE };
 }
 
 /**

@@ -11,7 +11,7 @@ import { instructionCycles } from "../engine/rom_codes.js";
 import { ForecastAnswers, parseTraceLine, rowValues } from "../engine/forecast_answers.js";
 import { plannedCycles, truncateLines } from "./goal_search.js";
 import { boardLacks, errorInColumn, tooManyPlacesMessage } from "../../words/conditions.js";
-import { changedFrom, CHANGES_ALWAYS } from "../../words/debug.js";
+import { changedFrom, PC_ALWAYS_CHANGES } from "../../words/debug.js";
 
 /**
  * @typedef {import("../conditions/condition_language.js").Condition} Condition
@@ -58,7 +58,7 @@ export function compileWatches(requestedWatches, names) {
     const { condition, error, column } = isUnconditional ? { condition: null, error: "", column: -1 } : compileTracedCondition(text, names);
     const allPlaces = new Set([...places, ...probes, ...(condition ? condition.places : [])]);
     const placeError = !place || probes.length === 0 ? boardLacks(name)
-      : name === UNWATCHABLE_PLACE ? CHANGES_ALWAYS : error && errorInColumn(error, column);
+      : name === UNWATCHABLE_PLACE ? PC_ALWAYS_CHANGES : error && errorInColumn(error, column);
     const message = placeError || (allPlaces.size > MAX_PLACES ? tooManyPlacesMessage(allPlaces.size, MAX_PLACES) : "");
     if (message) errors.set(id, message);
     if (message || !place) return [];

@@ -84,7 +84,7 @@ function selectionPieces(byte, machineState) {
   const chip = byte >> 4;
   const roms = machineState.romPort(chip) ? [say.romChip(chip)] : [];
   const hasRam = machineState.latchedSrcByte() !== undefined;
-  if (!hasRam) return roms.length > 0 ? roms : [say.NOTHING_THERE];
+  if (!hasRam) return roms.length > 0 ? roms : [say.NOTHING_ON_BOARD];
   return [...roms.map((description) => `${description}; `), ...characterPieces(machineState.bank, byte, machineState)];
 }
 
@@ -195,5 +195,5 @@ export function valuePieces(text, index, machineState, { nameOf, describeInstruc
   const name = nameOf(word.text);
   if (!name) return [];
   if (!name.isLabel) return numberPieces(name.description, name.value, parts, machineState);
-  return [machineState.registers.counter === hex(name.value, 3) ? say.comesNext(name.description) : name.description];
+  return [machineState.registers.counter === hex(name.value, 3) ? say.withNextInstructionNote(name.description) : name.description];
 }

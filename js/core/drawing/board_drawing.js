@@ -107,7 +107,7 @@ export class BoardDrawing {
     if (text !== this.text) {
       const { errorMessage, answers } = await this.checkText(text);
       if (errorMessage || matchesBench(text, answers)) this.storeText(text, errorMessage ? this.answers : answers, errorMessage);
-      else this.storeText(text, answers, say.CANNOT_READ);
+      else this.storeText(text, answers, say.CANNOT_EDIT);
     }
     this.reportChange();
   }
@@ -196,7 +196,7 @@ export class BoardDrawing {
     this.wireStart = isSamePin ? "" : name;
     if (this.possibleEnds.size === 0) this.wireStart = "";
     const count = this.possibleEnds.size;
-    this.showMessage(this.wireStart ? say.wireBegins(pinName(name), formatQuantity(count, "pin")) : "");
+    this.showMessage(this.wireStart ? say.wireStarted(pinName(name), formatQuantity(count, "pin")) : "");
     return Promise.resolve();
   }
 
@@ -237,7 +237,7 @@ export class BoardDrawing {
     if (result.refusal) return this.showMessage(result.refusal);
     if (result.edits.length === 0) return this.showMessage(say.NO_CHANGE);
     const { errorMessage, answers } = await this.checkText(result.text);
-    if (errorMessage || !matchesBench(result.text, answers)) return this.showMessage(say.notDoneMessage(errorMessage || say.CANNOT_READ));
+    if (errorMessage || !matchesBench(result.text, answers)) return this.showMessage(say.notDoneMessage(errorMessage || say.CANNOT_EDIT));
     // If the user edited the text while the bench checked the result, perform the action on the new text.
     if (this.callbacks.text() !== text) return this.perform(action);
     this.callbacks.edit(result.edits);

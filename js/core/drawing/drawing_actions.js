@@ -158,7 +158,7 @@ function copyPart(editedBoard, part) {
   if (kind !== "lamp") throw new ImpossibleAction(say.ONLY_ONCE);
   const display = findDisplayAt(face, number);
   if (display) return addDisplay(editedBoard, display.columns < 7 ? "digit" : "segments", display.rows);
-  if (lampsInSameGroup(face, number).length > 1) throw new ImpossibleAction(say.COPY_IN_TEXT);
+  if (lampsInSameGroup(face, number).length > 1) throw new ImpossibleAction(say.COPY_ONLY_IN_TEXT);
   return addLamp(editedBoard, "", (face.colours.get(number) || { text: "" }).text);
 }
 
@@ -173,7 +173,7 @@ function renameLamp(editedBoard, lamp, name) {
   const describeGrid = (text) => new Face(text).grid.map((gridLamp) => `${gridLamp.row} ${gridLamp.column} ${gridLamp.lamp}`).join();
   const grid = describeGrid(editedBoard.text);
   editedBoard.edit(setLampName(editedBoard.draft, lamp, name));
-  if (describeGrid(editedBoard.text) !== grid) throw new ImpossibleAction(say.GRID_DIFFERS);
+  if (describeGrid(editedBoard.text) !== grid) throw new ImpossibleAction(say.NAME_WOULD_CHANGE_GRID);
 }
 
 /**
@@ -258,7 +258,7 @@ function perform(editedBoard, action) {
       if (board.matrix && action.rows < board.matrix.rows) deletePart(editedBoard, `row ${action.rows}`);
       else setRows(editedBoard, action.rows);
       return ["keys", say.keyRowsSet(formatQuantity(action.rows, "row"))];
-    case "column": return [addColumn(editedBoard), say.MORE_COLUMNS];
+    case "column": return [addColumn(editedBoard), say.COLUMN_ADDED];
     case "delete": {
       const message = deletePart(editedBoard, action.part);
       return ["", `${completionMessage(action.part, "deleted")}${message && say.andWithIt(message)}`];
@@ -282,7 +282,7 @@ function findNewPanelError(textBefore, textAfter) {
   const { errors } = new Face(textAfter);
   if (errors.length <= oldMessages.length) return "";
   const [newError] = errors.filter(({ message }) => !oldMessages.includes(message.replace(/\d+/g, "")));
-  return newError ? `${capitalize(newError.message)}.` : say.FACE_UNREADABLE;
+  return newError ? `${capitalize(newError.message)}.` : say.FRONT_PANEL_UNREADABLE;
 }
 
 /**
@@ -299,7 +299,7 @@ export function applyAction(text, action) {
     const [part, message] = perform(editedBoard, action);
     const panelError = findNewPanelError(text, editedBoard.text);
     if (panelError) return { ...unchangedResult, refusal: panelError };
-    const addedPartsText = editedBoard.addedParts.length > 0 ? say.withAddedParts(say.listOf(editedBoard.addedParts)) : "";
+    const addedPartsText = editedBoard.addedParts.length > 0 ? say.withAddedParts(say.joinWithAnd(editedBoard.addedParts)) : "";
     const { edits, deletedChains } = editedBoard;
     return { edits, text: editedBoard.text, part, message: `${message}${addedPartsText}.`, deletedChains, refusal: "" };
   } catch (error) {

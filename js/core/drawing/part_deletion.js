@@ -281,5 +281,5 @@ function describeDependents({ buzzer }, deletedParts, part) {
     dependents.push(part.startsWith("lamp ") ? say.allLampsOf(otherLampCount) : formatQuantity(otherLampCount, "lamp"));
   }
   if (buzzer && isLineDeleted(deletedParts, buzzer)) dependents.push(say.THE_BUZZER);
-  return say.listOf(dependents);
+  return say.joinWithAnd(dependents);
 }

@@ -87,7 +87,7 @@ function createFirstRowLines(first, labels) {
   /** @type {Line[]} */
   const counterLines = [
     ["", ["LDM", String((REGISTER_VALUE_COUNT - (first % REGISTER_VALUE_COUNT)) % REGISTER_VALUE_COUNT)]],
-    ["", ["XCH", "R8"], say.movesTo(first)],
+    ["", ["XCH", "R8"], say.bitMovesTo(first)],
   ];
   if (rounds > 1) counterLines.push(["", ["LDM", String(REGISTER_VALUE_COUNT - rounds)]], ["", ["XCH", "R9"]]);
   /** @type {Line[]} */
@@ -175,13 +175,13 @@ export function createKeyScanSource({ matrix, chains }, text) {
   const lines = [
     [scanLabel, ["LDM", "0"]], ["", ["XCH", "R4"], say.FIRST_ROW],
     ["", ["LDM", String(REGISTER_VALUE_COUNT - rows)]], ["", ["XCH", "R7"], say.countsRows(rows)],
-    ["", ["LDM", String(data.bit)]], ["", ["JMS", shiftLabel], say.ONE_ENTERS], ...createFirstRowLines(first, labels),
+    ["", ["LDM", String(data.bit)]], ["", ["JMS", shiftLabel], say.SINGLE_1_ENTERS], ...createFirstRowLines(first, labels),
     ...createColumnLines(columns, labels).map((line, index) => /** @type {Line} */ (index === 0 ? [rowLabel, line[1], line[2]] : line)),
     ["", ["LDM", "0"]], ["", ["JMS", shiftLabel], say.NEXT_ROW], ["", ["INC", "R4"]], ["", ["ISZ", "R7,", rowLabel]],
     ["", ["BBL", "0"], say.NO_KEY],
     ...columns.flatMap((_, column) => /** @type {Line[]} */ ([
       [labels.labelFor(String(column)), ["LDM", String(column)], say.columnIsDown(column)], ["", ["JUN", labels.labelFor("down")]]])),
-    [labels.labelFor("down"), ["XCH", "R5"]], [outLabel, ["LDM", "0"]], ["", ["JMS", shiftLabel], say.LEAVES_ROWS],
+    [labels.labelFor("down"), ["XCH", "R5"]], [outLabel, ["LDM", "0"]], ["", ["JMS", shiftLabel], say.BIT_LEAVES_ROWS],
     ["", ["ISZ", "R7,", outLabel]], ["", ["BBL", "1"], say.KEY_IS_DOWN], ...createShiftLines(clock, data, labels),
   ];
   const headerComments = createHeaderLines(matrix, clock, data, labels);

@@ -126,7 +126,7 @@ function chainForm(board, face, part) {
     { kind: "chips", chain: chainNumber, chips: Number(value) }));
   const lineFields = [lineField(board, `clock ${chainNumber}`, "clock"), lineField(board, `data ${chainNumber}`, "data")];
   const fields = [portNameField(face, part), ...lineFields, chipsField];
-  return { title: say.chainOf(chainNumber), part, fields, buttons: [createCopyButton(part), createDeleteButton(part)] };
+  return { title: say.chainOfChips(chainNumber), part, fields, buttons: [createCopyButton(part), createDeleteButton(part)] };
 }
 
 /**

@@ -79,7 +79,7 @@ export class ForecastAnswers {
   takeTrace() {
     const answer = this.take();
     const head = ANSWER_HEAD.exec(answer);
-    if (!head) throw new Error(`the bench answered a question by: ${answer}`);
+    if (!head) throw new Error(`unexpected answer to a question: ${answer}`);
     const from = this.nextIndex;
     this.nextIndex += Number(head[2]);
     return { row: head[3], lines: this.answers.slice(from, this.nextIndex), cycles: Number(head[1]) };

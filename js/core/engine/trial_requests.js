@@ -67,7 +67,7 @@ export class TrialRequests {
    * @param {number} milliseconds
    */
   continueSearch(milliseconds) {
-    if (!this.currentSearch) throw new Error("nothing is looked for");
+    if (!this.currentSearch) throw new Error("no search was started");
     return this.currentSearch.runFor(milliseconds);
   }
 }

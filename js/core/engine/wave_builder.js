@@ -179,7 +179,7 @@ export class WaveBuilder {
   recordRun(answers) {
     this.recordForecast(answers);
     const run = answers.takeRun();
-    if (run.cycles === 0 && run.end !== "code") throw new Error(`the bench answered a recording by: ${run.end}`);
+    if (run.cycles === 0 && run.end !== "code") throw new Error(`unexpected end of a recorded run: ${run.end}`);
     this.recordEnd(run);
   }
 

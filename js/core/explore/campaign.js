@@ -236,7 +236,7 @@ const SETTING_PARSERS = {
     if (!state || (words.length > 1 && (of !== "of" || file.length === 0))) {
       fail(say.FROM_SYNTAX);
     }
-    if (reader.from) fail(say.FROM_TWICE);
+    if (reader.from) fail(say.FROM_REPEATED);
     reader.from = { state, file: file.join(" ") };
   },
   begin: (reader, words) => {
@@ -329,7 +329,7 @@ const PROPERTY_PARSERS = {
       : reachProperty(text, reader.parseViolation(`pc = ${address}`));
   },
   model: (reader, remainingText, text) => {
-    if (reader.command) fail(say.MODEL_TWICE);
+    if (reader.command) fail(say.MODEL_REPEATED);
     if (remainingText === "") fail(say.MODEL_SYNTAX);
     if (!reader.names.face.groups.some(({ kind }) => kind === "display")) {
       fail(NO_DISPLAY);
@@ -445,7 +445,7 @@ function parseUnguardedLine(reader, text) {
   if (start) return withinProperty(text, reader.parseLabel(start), reader.parseLabel(target), reader.parseTime(time, say.WITHIN_SYNTAX));
   const [kind, ...words] = text.split(" ");
   if (Object.prototype.hasOwnProperty.call(PROPERTY_PARSERS, kind)) return PROPERTY_PARSERS[kind](reader, words.join(" "), text);
-  if (!Object.prototype.hasOwnProperty.call(SETTING_PARSERS, kind)) fail(say.unknownFirstWord(kind.slice(0, 30), say.PROPERTY_FORMS));
+  if (!Object.prototype.hasOwnProperty.call(SETTING_PARSERS, kind)) fail(say.unknownFirstWord(kind.slice(0, 30), say.FIRST_WORDS));
   SETTING_PARSERS[kind](reader, words);
   return null;
 }
@@ -502,7 +502,7 @@ export function readCampaign(text, subject, needsInputs = true) {
   });
   const last = Math.max(1, text.trimEnd().split("\n").length);
   if (!addDefaults(reader) && needsInputs && errors.length === 0) {
-    errors.push({ line: last, column: -1, words: say.NOTHING_CHANGES });
+    errors.push({ line: last, column: -1, words: say.NO_INPUT_MAY_CHANGE });
   }
   if (errors.length === 0 && !hasKeysForModel(reader)) {
     const { line } = reader.properties.find(({ form }) => form === "model") || { line: 1 };

@@ -427,7 +427,7 @@ function updateOpenCalls(memory, event) {
  */
 export function standardProperties() {
   return [
-    { ...DEFAULT_PROPERTY, form: "code", text: say.NO_OTHER_CODE },
+    { ...DEFAULT_PROPERTY, form: "code", text: say.ONLY_INSTRUCTION_CODES },
     {
       ...DEFAULT_PROPERTY, form: "calls", text: say.NO_FOURTH_CALL, createMemory: () => [0],
       update: (memory, event, { time }) => {
@@ -436,7 +436,7 @@ export function standardProperties() {
       },
     },
     {
-      ...DEFAULT_PROPERTY, form: "returns", text: say.NO_LONE_RETURN, createMemory: () => [0],
+      ...DEFAULT_PROPERTY, form: "returns", text: say.NO_RETURN_WITHOUT_CALL, createMemory: () => [0],
       update: (memory, event, { time }) => {
         updateOpenCalls(memory, event);
         // The property `calls` reports a fourth call. The return from that call does not count as a return without a call.

@@ -109,7 +109,7 @@ export function formatRemark(property, report) {
   const { isGoal, applied, states, chains, found } = property;
   if (found) return `${isGoal ? "reached" : "broken"}, ${formatSteps(found.steps)}`;
   if (states > 0) return (isGoal ? neverReachedVerdict : provedVerdict)(formatQuantity(states, "state"), property);
-  if (chains > 0) return say.chainsOfKeys(formatNumber(chains));
+  if (chains > 0) return say.keySequenceCount(formatNumber(chains));
   return applied ? say.stepsAndStates(formatNumber(report.steps), formatNumber(report.states)) : say.NEVER_CHECKED;
 }
 
@@ -191,7 +191,7 @@ export function formatTap(report) {
 export function formatReportTests(report) {
   const { names: { board, program } } = report;
   const propertiesWithTest = report.properties.filter((property) => property.found);
-  const head = say.foundByTool(board, program);
+  const head = say.counterexamplesHeader(board, program);
   const tests = propertiesWithTest.map((property) => (
     `\n# ${propertyLocation(property, report)}\n${property.found ? property.found.test : ""}`));
   return head + tests.join("");

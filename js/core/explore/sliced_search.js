@@ -115,6 +115,6 @@ export class SlicedSearch {
 
   report() {
     const { search, proof, model } = this.campaignRun.timeSpent;
-    return this.campaignRun.report({ names: say.NAMES, sums: "", seconds: (search + proof + model) / 1000, isStopped: false });
+    return this.campaignRun.report({ names: say.TEXT_NAMES, sums: "", seconds: (search + proof + model) / 1000, isStopped: false });
   }
 }

@@ -163,7 +163,7 @@ class Evaluation {
     }
     const name = this.match(NAME);
     if (name) return this.parseName(name[0]);
-    this.fail(nextCharacter === "" ? say.NO_OPERAND : say.notUnderstoodMessage(this.text.slice(this.index)));
+    this.fail(nextCharacter === "" ? say.OPERAND_MISSING : say.notUnderstoodMessage(this.text.slice(this.index)));
     this.index += 1;
     return 0;
   }
@@ -184,7 +184,7 @@ class Evaluation {
   parseBracketed() {
     this.index += 1;
     const value = this.parseSum();
-    if (this.peek() !== ")") this.fail(say.NO_BRACKET);
+    if (this.peek() !== ")") this.fail(say.BRACKET_MISSING);
     this.index += 1;
     return value;
   }
@@ -195,7 +195,7 @@ class Evaluation {
    */
   parseCharacter(quoted) {
     this.index += quoted.length;
-    if (!isAscii(quoted)) this.fail(say.noCharacterMessage(quoted));
+    if (!isAscii(quoted)) this.fail(say.notAsciiMessage(quoted));
     return quoted.charCodeAt(1);
   }
 
@@ -206,7 +206,7 @@ class Evaluation {
    */
   parseNumber([numeral, digits], base) {
     this.index += numeral.length;
-    if (/\w/.test(this.text[this.index] || "")) this.error = say.noNumberMessage(this.text);
+    if (/\w/.test(this.text[this.index] || "")) this.error = say.notANumberMessage(this.text);
     return parseDigits(digits, base);
   }
 

@@ -118,7 +118,7 @@ class ProgramImport {
       if (label === "") return;
       const name = toAsciiUpperCase(label);
       const definingLine = this.definingLines.get(name);
-      if (definingLine !== undefined) throw new LineError(say.definedTwice(label, definingLine));
+      if (definingLine !== undefined) throw new LineError(say.alsoDefinedOnLine(label, definingLine));
       this.definingLines.set(name, number);
     }, undefined);
   }
@@ -268,7 +268,7 @@ class ProgramImport {
     return parts.flatMap((part) => {
       const characters = extractQuotedCharacters(part);
       if (characters === null) return [this.convertExpression(part, { to: BYTE_VALUE_COUNT - 1, modulus: BYTE_VALUE_COUNT })];
-      if (!isAscii(characters)) throw new LineError(say.noCharacterMessage(part));
+      if (!isAscii(characters)) throw new LineError(say.notAsciiMessage(part));
       return [...characters].map((character) => `0x${hex(character.charCodeAt(0), 2)}`);
     }).join(", ");
   }
@@ -346,7 +346,7 @@ class ProgramImport {
     const [, first = "", mark = ""] = /^R([0-9]+)(?:R[0-9]+|P)$/.exec(word) || /^([0-9]+)(<)$/.exec(word) || [];
     const register = Number(first);
     if (first !== "" && register % 2 === 0 && register < NIBBLE_VALUE_COUNT) return `P${register / 2}`;
-    if (mark === "<") throw new LineError(say.oddPair(text, register));
+    if (mark === "<") throw new LineError(say.notEvenRegister(text, register));
     const { value, isKnown, error } = this.evaluateText(text, this.address);
     if (error === "" && isKnown && value === 0) return "P0";
     throw new LineError(say.noPairMessage(text));

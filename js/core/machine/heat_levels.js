@@ -152,7 +152,7 @@ export function describeChangesWhileRunning(cell, map) {
  * @param {boolean} countsAllCycles true if the worker counts the changes in all cycles, false if only in some of them
  */
 export function describeHeatStatus({ chipCount }, countsAllCycles) {
-  return say.heatCounted(chipCount, countsAllCycles);
+  return say.heatStatus(chipCount, countsAllCycles);
 }
 
 /**

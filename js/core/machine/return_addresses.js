@@ -60,7 +60,7 @@ export function describeProgramCounter(address, map) {
  * @returns {AddressNote}
  */
 export function describeReturn(address, isLive, map) {
-  if (!isLive) return { isLive, description: say.STALE_RETURN, title: say.NO_CALL_WAITS };
+  if (!isLive) return { isLive, description: say.STALE_RETURN, title: say.NO_CALL_FOR_ADDRESS };
   const line = map ? map.lineOf(addressOfCall(address)) : 0;
   if (!map || line === 0) return { isLive, description: "", title: "" };
   return { isLive, description: joinWithCommas([map.nameOf(address), say.callInLine(line)]), title: map.sourceLines[line - 1].trim() };

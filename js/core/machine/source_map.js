@@ -155,7 +155,7 @@ export class SourceMap {
     if (!name) return "";
     if (!name.isLabel) return `${word} = 0x${hex(name.value, 2)}, ${name.value}`;
     const line = this.lineOf(name.value);
-    return say.wordWithAddress(word, hex(name.value, 3), line > 0 ? say.inLine(line) : "");
+    return say.wordWithAddress(word, hex(name.value, 3), line > 0 ? say.lineSuffix(line) : "");
   }
 
   /**

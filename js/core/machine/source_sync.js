@@ -100,7 +100,7 @@ export class SourceSync {
    */
   findMismatch({ refusal, difference }, map) {
     if (refusal) {
-      const lineText = refusal.line > 0 ? say.inSourceLine(refusal.line) : "";
+      const lineText = refusal.line > 0 ? say.onSourceLine(refusal.line) : "";
       const errorText = refusal.number > 0 ? `no ${refusal.number}: ${this.callbacks.describeRefusal(refusal.number)}` : say.DOT_ENDS;
       return say.sourceHasError(lineText, errorText);
     }

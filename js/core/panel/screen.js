@@ -118,7 +118,7 @@ export class Screen {
   buildTopRows() {
     const { panel, title, name } = this;
     const state = panel.isPaused ? say.pausedState(panel.pauseReason) : say.RUNNING;
-    const titleRow = say.headLine(title, name, panel.snapshot.commandCount, state);
+    const titleRow = say.titleLine(title, name, panel.snapshot.commandCount, state);
     return [titleRow, ...this.buildDisplayRows(), ...this.buildRegisterRows(), this.formatSourceLine()];
   }
 
@@ -143,7 +143,7 @@ export class Screen {
     return [
       say.lampsLine(snapshot.marks || "-"),
       `acc ${accumulator}  cy ${carry}  pc ${counter}  owed ${owed}  dcl ${bank}  test ${test}  ret ${returns.join(" ")}`,
-      `${pairs}  ${hasSourceLine ? say.returnTo(this.findAddressName(returnAddress)) : ""}`,
+      `${pairs}  ${hasSourceLine ? say.returnAddressLine(this.findAddressName(returnAddress)) : ""}`,
     ];
   }
 
@@ -163,7 +163,7 @@ export class Screen {
     const line = source.map.lineOf(counter);
     if (line === 0) return notInSourceMessage(hex(counter, 3));
     const sourceLine = escapeControls(expandTabs(source.lines[line - 1]).trimStart());
-    return say.sourceHere(this.findAddressName(counter), line + source.linesBefore, sourceLine);
+    return say.nextSourceLine(this.findAddressName(counter), line + source.linesBefore, sourceLine);
   }
 
   // --- RAM, front panel and listing ---
@@ -227,7 +227,7 @@ export class Screen {
       return (snapshot.isDown(keys[keyIndex].key) ? `[${label || "_"}]` : ` ${label} `).padEnd(this.keyWidth);
     }).join(""))]);
     if (!test) return rows;
-    const label = escapeControls(say.testKey(formatTestPinName(test)));
+    const label = escapeControls(say.testKeyLabel(formatTestPinName(test)));
     return [...rows, [makePlainPiece(Number(snapshot.test) === test.level ? `[${label}]` : ` ${label} `)]];
   }
 

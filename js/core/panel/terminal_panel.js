@@ -13,7 +13,7 @@ import { linesWithQueries, splitAnswers } from "../engine/forecast_queries.js";
 import { KeyQueue, MAX_RUN_CYCLES } from "../engine/key_queue.js";
 import { PrinterCodes } from "../engine/printer_codes.js";
 import { RealTime } from "../time/real_time.js";
-import { REASONS } from "../../words/stops.js";
+import { PAUSE_REASONS } from "../../words/stops.js";
 import { PanelSnapshot } from "./panel_snapshot.js";
 import * as say from "../../words/panel.js";
 
@@ -77,7 +77,7 @@ export class Panel {
   /** Takes the first snapshot. Pauses time if the session is at a breakpoint. */
   async begin() {
     await this.snapshot.refresh(0);
-    if (this.snapshot.isAtBreakpoint) this.pause(REASONS.break);
+    if (this.snapshot.isAtBreakpoint) this.pause(PAUSE_REASONS.break);
   }
 
   // --- lines ---
@@ -177,7 +177,7 @@ export class Panel {
     const run = readRun(answer);
     this.cycles += run ? run.cycles : 0;
     this.reportRefusal(plannedLine.line, answer);
-    if (!run || run.end !== "end") this.pause(run ? REASONS[run.end] : "");
+    if (!run || run.end !== "end") this.pause(run ? PAUSE_REASONS[run.end] : "");
     return run ? run.cycles : plannedCycles(plannedLine);
   }
 
@@ -188,7 +188,7 @@ export class Panel {
     if (this.printerCodes) this.printerCodes.readCodes([await this.ask(this.printerCodes.queries(MAX_INSTRUCTION_CYCLES))], this.cycles);
     const run = readRun(await this.sendCommand("step"));
     this.cycles += run ? run.cycles : 0;
-    if (run && run.end !== "end") this.pauseReason = REASONS[run.end];
+    if (run && run.end !== "end") this.pauseReason = PAUSE_REASONS[run.end];
   }
 
   /** The codes that the printer has received. */

@@ -54,7 +54,7 @@ function findPathError(key, path) {
   if (/[\u0000-\u001f\u007f]/.test(path)) return say.pathHasControlCharacter(key);
   if (path.includes("\\")) return say.pathHasBackslash(key);
   if (path.startsWith("/")) return say.noPathMessage(path, key);
-  if (path.split("/").includes("..")) return say.outOfFolder(path, key);
+  if (path.split("/").includes("..")) return say.pathLeadsOut(path, key);
   return "";
 }
 

@@ -64,7 +64,7 @@ export class ChangeCommands {
   async loadProgram() {
     const { callbacks, session, console: debugConsole, machine } = this.prompt;
     const text = callbacks.source();
-    if (text === null) return rejectCommand(say.NO_FILE);
+    if (text === null) return rejectCommand(say.NO_SOURCE_FILE);
     const refusal = await session.setProgram(text.replace(/^\uFEFF/, "").replace(/\r\n?/g, "\n"));
     if (refusal) {
       const lineText = refusal.line ? `, line ${refusal.line}` : "";

@@ -24,7 +24,7 @@ import { StopCommands } from "./stop_commands.js";
 import { rejectCommand } from "./argument_parsers.js";
 import { boardHasNo } from "../../words/adapter.js";
 import * as say from "../../words/prompt.js";
-import { stoppedAt } from "../../words/stops.js";
+import { pausedAt } from "../../words/stops.js";
 
 /**
  * @typedef {import("../adapter/session_launch.js").LaunchResult} LaunchResult
@@ -136,7 +136,7 @@ export class Prompt {
   async begin() {
     this.breakpointCommands.syncWithBench();
     await this.session.applyBreakpoints();
-    this.showStop(stoppedAt(this.session.counterText));
+    this.showStop(pausedAt(this.session.counterText));
   }
 
   /** Yields to other tasks. In a script, ends a move that exceeds MAX_CYCLES. */

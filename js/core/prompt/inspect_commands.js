@@ -8,7 +8,7 @@ import * as stateText from "./state_text.js";
 import { parseCountArgument, findInstruction, parseAddress, rejectCommand } from "./argument_parsers.js";
 import { DISASSEMBLED_FROM_ROM } from "../../words/adapter.js";
 import * as say from "../../words/prompt.js";
-import { stoppedAt } from "../../words/stops.js";
+import { pausedAt } from "../../words/stops.js";
 
 /**
  * @typedef {import("./debugger_prompt.js").CommandHandler} CommandHandler
@@ -129,7 +129,7 @@ export class InspectCommands {
   removeDisplays(argumentText) {
     const ids = argumentText.split(/\s+/).filter(Boolean).map(Number);
     const hasInvalidNumber = ids.some((id) => !(id >= 1 && id <= this.displays.length));
-    if (hasInvalidNumber) rejectCommand(say.NO_DISPLAY);
+    if (hasInvalidNumber) rejectCommand(say.NO_SUCH_DISPLAY);
     this.displays = argumentText === "" ? [] : this.displays.filter((_, index) => !ids.includes(index + 1));
   }
 
@@ -199,7 +199,7 @@ export class InspectCommands {
       },
       frame: () => this.frameText,
       stack: () => stateText.formatFrames(session),
-      program: () => lastStop.message || stoppedAt(session.counterText),
+      program: () => lastStop.message || pausedAt(session.counterText),
       locals: () => say.NO_LOCALS,
     };
   }
@@ -212,7 +212,7 @@ export class InspectCommands {
     const [, word = "", argument = ""] = /^(\S*)\s*(.*)$/.exec(argumentText) || [];
     const matchingKinds = INFO_WORDS.filter((kind) => word !== "" && kind.startsWith(word));
     const [matchingKind] = matchingKinds.length === 1 ? matchingKinds : [""];
-    const kind = GDB_INFO_NAMES.get(word) || matchingKind || rejectCommand(say.infoShows(INFO_WORDS.join(", ")));
+    const kind = GDB_INFO_NAMES.get(word) || matchingKind || rejectCommand(say.infoSyntax(INFO_WORDS.join(", ")));
     if (argument !== "" && !/^(line|symbol)$/.test(kind)) rejectCommand(say.infoTakesNoArgument(kind));
     return this.infoFormatters[kind](argument);
   }

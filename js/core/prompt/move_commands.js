@@ -6,7 +6,7 @@ import { countOpenCalls } from "./state_text.js";
 import { runKeyPress, stepBackBy, stepBackOver } from "./prompt_moves.js";
 import { parseCountArgument, parseCycles, findInstruction, parseConditionText, rejectCommand } from "./argument_parsers.js";
 import * as say from "../../words/prompt.js";
-import { NO_CALL_WAITS, stoppedAt } from "../../words/stops.js";
+import { NO_OPEN_CALL, pausedAt } from "../../words/stops.js";
 
 /**
  * @typedef {import("./debugger_prompt.js").CommandHandler} CommandHandler
@@ -106,7 +106,7 @@ export class MoveCommands {
    */
   finishSubroutine(argumentText) {
     if (argumentText !== "") rejectCommand(say.FINISH_SYNTAX);
-    if (countOpenCalls(this.prompt.session) === 0) rejectCommand(NO_CALL_WAITS);
+    if (countOpenCalls(this.prompt.session) === 0) rejectCommand(NO_OPEN_CALL);
     return this.moveAndShow(() => this.prompt.machine.runToGoal({ kind: "out" }));
   }
 
@@ -144,6 +144,6 @@ export class MoveCommands {
       prompt.showStop(remainingKeys === "" ? stopText : say.notPressedMessage(stopText, remainingKeys));
       return;
     }
-    prompt.showStop(stoppedAt(session.counterText));
+    prompt.showStop(pausedAt(session.counterText));
   }
 }

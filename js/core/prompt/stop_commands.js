@@ -180,7 +180,7 @@ export class StopCommands {
     if (!/^b(r(e(akpoints?)?)?)?$/.test(word) || name === "") rejectCommand(say.SAVE_SYNTAX);
     const watches = this.prompt.breakpointCommands.watchedPlaces.map((place) => `watch ${place}`);
     const lines = [...this.list.all.flatMap((breakpoint) => this.formatBreakpoint(breakpoint)), ...watches];
-    this.prompt.callbacks.write(name, `${[say.SAVED_HEAD, ...lines].join("\n")}\n`);
+    this.prompt.callbacks.write(name, `${[say.BREAKPOINTS_HEADER, ...lines].join("\n")}\n`);
     this.prompt.callbacks.print(say.savedIn(name, this.list.all.length));
   }
 

@@ -77,7 +77,7 @@ class Evaluation {
   readField(field, name) {
     if (!field) throw new UnsupportedQuestion(say.dependsOnInput(name));
     this.readCount += 1;
-    if (this.readCount > MAX_READS) throw new UnsupportedQuestion(say.READS_TOO_MUCH);
+    if (this.readCount > MAX_READS) throw new UnsupportedQuestion(say.USES_TOO_MANY_PLACES);
     const text = this.fieldTexts.get(field.name);
     if (text === undefined) throw new UndecidedField(field);
     return text;
@@ -181,7 +181,7 @@ function toComparisonLists(result, wantedResult) {
     return field.between(low, high).flatMap((fieldComparisons) => (
       nextLists.map((nextComparisons) => [...fieldComparisons, ...nextComparisons])));
   });
-  if (lists.length > MAX_COMPARISON_LISTS) throw new UnsupportedQuestion(say.READS_TOO_MUCH);
+  if (lists.length > MAX_COMPARISON_LISTS) throw new UnsupportedQuestion(say.USES_TOO_MANY_PLACES);
   return lists;
 }
 

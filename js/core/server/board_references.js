@@ -115,6 +115,6 @@ export class BoardReferences {
     const faceText = face.lamps.get(lamp);
     const lampText = lamp < 0 ? "" : `, lamp ${lamp}${faceText ? ` (${faceText.text})` : ""}`;
     const part = this.findPart(value);
-    return `${name}: ${lineText}${lampText}${part ? say.definedIn(kind === "chain", part.line) : ""}.`;
+    return `${name}: ${lineText}${lampText}${part ? say.definitionSuffix(kind === "chain", part.line) : ""}.`;
   }
 }

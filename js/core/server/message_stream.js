@@ -2,7 +2,7 @@
 // stream errors to the client. Subclasses handle the messages.
 
 import { MessageReader, StreamError, frameMessage } from "./framing.js";
-import { messageTooLong } from "../../words/server.js";
+import { messageNotRead } from "../../words/server.js";
 
 export class MessageStream {
   /** @param {(bytes: Uint8Array) => void} write */
@@ -20,7 +20,7 @@ export class MessageStream {
     try {
       for (const message of this.reader.readMessages(bytes)) {
         if ("text" in message) this.serveMessage(message.text);
-        else this.reportStreamError(messageTooLong(message.skippedSize));
+        else this.reportStreamError(messageNotRead(message.skippedSize));
       }
     } catch (error) {
       if (error instanceof StreamError) this.reportStreamError(error.message);

@@ -35,7 +35,7 @@ export class ProgramCalls {
   toRoutine({ name, line, from, to, last }) {
     const selectionRange = rangeInLine(line + 1, from, to);
     const range = { start: { line, character: 0 }, end: { line: last, character: this.lines[last].length } };
-    return { name: name || say.PROGRAM_BEGIN, detail: name && this.map ? this.map.meaningOf(name) : "", range, selectionRange };
+    return { name: name || say.PROGRAM_START, detail: name && this.map ? this.map.meaningOf(name) : "", range, selectionRange };
   }
 
   /**
@@ -96,7 +96,7 @@ export class ProgramCalls {
       const line = /** @type {number} */ (this.routines.names.get(name));
       const { label } = this.routines.parts[line - 1];
       const { from, to } = label || { from: 0, to: 0 };
-      return { range: rangeInLine(line, from, to), title: say.usesOf(calls, otherUses), references: findUses(name), test: null };
+      return { range: rangeInLine(line, from, to), title: say.describeUses(calls, otherUses), references: findUses(name), test: null };
     });
   }
 }

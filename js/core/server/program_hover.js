@@ -68,7 +68,7 @@ function describeCondition(text, word, { instructions, conditions, valueOf }) {
 function formatInstructionTable(instruction) {
   const { form, code, byteCount, cycles } = instruction;
   const effect = escapeMarkdown(describeEffect(instruction));
-  return formatTable(say.HEAD_OF_INSTRUCTIONS, [[formatCode(form), formatCode(code), byteCount, cycles, effect]]);
+  return formatTable(say.INSTRUCTION_HEADINGS, [[formatCode(form), formatCode(code), byteCount, cycles, effect]]);
 }
 
 /**

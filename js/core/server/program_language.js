@@ -141,8 +141,8 @@ export class ProgramLanguage {
     const codes = [...bytes().subarray(address, address + map.sizes[line])].map((byte) => hex(byte, 2)).join(" ");
     const { head } = splitStatement(text);
     const instruction = head && this.instructions.get(head.text.toUpperCase());
-    const cycles = instruction ? say.cyclesOf(instruction.cycles) : "";
-    return say.lineAt(line, hex(address, 3), codes, cycles);
+    const cycles = instruction ? say.cyclesSuffix(instruction.cycles) : "";
+    return say.describeProgramLine(line, hex(address, 3), codes, cycles);
   }
 
   /**

@@ -196,7 +196,7 @@ function checkEnvelope(text) {
   if (!match) return;
   const actualChecksum = checksum(new TextEncoder().encode(text.slice(match[0].length)));
   if (actualChecksum !== Number(match[1])) {
-    throw new InvalidProject(say.OTHER_CHECKSUM);
+    throw new InvalidProject(say.WRONG_CHECKSUM);
   }
 }
 
@@ -216,7 +216,7 @@ function readLinesBeforeTexts(lines) {
     const [match, word, value] = /^(name|unended|value) (.+)$|^#/.exec(lines.nextLine) || [];
     const breakpoint = parseBreakpoint(lines.nextLine || "");
     if (breakpoint) breakpoints.push(breakpoint);
-    else if (match === undefined) throw lines.createLineError(say.HEAD_LINE);
+    else if (match === undefined) throw lines.createLineError(say.HEADER_LINE);
     if (word === "name") name = shortenName(value);
     if (word === "unended") unendedWords.add(value);
     if (word === "value") watched.push(value);

@@ -51,7 +51,7 @@ export function splitProject(project) {
     { name: PROJECT_FILE_NAMES.program, content: programText },
     ...texts.filter(({ content }) => content !== ""),
     { name: PROJECT_FILE_NAMES.session, content: file },
-    { name: PROJECT_FILE_NAMES.name, content: `${name || say.UNNAMED}\n` },
+    { name: PROJECT_FILE_NAMES.name, content: `${name || say.UNNAMED_SESSION}\n` },
   ];
 }
 

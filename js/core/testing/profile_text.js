@@ -48,15 +48,16 @@ function formatKeyRow({ key, presses, answered, first, last }) {
  * @param {Profile} profile
  */
 export function profileText({ total, rows, earlierInstructionCycles, keys }) {
-  const [label, address, ownCycles, percent, calls, cyclesWithCalls, longestCall] = say.PROFILE_HEAD;
+  const [label, address, ownCycles, percent, calls, cyclesWithCalls, longestCall] = say.PROFILE_HEADINGS;
   const labelTableHeader = [label.padEnd(LABEL_WIDTH), address.padEnd(4), formatCell(ownCycles, 10), formatCell(percent, 6),
     formatCell(calls, 9), formatCell(cyclesWithCalls, 10), formatCell(longestCall, 10)].join(" ");
-  const [key, presses, answered, first, last] = say.KEYS_HEAD;
+  const [key, presses, answered, first, last] = say.KEY_TABLE_HEADINGS;
   const keyTableHeader = [key.padEnd(LABEL_WIDTH), formatCell(presses, 9), formatCell(answered, 9), formatCell(first, 24),
     formatCell(last, 24)].join(" ");
   return `${[
     say.cyclesInTime(total, formatMilliseconds(total)), "", labelTableHeader, ...rows.map((row) => formatLabelRow(row, total)),
-    ...(earlierInstructionCycles > 0 ? [`${say.BEGUN_BEFORE.padEnd(LOCATION_WIDTH)} ${formatShare(earlierInstructionCycles, total)}`] : []),
+    ...(earlierInstructionCycles > 0
+      ? [`${say.BEGUN_EARLIER.padEnd(LOCATION_WIDTH)} ${formatShare(earlierInstructionCycles, total)}`] : []),
     ...(keys.length > 0 ? ["", keyTableHeader, ...keys.map(formatKeyRow)] : []),
   ].join("\n")}\n`;
 }

@@ -44,12 +44,12 @@ async function findConditions(engine, { file, names: { face, board }, codes }, p
  */
 export async function createSampleTest(engine, texts) {
   const { prepared } = prepareTests(engine, texts);
-  if (!prepared) return say.SAMPLE_OF_CYCLES;
+  if (!prepared) return say.SAMPLE_CYCLE_TEST;
   const [key = null] = listNamedKeys(prepared.names.face).values();
   for (const condition of await findConditions(engine, prepared, key ? key.press : "")) {
     const testText = say.sampleTest(key ? key.name : "", HOLD_MS, condition);
     const { outcomes: [outcome] } = await runTests(engine, { ...texts, testText }, async () => true, { RecorderClass: NullRecorder });
     if (outcome && !outcome.failure) return testText;
   }
-  return say.SAMPLE_OF_CYCLES;
+  return say.SAMPLE_CYCLE_TEST;
 }

@@ -139,7 +139,7 @@ export class TestRun {
       return this.runSteps(session, action.steps, [say.describeSharedSteps(action.name, line, file), ...enclosingSteps]);
     }
     for (let repetition = 1; repetition <= action.times; repetition++) {
-      const failure = await this.runSteps(session, action.steps, [say.describeTurn(repetition, action.times, line), ...enclosingSteps]);
+      const failure = await this.runSteps(session, action.steps, [say.repetitionText(repetition, action.times, line), ...enclosingSteps]);
       if (failure) return failure;
       await this.yieldToMessages();
     }

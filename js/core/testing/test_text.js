@@ -255,7 +255,7 @@ class TestReader {
 
   /** Reports an error for each repetition whose `end` is missing, and closes the repetition. */
   closeRepeats() {
-    for (const { line } of this.openRepeats.splice(0)) this.addError(line, say.NO_END);
+    for (const { line } of this.openRepeats.splice(0)) this.addError(line, say.REPEAT_END_MISSING);
   }
 
   /**
@@ -266,7 +266,7 @@ class TestReader {
     const openRepeat = this.openRepeats.pop();
     if (openRepeat) this.steps = openRepeat.outer;
     if (words.length > 1) fail(say.END_SYNTAX);
-    if (!openRepeat) fail(say.NO_REPEAT);
+    if (!openRepeat) fail(say.REPEAT_MISSING);
   }
 
   /**
@@ -361,7 +361,7 @@ class TestReader {
     if (this.currentShared) fail(say.noStatesMessage(kind));
     const savingTest = this.savingTests.get(stateName);
     if (kind === "save") {
-      if (savingTest) fail(say.savedBefore(stateName, savingTest.name));
+      if (savingTest) fail(say.stateAlreadySaved(stateName, savingTest.name));
       this.savingTests.set(stateName, this.test);
       return { kind, state: stateName };
     }

@@ -97,7 +97,7 @@ class BoardErrorText {
       const repeatedKey = keys.find((key) => key.line === line);
       const first = keys.find(({ name }) => repeatedKey && name === repeatedKey.name);
       if (repeatedKey && first && first !== repeatedKey) {
-        return createErrorAt(number, repeatedKey, say.alreadyThere(repeatedKey.name, first.line));
+        return createErrorAt(number, repeatedKey, say.alreadyOnLine(repeatedKey.name, first.line));
       }
     }
     return this.createWholeLineError(this.messageFor(number));
@@ -131,7 +131,7 @@ class BoardErrorText {
     if (number === TOO_MANY_PARTS && name === "") return say.tooManyTablesMessage(MAX_PARTS[section], section);
     if (number === TOO_MANY_PARTS) return say.tooManyColumnsMessage(MAX_COLUMNS);
     if (!entry || !key || !value) return this.messageFor(number);
-    if (number === DUPLICATE_PART) return say.alreadyThere(`${name} ${value.inner}`, this.findDuplicateLine(entry, key));
+    if (number === DUPLICATE_PART) return say.alreadyOnLine(`${name} ${value.inner}`, this.findDuplicateLine(entry, key));
     if (number === MISSING_LINE) return name === "rows" ? this.explainRows(entry) : this.explainMissingLine(String(value.inner));
     const { kind = "" } = this.lines.get(String(value.inner)) || {};
     return name === "columns" ? say.needsInput(String(value.inner)) : say.needsOutput(name, String(value.inner), kind === "bit");

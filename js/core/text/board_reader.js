@@ -148,7 +148,7 @@ export class BoardReader {
 
   /** Reads the end of a line. Throws if another word is left on the line. */
   expectLineEnd() {
-    if (this.word.kind !== "end") throw new TomlSyntaxError(this.word, this.word.error || say.LINE_ENDS);
+    if (this.word.kind !== "end") throw new TomlSyntaxError(this.word, this.word.error || say.LINE_MUST_END);
     this.index += 1;
   }
 
@@ -184,7 +184,7 @@ export class BoardReader {
   /** @returns {Key} the key at the current position, with its value */
   readKey() {
     const name = this.word;
-    if (name.kind !== "bare" && name.kind !== "string") throw new TomlSyntaxError(name, name.error || say.KEY_SYNTAX);
+    if (name.kind !== "bare" && name.kind !== "string") throw new TomlSyntaxError(name, name.error || say.KEY_MISSING);
     this.index += 1;
     this.expectMark("=", say.equalsMissing(name.text));
     return { name: name.text, line: name.line, from: name.from, to: name.to, value: this.readValue(name.text) };
@@ -253,7 +253,7 @@ export class BoardReader {
     this.index += 1;
     const values = [];
     for (this.skipLineEnds(); !this.isMark("]"); this.skipLineEnds()) {
-      if (this.word.kind === "end") throw new TomlSyntaxError(openingBracket, say.NO_BRACKET);
+      if (this.word.kind === "end") throw new TomlSyntaxError(openingBracket, say.BRACKET_NOT_CLOSED);
       values.push(this.readValue(key));
       this.skipLineEnds();
       if (this.isMark(",")) this.index += 1;
@@ -269,7 +269,7 @@ export class BoardReader {
     this.index += 1;
     const keys = [];
     while (!this.isMark("}")) {
-      if (this.word.kind === "end") throw new TomlSyntaxError(this.word, say.NO_BRACE);
+      if (this.word.kind === "end") throw new TomlSyntaxError(this.word, say.BRACE_NOT_CLOSED);
       keys.push(this.readKey());
       if (this.isMark(",")) this.index += 1;
       else if (!this.isMark("}")) throw new TomlSyntaxError(this.word, this.word.error || say.KEY_COMMA_MISSING);

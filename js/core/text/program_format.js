@@ -151,8 +151,9 @@ export function formatProgramLines(lines, canStartStatement, layout) {
 export function findLengthError(lines) {
   const text = lines.join("\n");
   const sentLength = sentText(text, ";").length;
-  if (sentLength > MAX_SENT_LENGTH) return say.layoutTooLong(MAX_SENT_LENGTH.toLocaleString("en"), sentLength.toLocaleString("en"));
-  return text.length > MAX_STORED_LENGTH ? say.layoutTooLong(MAX_STORED_LENGTH.toLocaleString("en"), text.length.toLocaleString("en")) : "";
+  if (sentLength > MAX_SENT_LENGTH) return say.formattedTooLong(MAX_SENT_LENGTH.toLocaleString("en"), sentLength.toLocaleString("en"));
+  if (text.length <= MAX_STORED_LENGTH) return "";
+  return say.formattedTooLong(MAX_STORED_LENGTH.toLocaleString("en"), text.length.toLocaleString("en"));
 }
 
 /**

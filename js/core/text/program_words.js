@@ -155,7 +155,7 @@ function findFirstWordError({ label, operands }, head, { instructions }) {
   if (upperCaseWord === "WPM") return { word: head, message: say.NO_WPM };
   const definition = operands.length === 1 && NAME.test(head.text) && /^(?:EQU|SET)\s+(.*)$/i.exec(operands[0].text);
   if (definition) {
-    return { word: operands[0], message: say.nameGetsNumber(head.text, definition[1]), quickFixTexts: [`= ${definition[1]}`] };
+    return { word: operands[0], message: say.definitionSyntax(head.text, definition[1]), quickFixTexts: [`= ${definition[1]}`] };
   }
   const replacement = say.OTHER_ASSEMBLER_WORDS.get(upperCaseWord);
   const isName = !label && NAME.test(head.text);
@@ -224,19 +224,19 @@ function findFormError(parts, knownWords) {
     const message = say.equalsSyntax(reason && `; ${reason}`);
     return createError(operands[0] || label, message, reason ? findNumberFixes(operands[0].text) : []);
   }
-  if (!head) return { word: label, message: say.COLON_SYNTAX };
+  if (!head) return { word: label, message: say.LABEL_NAME_MISSING };
   const upperCaseWord = head.text.toUpperCase();
   if (DIRECTIVES.includes(upperCaseWord)) return findDirectiveError(head, operands, knownWords);
   const instruction = knownWords.instructions.get(upperCaseWord);
   if (!instruction) return findFirstWordError(parts, head, knownWords);
   const kinds = parseOperandKinds(instruction.form);
-  if (kinds.length === 0) return { word: operands[0] || head, message: say.takesNothing(upperCaseWord) };
+  if (kinds.length === 0) return { word: operands[0] || head, message: say.takesNoOperand(upperCaseWord) };
   for (let index = 0; index < Math.min(kinds.length, operands.length); index++) {
     const error = findOperandError(upperCaseWord, kinds[index], operands[index], knownWords, index === 0);
     if (error) return error;
   }
   const extraOperand = operands[kinds.length];
-  const expectation = kinds.map((kind) => OPERAND_KINDS[kind].description).join(say.AND_AFTER);
+  const expectation = kinds.map((kind) => OPERAND_KINDS[kind].description).join(say.OPERAND_SEPARATOR);
   return { word: extraOperand || head, message: say.operandCountMessage(upperCaseWord, expectation, Boolean(extraOperand)) };
 }
 
@@ -298,7 +298,7 @@ export function explainProgramLine(line, number, knownWords) {
   const parts = splitStatement(line);
   if (number === 30) return findFormError(parts, knownWords);
   if (number === 31 && parts.label) {
-    return { word: parts.label, message: say.definedBefore(parts.label.text, knownWords.names.get(parts.label.text)) };
+    return { word: parts.label, message: say.alreadyDefinedOnLine(parts.label.text, knownWords.names.get(parts.label.text)) };
   }
   if (number === 32) return findUnknownName(parts, knownWords);
   if (number === 33) return findValueError(parts, knownWords);
@@ -307,6 +307,6 @@ export function explainProgramLine(line, number, knownWords) {
     const head = parts.head.text.toUpperCase();
     return { word, message: say.otherPageMessage(word ? word.text : say.IT, head) };
   }
-  if (number === 35) return { word: parts.head, message: say.BYTE_TWICE };
+  if (number === 35) return { word: parts.head, message: say.ADDRESS_ALREADY_FILLED };
   return null;
 }

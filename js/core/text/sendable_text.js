@@ -135,14 +135,14 @@ export function sentText(text, mark) {
  * @param {string} character
  */
 function describeCharacter(character) {
-  if (/[\u2018\u2019\u201c\u201d\u00ab\u00bb]/.test(character)) return say.otherQuote(character);
+  if (/[\u2018\u2019\u201c\u201d\u00ab\u00bb]/.test(character)) return say.notAsciiQuote(character);
   if (character === "\u00a0") return say.NON_BREAKING_SPACE_HINT;
   if (/[\p{Cf}\p{Zs}\p{Zl}\p{Zp}\p{Cc}]/u.test(character) && character >= "\u0080") {
     const code = (character.codePointAt(0) || 0).toString(16).toUpperCase().padStart(4, "0");
     return say.invisibleCharacter(code);
   }
   if (character < " " || character === "\u007f") return say.CONTROL_CHARACTER;
-  return say.otherCharacter(character);
+  return say.notAsciiCharacter(character);
 }
 
 /**
@@ -154,7 +154,7 @@ function describeCharacter(character) {
  */
 function findSendingErrorInLine(line, lineToSend, lineNumber) {
   const range = { line: lineNumber, from: 0, to: line.length };
-  if (lineToSend === ".") return { number: 0, ...range, words: say.DOT_ENDS };
+  if (lineToSend === ".") return { number: 0, ...range, words: say.DOT_ENDS_TEXT };
   if (lineToSend.length > MAX_LINE_LENGTH) {
     const message = say.lineTooLong(MAX_LINE_LENGTH, lineToSend.length);
     return { number: LINE_TOO_LONG, ...range, from: line.indexOf(lineToSend) + MAX_LINE_LENGTH, words: message };

@@ -81,7 +81,7 @@ export function readBoardTables(manual) {
   /** @type {Map<string, Map<string, string>>} */
   const tables = new Map();
   let keys = new Map();
-  for (const [table, , names, values] of sectionRows(manual, say.KEYS_OF_TEXT)) {
+  for (const [table, , names, values] of sectionRows(manual, say.TOML_KEYS_TITLE)) {
     if (table !== "") {
       keys = new Map();
       tables.set(cellText(table), keys);

@@ -61,6 +61,6 @@ export function listRunTimes(answers, firstAnswer, lastAnswer, describePlace) {
   }
   if (answers.length < lastAnswer) return createErrorResult(say.tooFewAnswersMessage(answers.length));
   if (runs.length === 0) return createErrorResult(say.NO_RUN);
-  const rows = runs.map(({ time, stop, place }) => `${time}${place === "" ? say.WHY_STOPPED[stop] : say.toPlace(place)}`);
+  const rows = runs.map(({ time, stop, place }) => `${time}${place === "" ? say.STOP_REASONS[stop] : say.toPlace(place)}`);
   return { runs: rows, sum: formatRunTime(cycles), message: "" };
 }

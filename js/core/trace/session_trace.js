@@ -33,7 +33,7 @@ async function runState(engine, state, cycles, yieldToMessages) {
   for (let cyclesRun = 0; cyclesRun < cycles;) {
     const [answer] = engine.serve(state, `run ${Math.min(MAX_RUN_CYCLES, cycles - cyclesRun)}\n`, state).answers;
     const run = readRun(answer);
-    if (!run) throw new Error(`the bench answered a run by: ${answer}`);
+    if (!run) throw new Error(`unexpected answer to a run: ${answer}`);
     cyclesRun += run.cycles;
     if (run.end !== RAN_TO_END) return { cycles: cyclesRun, end: run.end };
     await yieldToMessages();

@@ -76,7 +76,7 @@ export function chooseLines(board, text, hasLabels, words) {
     }
     if (indices.length === 0) throw new UnknownLineError(word === "label" ? say.LABEL_NEEDS_PROGRAM : say.noSuchLineMessage(word));
     for (const number of indices) {
-      if (chosenIndices.has(number)) throw new UnknownLineError(say.lineTwice(lines[number].name));
+      if (chosenIndices.has(number)) throw new UnknownLineError(say.lineRepeated(lines[number].name));
       chosenIndices.add(number);
     }
   }

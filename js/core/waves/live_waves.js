@@ -66,8 +66,8 @@ export class LiveWaves {
     const triggerText = triggerMoment < 0 ? "" : say.triggerWasAt(formatNumber(triggerMoment));
     if (endReason === "trigger") return say.recordedDuration(this.lengthText, triggerText);
     if (endReason !== "") return say.recordedUntil(this.lengthText || say.NOTHING, say.END_REASONS[endReason] || endReason, triggerText);
-    if (triggerMoment >= 0) return say.recordsAfter(triggerText);
+    if (triggerMoment >= 0) return say.recordingAfterTrigger(triggerText);
     const statusText = waves.cycles === 0 ? say.RECORDS_WHEN_RUNNING : say.RECORDING;
-    return `${statusText}${trigger ? say.waitsFor(trigger) : ""}`;
+    return `${statusText}${trigger ? say.waitingForTrigger(trigger) : ""}`;
   }
 }

@@ -76,7 +76,7 @@ export function parseSearch(text, waves, markedLine) {
 function findSearchedLine(name, waves, markedLine) {
   const line = name ? findLineByName(name, waves.lines) : markedLine;
   if (line >= 0) return { line, error: "" };
-  return { line, error: name ? say.notRecordedMessage(name) : say.NO_LINE_MARKED };
+  return { line, error: name ? say.notRecordedMessage(name) : say.NO_ROW_SELECTED };
 }
 
 /**

@@ -88,7 +88,7 @@ export function describeForScreenReader(moment, waves, line) {
  * @param {boolean} isOfPast true for a recording of the past
  */
 export function describeRecording({ length, isStuck }, wantedCycles, isOfPast) {
-  if (length === 0 && isOfPast) return say.NOTHING_BEFORE;
+  if (length === 0 && isOfPast) return say.NOTHING_HAS_RUN;
   const recordedText = say.recordedSpan(cyclesText(length), formatCycleTime(length));
   if (isStuck) return say.codeFollows(recordedText);
   return length < wantedCycles ? say.noFurtherBackMessage(recordedText) : recordedText;

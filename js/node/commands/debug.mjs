@@ -15,7 +15,7 @@ import { readPageData, readPageModule } from "../page_parts.mjs";
 import { TerminalPrompt } from "../terminal_prompt.mjs";
 import { checkOutputFile, statInput, writeUserFile } from "../user_files.mjs";
 import { TerminalView } from "../terminal_view.mjs";
-import { SAVED_HEAD } from "../../words/prompt.js";
+import { BREAKPOINTS_HEADER } from "../../words/prompt.js";
 import { NOT_A_BREAKPOINTS_FILE, noSessionToDebugMessage } from "../../words/commands.js";
 
 /**
@@ -95,7 +95,7 @@ async function debugFiles(names) {
     read: (name) => readDecodedFile(expandTilde(name), MAX_TEXT_BYTES).text,
     write: (name, text) => {
       const file = expandTilde(name);
-      checkOutputFile(file, SAVED_HEAD, NOT_A_BREAKPOINTS_FILE, [names.board, names.program, names.session].flatMap((input) => input ?? []));
+      checkOutputFile(file, BREAKPOINTS_HEADER, NOT_A_BREAKPOINTS_FILE, [names.board, names.program, names.session].flatMap((input) => input ?? []));
       writeUserFile(file, text);
     },
     files: completePath,

@@ -7,7 +7,7 @@ import { InputTexts } from "../input_texts.mjs";
 import { UsageError, print } from "../output.mjs";
 import { createTemporaryFolder } from "../temporary_folders.mjs";
 import { checkOutputFile, writeUserFile } from "../user_files.mjs";
-import { NOT_COUNTEREXAMPLES, NOT_A_REPORT, excludeEachOther } from "../../words/commands.js";
+import { NOT_COUNTEREXAMPLES, NOT_A_REPORT, cannotCombine } from "../../words/commands.js";
 
 /** The first characters of the files that the command writes. */
 const COUNTEREXAMPLES_HEADER = "# Found by ";
@@ -33,7 +33,7 @@ export async function run(values, positionals) {
     seed: parseOption("SEED", values.seed, SEED_RANGE),
   };
   const unusedOption = merge && SEARCH_OPTIONS.find((name) => values[name] !== undefined);
-  if (unusedOption) throw new UsageError(excludeEachOther("--merge", unusedOption === "folder" ? "-C" : `--${unusedOption}`));
+  if (unusedOption) throw new UsageError(cannotCombine("--merge", unusedOption === "folder" ? "-C" : `--${unusedOption}`));
   const names = merge ? positionals : await resolveFileNames(folder, positionals);
   if (merge) checkArguments(names, ["REPORT"], Infinity);
   else checkArguments(names, ["BOARD", "PROGRAM", "PROPERTIES"], 3, true);

@@ -1,7 +1,7 @@
 // `mcs4 listing`: prints an assembler listing of a program, or the program's names with their values.
 import { joinLines } from "../../core/bench/inputs.js";
 import { programNames, programListing } from "../../core/machine/program_listing.js";
-import { excludeEachOther } from "../../words/commands.js";
+import { cannotCombine } from "../../words/commands.js";
 import { checkArguments, findProject } from "../arguments.mjs";
 import { InputTexts } from "../input_texts.mjs";
 import { assembleProgram, startEngine } from "../native_program.mjs";
@@ -9,7 +9,7 @@ import { UsageError, printVerbatim } from "../output.mjs";
 
 /** @type {import("./table.mjs").CommandModule["run"]} */
 export async function run({ folder, names, labels }, positionals) {
-  if (names && labels) throw new UsageError(excludeEachOther("--names", "--labels"));
+  if (names && labels) throw new UsageError(cannotCombine("--names", "--labels"));
   const project = await findProject(folder, positionals, 1);
   const words = project ? [project.program, ...positionals] : positionals;
   checkArguments(words, ["PROGRAM"], 1, true);

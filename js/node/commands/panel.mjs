@@ -8,7 +8,7 @@ import { sortByLine } from "../../core/board/face.js";
 import { Panel } from "../../core/panel/terminal_panel.js";
 import { Screen, fitsPanel, countMiddleRows } from "../../core/panel/screen.js";
 import { boardDiffers } from "../../words/commands.js";
-import { noteOfBoard } from "../../words/panel.js";
+import { boardErrorLine } from "../../words/panel.js";
 import { checkArguments, findProject } from "../arguments.mjs";
 import { readBoardAndFace } from "../board_file.mjs";
 import { InputTexts, MAX_TEXT_BYTES } from "../input_texts.mjs";
@@ -80,7 +80,7 @@ async function readTexts(session, name, texts) {
  */
 function findMissingPartNote({ board, face }, linesBefore) {
   const [note] = sortByLine([...face.errors, ...missingPartErrors(face, board)]);
-  return note ? noteOfBoard(note.line + linesBefore, note.message) : "";
+  return note ? boardErrorLine(note.line + linesBefore, note.message) : "";
 }
 
 /**

@@ -26,7 +26,7 @@ const PARSERS = { hex: readHex, srec: readSRecords, bnpf: readBnpf };
  */
 function chooseFormat(action, values) {
   const chosenFormats = ACTION_FORMATS.load.filter((name) => values[name]);
-  if (chosenFormats.length > 1) throw new UsageError(say.excludeEachOther(`--${chosenFormats[0]}`, `--${chosenFormats[1]}`));
+  if (chosenFormats.length > 1) throw new UsageError(say.cannotCombine(`--${chosenFormats[0]}`, `--${chosenFormats[1]}`));
   const [format = null] = chosenFormats;
   if (format && !ACTION_FORMATS[action].includes(format)) throw new UsageError(say.unsupportedFormat(action, format));
   return format;

@@ -1,7 +1,7 @@
 // `mcs4 trace`: prints the next instructions of a session, one per line.
 import { romCodes } from "../../core/engine/rom_codes.js";
 import { SessionTrace } from "../../core/trace/session_trace.js";
-import { excludeEachOther } from "../../words/commands.js";
+import { cannotCombine } from "../../words/commands.js";
 import { parseCount, checkArguments, loadProject } from "../arguments.mjs";
 import { InputTexts } from "../input_texts.mjs";
 import { yieldToMessages, openSession, readCheckedMap, startEngine } from "../native_program.mjs";
@@ -17,7 +17,7 @@ const MAX_CYCLES_WITH_LAST = 100000000;
  * @param {import("./table.mjs").Values} values
  */
 async function findProgramName({ folder, names, source }) {
-  if (names !== undefined && source !== undefined) throw new UsageError(excludeEachOther("--names", "--source"));
+  if (names !== undefined && source !== undefined) throw new UsageError(cannotCombine("--names", "--source"));
   const project = names === undefined && source === undefined && folder !== undefined ? await loadProject(folder) : null;
   return project ? project.program : names ?? source;
 }

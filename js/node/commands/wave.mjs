@@ -174,7 +174,7 @@ async function writeWav(openedSession, cycles, word, name) {
 /** @type {import("./table.mjs").CommandModule["run"]} */
 export async function run(values, words) {
   const { lines: isList, wav } = values;
-  if (isList && wav !== undefined) throw new UsageError(say.excludeEachOther("--lines", "--wav"));
+  if (isList && wav !== undefined) throw new UsageError(say.cannotCombine("--lines", "--wav"));
   if (wav !== undefined && values.names !== undefined) throw new UsageError(say.SOUND_NEEDS_NO_NAMES);
   checkArguments(words, isList ? ["SESSION"] : ["SESSION", "CYCLES"], isList ? 1 : wav === undefined ? Infinity : 3);
   const [session, word, ...lines] = words;

@@ -149,7 +149,7 @@ export class LampsView {
   drawScannedGroup(group, scannedIndex) {
     return makeLampList(group, (index, defaultName) => {
       const reader = scannedLampReader(group, scannedIndex, index);
-      return this.addLamp(reader.column, reader, defaultName, say.columnAndRow(this.lines[reader.column], this.lines[reader.row]));
+      return this.addLamp(reader.column, reader, defaultName, say.linesOfColumnAndRow(this.lines[reader.column], this.lines[reader.row]));
     });
   }
 

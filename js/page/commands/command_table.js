@@ -115,7 +115,7 @@ function makeButtonCommand(id, group, button, containerName, reason = say.NOT_NO
  */
 function makeTextCommand(id, textAction, keys, isSource = false) {
   return makeCommand(id, "text", (calls) => calls.performTextAction(textAction), { keys, place: isSource ? "source" : "texts",
-    unavailableReason: (calls) => (calls.isTextInFront(isSource) ? "" : isSource ? say.NO_NAMES : say.NO_EDITOR) });
+    unavailableReason: (calls) => (calls.isTextInFront(isSource) ? "" : isSource ? say.NEEDS_SOURCE : say.NEEDS_TEXT) });
 }
 
 /** @type {Command[]} */
@@ -136,7 +136,7 @@ const TIME_COMMANDS = [
   makeButtonCommand("time.backToChange", "time", "back-change", "history"),
   makeCommand("time.reset", "time", (calls) => calls.sendLine("reset\n"), { icon: "reset" }),
   makeCommand("time.test", "time", (calls) => calls.toggleTestPin(), {
-    unavailableReason: (calls) => (calls.isButtonAvailable("test") ? "" : say.NO_TEST_PIN) }),
+    unavailableReason: (calls) => (calls.isButtonAvailable("test") ? "" : say.TEST_HAS_OWN_CONTROL) }),
 ];
 
 /** @type {Command[]} */
@@ -242,7 +242,7 @@ const WIRING_COMMANDS = [
  * @param {CommandId} id
  * @param {string} button the id of the button
  */
-const makeWaveCommand = (id, button) => makeButtonCommand(id, "waves", button, "waves", say.NO_WAVES);
+const makeWaveCommand = (id, button) => makeButtonCommand(id, "waves", button, "waves", say.NOTHING_RECORDED);
 
 /** @type {Command[]} */
 const WAVE_COMMANDS = [
@@ -260,7 +260,7 @@ const WAVE_COMMANDS = [
   makeWaveCommand("waves.b", "cursor-b"),
   makeWaveCommand("waves.instruction", "wave-go-to"),
   makeCommand("waves.search", "waves", (calls) => calls.focusField("wave-search", "waves"), {
-    unavailableReason: (calls) => (calls.isButtonAvailable("zoom-in") ? "" : say.NO_WAVES) }),
+    unavailableReason: (calls) => (calls.isButtonAvailable("zoom-in") ? "" : say.NOTHING_RECORDED) }),
   makeWaveCommand("waves.findBefore", "find-before"),
   makeWaveCommand("waves.findAfter", "find-after"),
   makeButtonCommand("waves.changing", "waves", "waves-changing", "waves"),

@@ -25,6 +25,6 @@ export function makeKeyRows() {
  */
 export function addKeyRows(manual) {
   /** @type {ManualTable} */
-  const table = { caption: say.KEY_TABLE, head: [say.KEY_HEAD, say.EFFECT_HEAD], rows: makeKeyRows() };
+  const table = { caption: say.KEY_TABLE, head: [say.KEY_HEADING, say.EFFECT_HEADING], rows: makeKeyRows() };
   return manual.map((section) => (section.title === KEYBOARD ? { ...section, tables: [table, ...section.tables] } : section));
 }

@@ -122,7 +122,7 @@ export class DrawingView {
 
   /** @param {DrawingState} state */
   showState({ error, isWired }) {
-    this.stateCell.set(error || (isWired ? "" : say.NOT_WIRED));
+    this.stateCell.set(error || (isWired ? "" : say.NOT_APPLIED));
     button("drawing-wire").classList.toggle("due", error === "" && !isWired);
   }
 

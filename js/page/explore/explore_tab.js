@@ -87,7 +87,7 @@ export class ExploreTab {
     /** @type {AbortController | null} the controller that stops the current search; null if no search is running */
     this.controller = null;
     this.exploreButton = new Cell(button("explore"));
-    this.exploreButton.set(say.EXPLORE);
+    this.exploreButton.set(say.SEARCH);
     onClick(button("clear-finds"), () => this.clear());
     /** The number of errors in the properties, as shown on the tab. */
     this.errorCount = 0;
@@ -173,7 +173,7 @@ export class ExploreTab {
   show() {
     const { currentResults } = this;
     const isRunning = this.controller !== null;
-    this.exploreButton.set(isRunning ? say.STOP : say.EXPLORE);
+    this.exploreButton.set(isRunning ? say.STOP : say.SEARCH);
     this.updateClearButton();
     if (currentResults && currentResults.report) this.view.show(currentResults.report, isRunning);
     this.showMark(0);
@@ -246,7 +246,7 @@ export class ExploreTab {
       this.show();
     }
     if (taskResult.errors.length > 0) this.showErrors(taskResult.errors);
-    else if (!results.report) this.editor.showMessage(say.STOPPED_EARLY);
+    else if (!results.report) this.editor.showMessage(say.STOPPED_BEFORE_START);
   }
 
   /** @param {ProjectTextError[]} errors the errors that prevented the search */
@@ -269,7 +269,7 @@ export class ExploreTab {
   goToSource(line) {
     const { currentResults } = this;
     if (currentResults && currentResults.texts.programText === this.calls.texts().programText) this.calls.goToSource(line);
-    else this.editor.showMessage(say.OTHER_SOURCE);
+    else this.editor.showMessage(say.SOURCE_HAS_CHANGED);
   }
 
   /** @param {number} property the number of the property, from 0 */

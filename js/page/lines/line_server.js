@@ -6,7 +6,7 @@ import { CancelledError } from "../../core/bench/bench_errors.js";
 import { replaceNames } from "../../core/bench/name_substitution.js";
 import { lineEnded } from "../../words/debug.js";
 import * as say from "../../words/page.js";
-import { stoppedAt } from "../../words/stops.js";
+import { pausedAt } from "../../words/stops.js";
 
 /**
  * @typedef {import("../../core/engine/worker_session.js").ServedInput} ServedInput
@@ -135,6 +135,6 @@ export class LineServer {
     const isRunning = calls.isRunning();
     if (isReset) calls.discardGoal();
     if (isReset) calls.showMessage(isRunning ? say.RESET_RUNNING : say.resetTo(counter));
-    else if (counter !== previousCounter && !isRunning) calls.showMessage(stoppedAt(counter));
+    else if (counter !== previousCounter && !isRunning) calls.showMessage(pausedAt(counter));
   }
 }

@@ -88,7 +88,7 @@ export class LogView {
    */
   makeEntry(line, answers, saveError) {
     const entry = element("div", {}, element("p", { className: "sent" }, line), ...answers.map((answer) => this.makeAnswer(answer)));
-    if (saveError) entry.append(element("p", { className: "refused" }, say.notKeptMessage(saveError)));
+    if (saveError) entry.append(element("p", { className: "refused" }, say.lineNotSavedMessage(saveError)));
     return entry;
   }
 

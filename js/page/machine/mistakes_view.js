@@ -2,7 +2,7 @@
 // that makes the bench pause time at the next mistake of this kind.
 
 import { block, element, onClick } from "../ui/dom.js";
-import { KINDS } from "../../words/debug.js";
+import { MISTAKE_KINDS } from "../../words/debug.js";
 import * as say from "../../words/machine.js";
 
 /**
@@ -29,7 +29,7 @@ export class MistakesView {
     this.list = block("usual-list");
     const storedKinds = calls.storedKinds().split(" ");
     /** @type {Set<Kind>} the kinds of mistakes that pause time */
-    this.stopKinds = new Set(/** @type {Kind[]} */ (Object.keys(KINDS)).filter((kind) => storedKinds.includes(kind)));
+    this.stopKinds = new Set(/** @type {Kind[]} */ (Object.keys(MISTAKE_KINDS)).filter((kind) => storedKinds.includes(kind)));
   }
 
   /**
@@ -57,7 +57,7 @@ export class MistakesView {
     onClick(button, () => this.calls.goTo(address));
     const stopCheckBox = element("input", { type: "checkbox", checked: this.stopKinds.has(kind), autocomplete: "off" });
     stopCheckBox.addEventListener("change", () => this.setStopKind(kind, stopCheckBox.checked));
-    const label = element("label", { className: "check", title: say.stopsBefore(KINDS[kind]) }, stopCheckBox, say.STOP_AT_THIS);
+    const label = element("label", { className: "check", title: say.stopsBefore(MISTAKE_KINDS[kind]) }, stopCheckBox, say.BREAK_ON_THIS);
     return element("li", {}, element("span", { className: "words" }, button, ` ${message}`), label);
   }
 

@@ -113,7 +113,7 @@ export class RamView {
   /** @param {{ bank: number, chips: number }} bank */
   drawBank({ bank, chips }) {
     const rows = indices(chips).flatMap((chip) => indices(4).map((register) => this.drawRegister({ bank, chip, register })));
-    const headCells = [say.CHARACTERS, "status"].map((word) => element("th", { scope: "col" }, word));
+    const headCells = [say.NIBBLES, "status"].map((word) => element("th", { scope: "col" }, word));
     const head = element("thead", {}, element("tr", {}, element("td"), ...headCells));
     return element("table", { "className": "ram", "aria-label": say.bankOf(bank) }, head, element("tbody", {}, ...rows));
   }

@@ -47,9 +47,9 @@ class VerdictRow {
    */
   makeCounterexampleNodes(isGoal, counterexample, calls) {
     const { isTest, text } = counterexample;
-    const [openLabel, title] = isGoal ? [say.OPEN_WAY, say.BEFORE_GOAL] : [say.OPEN_FOUND, say.BEFORE_BREAK];
+    const [openLabel, title] = isGoal ? [say.OPEN_STEPS_TO_GOAL, say.BEFORE_GOAL] : [say.OPEN_COUNTEREXAMPLE, say.BEFORE_BREAK];
     const addButtons = isTest ? [makeButton(say.ADD_TO_TESTS, () => calls.addTest(counterexample), { title: say.AT_END })] : [];
-    const name = isTest ? say.ITS_TEST : say.ITS_LINES;
+    const name = isTest ? say.SHOW_AS_TEST : say.COUNTEREXAMPLE_LINES;
     return [
       element("details", {}, element("summary", {}, name), element("pre", { tabIndex: 0 }, text.trimEnd())),
       element("p", { className: "bar" },
@@ -61,7 +61,7 @@ class VerdictRow {
   show(isCurrent) {
     const { propertyVerdict } = this;
     this.mark.set(isCurrent ? markOf(propertyVerdict) : "");
-    this.status.set(isCurrent ? describeVerdict(propertyVerdict) : say.CHANGED);
+    this.status.set(isCurrent ? describeVerdict(propertyVerdict) : say.TEXTS_HAVE_CHANGED);
     this.litSwitch.set(isCurrent && propertyVerdict.verdict.kind === "proved" && isDesiredVerdict(propertyVerdict));
     this.notOkSwitch.set(isCurrent && propertyVerdict.verdict.kind !== "open" && !isDesiredVerdict(propertyVerdict));
   }

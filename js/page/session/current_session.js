@@ -205,7 +205,7 @@ export class CurrentSession {
     const runs = calls.takeRuns();
     const saveError = await this.session.save();
     calls.logRuns(runs, saveError);
-    calls.showSaveError(saveError && say.notKeptMessage(saveError));
+    calls.showSaveError(saveError && say.notSavedMessage(saveError));
     calls.showSaveState(saveError || !this.store.isPersistent ? "failed" : this.session.isUntouched ? "example" : "saved");
     return saveError;
   }

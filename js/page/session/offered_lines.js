@@ -23,7 +23,7 @@ export class OfferedLines {
     if (hasUserText && lines === "") return;
     this.setLines(lines);
     if (!hasUserText) return;
-    this.notice.show(say.OTHER_LINES, "undo",
+    this.notice.show(say.LINES_REPLACED, "undo",
       { label: say.UNDO, act: () => this.setLines(userText) });
   }
 

@@ -59,7 +59,7 @@ export class SessionList {
   showSelection() {
     const deleteButton = button("delete-chosen");
     deleteButton.disabled = this.selectedIds.size === 0;
-    deleteButton.textContent = this.selectedIds.size === 0 ? say.DELETE_CHOSEN : say.deleteSome(this.selectedIds.size);
+    deleteButton.textContent = this.selectedIds.size === 0 ? say.DELETE_SELECTED : say.deleteSelected(this.selectedIds.size);
     field("choose-all").checked = this.selectedIds.size > 0 && this.selectedIds.size === this.removableSessions.length;
   }
 
@@ -90,7 +90,7 @@ export class SessionList {
    */
   makeCheckBox({ id, name }, isCurrent) {
     const box = element("input", { type: "checkbox", checked: this.selectedIds.has(id), disabled: isCurrent, autocomplete: "off" });
-    box.setAttribute("aria-label", say.chooseNamed(name));
+    box.setAttribute("aria-label", say.selectNamed(name));
     box.addEventListener("change", () => {
       if (box.checked) this.selectedIds.add(id);
       else this.selectedIds.delete(id);

@@ -65,7 +65,7 @@ export class SessionManager {
     try {
       return (await this.store.getAll()).sort((a, b) => b.changed - a.changed);
     } catch (error) {
-      this.calls.showNotice(say.cannotReadKeptMessage(describeStoreError(error)));
+      this.calls.showNotice(say.cannotReadSessionsMessage(describeStoreError(error)));
       return [];
     }
   }
@@ -76,7 +76,7 @@ export class SessionManager {
    */
   async readRecord(id) {
     const record = await this.store.get(id);
-    if (!record) throw new StoreError(say.NO_LONGER_KEPT);
+    if (!record) throw new StoreError(say.NO_LONGER_SAVED);
     this.unsavedTexts.restore(record);
     return record;
   }
@@ -123,7 +123,7 @@ export class SessionManager {
       if (previousSession && !previousSession.isUntouched) this.calls.offerReturn(previousSession.record);
       return true;
     } catch (error) {
-      return this.reportRejection(say.notMadeMessage(this.errorMessages.errorMessage(error)));
+      return this.reportRejection(say.notCreatedMessage(this.errorMessages.errorMessage(error)));
     }
   }
 
@@ -158,7 +158,7 @@ export class SessionManager {
     if (currentSession && currentSession.record.id === id) await this.calls.save();
     return this.openNew(async () => {
       const record = await this.readRecord(id);
-      return createSessionRecord(say.copyName(record.name), record.file, record);
+      return createSessionRecord(say.nameOfCopy(record.name), record.file, record);
     });
   }
 

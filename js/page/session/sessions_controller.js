@@ -111,7 +111,7 @@ export class SessionsController {
    * @param {SessionRecord} record
    */
   offerReturn({ id, name }) {
-    this.notice.show(say.sessionLeft(name, this.store.isPersistent), "left", { label: say.REOPEN, act: () => this.open(id) });
+    this.notice.show(say.leftSessionMessage(name, this.store.isPersistent), "left", { label: say.REOPEN, act: () => this.open(id) });
   }
 
   /**
@@ -188,7 +188,7 @@ export class SessionsController {
 
   /** @param {string} hash the fragment of a URL that names no session, example or link */
   reportUnknownFragment(hash) {
-    if (hash.length > 1) this.notice.show(say.namesNothing(shortenName(hash)), "session");
+    if (hash.length > 1) this.notice.show(say.addressNamesNothing(shortenName(hash)), "session");
   }
 
   /**

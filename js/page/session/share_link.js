@@ -64,7 +64,7 @@ async function decompress(bytes) {
     throw new LinkError(say.CANNOT_DECOMPRESS);
   }
   try {
-    return await readOutput(bytes, stream, MAX_BYTES, new LinkError(say.CONTAINS_OTHER_TEXTS));
+    return await readOutput(bytes, stream, MAX_BYTES, new LinkError(say.TEXTS_TOO_LONG));
   } catch (error) {
     throw error instanceof LinkError ? error : new LinkError(say.DAMAGED);
   }

@@ -29,7 +29,7 @@ import * as say from "../../words/session.js";
  */
 
 /**
- * @typedef {keyof typeof say.WHICH_TEXT} TextName
+ * @typedef {keyof typeof say.TEXT_SUBJECTS} TextName
  *
  * A replaced text: its name, the old text and the new text. `undoStep` is the step in the editor that restores the old text. This step is
  * possible until the user edits the text.
@@ -255,7 +255,7 @@ export class TextsController {
     }
     const undoEntries = replacedTexts.flatMap((text) => this.restoreText(text));
     const [{ name }] = replacedTexts;
-    const restoredMessage = replacedTexts.length > 1 ? say.TEXTS_RESTORED : say.textRestored(say.WHICH_TEXT[name]);
+    const restoredMessage = replacedTexts.length > 1 ? say.TEXTS_RESTORED : say.textRestored(say.TEXT_SUBJECTS[name]);
     if (undoEntries.length > 0) this.offerUndo(session, undoEntries, restoredMessage);
   }
 }

@@ -12,7 +12,7 @@ import * as say from "../../words/session.js";
 
 /** @param {SessionRecord[]} records */
 export function formatNames(records) {
-  return records.length === 1 ? `"${records[0].name}"` : say.manySessions(records.length);
+  return records.length === 1 ? `"${records[0].name}"` : say.sessionCount(records.length);
 }
 
 export class Trash {

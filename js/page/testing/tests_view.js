@@ -89,7 +89,7 @@ export class TestsView {
     });
     if (earlierInstructionCycles > 0) {
       const count = earlierInstructionCycles.toLocaleString("en");
-      tableRows.push(makeTableRow(say.BEGUN_BEFORE, "", count, formatPercent(earlierInstructionCycles), "", "", ""));
+      tableRows.push(makeTableRow(say.BEGUN_EARLIER, "", count, formatPercent(earlierInstructionCycles), "", "", ""));
     }
     this.labels.replaceChildren(...tableRows);
     this.keys.hidden = keys.length === 0;

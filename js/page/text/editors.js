@@ -194,7 +194,7 @@ export class Editors {
     const answer = await this.calls.serveLines(`${lines}reset\n`);
     if (answer === null) return;
     const refusal = parseRefusal(answer);
-    const successMessage = say.assembledAll(formatQuantity(size, "byte"));
+    const successMessage = say.assembledAndRunning(formatQuantity(size, "byte"));
     this.program.showMessage(refusal ? this.describeRefusal(refusal) : successMessage);
     if (refusal) return;
     await this.calls.handleAssembly(true);
@@ -222,13 +222,13 @@ export class Editors {
     });
     if (answer === null) return;
     const refusal = parseRefusal(answer);
-    this.board.showMessage(refusal ? this.describeRefusal(refusal) : say.BOARD_WIRED);
+    this.board.showMessage(refusal ? this.describeRefusal(refusal) : say.BOARD_APPLIED);
     await this.programErrors.checkNow();
   }
 
   /** Replaces the board's text with the text of the tour's board, and applies it. */
   async applyFirstBoard() {
-    this.calls.replaceBoard(TOUR_BOARD, say.FIRST_BOARD);
+    this.calls.replaceBoard(TOUR_BOARD, say.FIRST_BOARD_INSERTED);
     await this.applyBoard();
   }
 

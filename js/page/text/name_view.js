@@ -87,7 +87,8 @@ export class NameView {
   askNewName() {
     const name = this.nameAtCaret();
     if (name === "") return;
-    this.bar.open({ label: say.otherName(name), value: name, buttonLabel: say.RENAME, act: (newName) => this.applyRename(name, newName) });
+    const label = say.renameLabel(name);
+    this.bar.open({ label, value: name, buttonLabel: say.RENAME, act: (newName) => this.applyRename(name, newName) });
   }
 
   /**

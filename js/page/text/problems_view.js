@@ -57,7 +57,7 @@ export class ProblemsView {
    * @param {TextError} error
    */
   makeEntry(name, error) {
-    const button = element("button", { type: "button" }, element("b", {}, say.problemAt(name, error.line)), error.words);
+    const button = element("button", { type: "button" }, element("b", {}, say.problemLocation(name, error.line)), error.words);
     onClick(button, () => this.calls.goTo(name, error));
     return element("li", {}, button);
   }

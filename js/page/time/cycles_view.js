@@ -19,8 +19,8 @@ export class CyclesView {
     this.stopCell = new Cell(element("b"));
     this.markLabel = new Cell(element("span"));
     this.cyclesSinceMark = new Cell(element("b"));
-    const title = say.MARKS_CYCLE;
-    const markButton = element("button", { id: "mark", type: "button", title }, say.MARK);
+    const title = say.SET_MARKER_HINT;
+    const markButton = element("button", { id: "mark", type: "button", title }, say.SET_MARKER);
     onClick(markButton, () => {
       this.cycles.addMark();
       this.show();
@@ -29,7 +29,7 @@ export class CyclesView {
     const root = block("cycles");
     root.replaceChildren(
       element("span", { title: say.SINCE_RESET_TOOLTIP }, say.SINCE_RESET, this.resetCell.node),
-      element("span", { title: say.IN_LAST_RUN }, say.SINCE_STOP, this.stopCell.node),
+      element("span", { title: say.IN_LAST_RUN }, say.SINCE_PAUSE, this.stopCell.node),
       element("span", {}, markButton, " ", this.markLabel.node, this.cyclesSinceMark.node),
     );
     root.hidden = false;

@@ -104,6 +104,6 @@ export class HistoryView {
     const { goal, error } = text.trim() === "" ? { goal: null, error: "" } : parseGoal(text, this.calls.names());
     this.placeField.setAttribute("aria-invalid", String(goal === null));
     if (goal) action(goal);
-    else this.calls.showMessage(error === "" ? say.ENTER_CHANGE : say.cannotSearchForMessage(error.slice(0, MAX_MESSAGE_LENGTH)));
+    else this.calls.showMessage(error === "" ? say.PLACE_MISSING : say.cannotSearchForMessage(error.slice(0, MAX_MESSAGE_LENGTH)));
   }
 }

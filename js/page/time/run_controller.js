@@ -288,7 +288,7 @@ export class RunController {
    */
   describeStop(stop, goal = this.goal) {
     const refusal = parseRefusal(stop.reason);
-    if (refusal) return say.stoppedBy(stop.reason, this.calls.describeRefusal(refusal.number));
+    if (refusal) return say.pausedBy(stop.reason, this.calls.describeRefusal(refusal.number));
     return pauseMessage(goal, stop, this.counterText, this.calls.describeCondition(stop.id || 0));
   }
 

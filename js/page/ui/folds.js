@@ -28,7 +28,7 @@ export function makeFolds(preferences) {
  */
 function makeFold(panel, title, preferences) {
   const preferenceKey = `fold.${panel.id}`;
-  const foldButton = element("button", { type: "button", className: "fold", title: say.FOLDS }, title);
+  const foldButton = element("button", { type: "button", className: "fold", title: say.FOLD_HINT }, title);
   let isFolded = preferences.get(preferenceKey) === "folded";
   const showState = () => {
     panel.classList.toggle("folded", isFolded);

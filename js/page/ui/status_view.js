@@ -27,6 +27,6 @@ export class StatusView {
 
   /** @param {"example" | "saved" | "failed"} state */
   showSaveState(state) {
-    this.saveText.set(say.SAVED[state]);
+    this.saveText.set(say.SAVING_STATES[state]);
   }
 }

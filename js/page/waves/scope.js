@@ -319,28 +319,27 @@ export class Scope {
   }
 
   /**
-   * The recording to save, or null if there is no recording or no line is chosen. If there is a recording but no chosen line, shows a
-   * message.
+   * Returns the recording to save. Returns null if there is no recording, or if no line is chosen; in the second case, shows a message.
    * @returns {Waves | null}
    */
-  get wavesToSave() {
+  requireWavesToSave() {
     const { waves, chosenLines } = this.view;
     if (waves && chosenLines.length === 0) this.status.set(say.NO_LINE_CHOSEN);
     return chosenLines.length === 0 ? null : waves;
   }
 
   save() {
-    const { wavesToSave: waves } = this;
+    const waves = this.requireWavesToSave();
     if (waves) download(this.calls.name(), ".vcd", new Blob([...vcdParts(waves, this.view.sortedLines)], { type: "text/plain" }));
   }
 
   savePng() {
-    const { wavesToSave: waves } = this;
+    const waves = this.requireWavesToSave();
     if (waves) renderPng(this.view.makePicture(waves), (blob) => download(this.calls.name(), ".png", blob));
   }
 
   saveSvg() {
-    const { wavesToSave: waves } = this;
+    const waves = this.requireWavesToSave();
     if (waves) download(this.calls.name(), ".svg", new Blob([toSvg(this.view.makePicture(waves))], { type: "image/svg+xml" }));
   }
 }

@@ -149,7 +149,7 @@ export class WaveChoice {
     const { waves, missingValueNames } = this;
     if (!waves) return;
     const names = missingValueNames.slice(0, 3).join(", ") + (missingValueNames.length > 3 ? " .." : "");
-    this.status.set(missingValueNames.length === 0 ? "" : say.recordedNext(names, missingValueNames.length === 1));
+    this.status.set(missingValueNames.length === 0 ? "" : say.inNextRecording(names));
     this.calls.showLines(waves.lines.map((_, line) => line).filter((line) => this.selectedNames.has(waves.lines[line].name)));
   }
 }
