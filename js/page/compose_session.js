@@ -126,7 +126,7 @@ function makeStoryCalls({ layout, snapshotView, keyPresser, runController, sourc
 export function makeGuide(page, manual) {
   const { layout, programEditor } = page;
   const guide = new Guide(manual, {
-    send: (lines) => page.lineServer.serveTyped(lines),
+    send: (lines) => page.lineServer.serveTypedLines(lines),
     formatAnswer: (answer) => page.logView.formatAnswer(answer),
     openExample: (example) => page.sessionsController.openExample(example),
     showSource: () => layout.tabs.choose("program"),

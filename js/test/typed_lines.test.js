@@ -23,7 +23,7 @@ async function createSession(properties) {
 
 /** Resolves to the lines that the bench served, with their first answers, and to the effects of breakpoints. */
 async function serveTypedLines(calls, lines) {
-  const { entries, typedResult: { id, cutLine, cycles, tally } } = await calls.serveTyped(lines);
+  const { entries, typedResult: { id, cutLine, cycles, tally } } = await calls.serveTypedLines(lines);
   const servedLines = entries.map(({ line, answers }) => `${line}: ${answers[0].replace(/^ok \d+ ?/, "")}`);
   return { lines: servedLines, id, cutLine, cycles, hits: tally.hits, notes: tally.notes };
 }
@@ -70,7 +70,7 @@ test("cancelled lines change nothing, and no hits are counted", async () => {
     callCount += 1;
     return callCount < 2;
   };
-  await assert.rejects(calls.serveTyped("run 4\nrun 4\nrun 4\n"), CancelledError);
+  await assert.rejects(calls.serveTypedLines("run 4\nrun 4\nrun 4\n"), CancelledError);
   assert.deepEqual(calls.ask("seq\nstate\n"), answersBefore);
   calls.bench.shouldContinue = async () => true;
   assert.deepEqual((await serveTypedLines(calls, "run 1000\n")).lines, ["run 5: ran 5 end"]);

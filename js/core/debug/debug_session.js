@@ -257,7 +257,8 @@ export class DebugSession {
    *   to false, `serve` throws CancelledError and no line takes effect
    */
   async serve(lines, shouldContinue = continueAlways) {
-    const { result, typedResult: { id, reason, change, cutLine, cycles, tally } } = await this.debugger.serveTyped(lines, shouldContinue);
+    const { result, typedResult } = await this.debugger.serveTypedLines(lines, shouldContinue);
+    const { id, reason, change, cutLine, cycles, tally } = typedResult;
     this.breakpoints.count(tally.hits);
     if (id === 0) return { ...result, tally, message: "" };
     const { message } = this.describeStop(null, { reason, id, cycles, endsAtReturn: false, change }, tally);

@@ -65,10 +65,10 @@ export class SessionRequests {
    * @param {string} lines
    * @returns {Promise<TypedReply>}
    */
-  async serveTyped(lines) {
+  async serveTypedLines(lines) {
     const typedResult = { id: 0, reason: "", change: "", cutLine: "", cycles: 0, tally: NO_TALLY };
     const result = await this.bench.executeAndReport(async () => {
-      const typedReply = await this.bench.debugger.serveTyped(lines, (done) => this.bench.shouldContinue(done, lines.length));
+      const typedReply = await this.bench.debugger.serveTypedLines(lines, (done) => this.bench.shouldContinue(done, lines.length));
       Object.assign(typedResult, typedReply.typedResult);
       return typedReply.result;
     });

@@ -72,14 +72,14 @@ export class LineServer {
    * starts. Resolves to the first answer, or to null after a failure or if a name is unknown.
    * @param {string} typedLines
    */
-  async serveTyped(typedLines) {
+  async serveTypedLines(typedLines) {
     const { calls } = this;
     const { lines, message: nameError } = replaceNames(typedLines, calls.map());
     if (nameError !== "") {
       this.notice.show(nameError);
       return null;
     }
-    const result = await this.performWork(say.SENDING_LINES, (options) => this.bench.call("serveTyped", [lines], options));
+    const result = await this.performWork(say.SENDING_LINES, (options) => this.bench.call("serveTypedLines", [lines], options));
     if (!result) return null;
     const { id, cutLine, cycles, tally } = result.typedResult;
     calls.countHits(tally);

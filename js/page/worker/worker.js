@@ -18,7 +18,7 @@ import { packError } from "../../core/bench/bench_errors.js";
 const PROGRESS_INTERVAL = 100;
 
 /** @type {ReadonlySet<CallName>} the names of the calls that change the session even while time is running */
-const CHANGING_CALLS = new Set(["serve", "serveTyped", "runToGoal", "goBack", "goForward"]);
+const CHANGING_CALLS = new Set(["serve", "serveTypedLines", "runToGoal", "goBack", "goForward"]);
 
 /**
  * Returns true if a call presses a key and runs cycles. The user is then waiting for the lamps to react.
