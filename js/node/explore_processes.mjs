@@ -150,7 +150,7 @@ class Exploration {
     const { user, system } = process.cpuUsage(startUsage);
     for (const test of campaignRun.unconfirmedTests) printError(`explore: ${say.testDoesNotFail(test)}`);
     const sums = createHash("sha256").update(JSON.stringify(texts)).digest("hex");
-    return campaignRun.report({ names, sums, seconds: (user + system) / 1e6, isStopped });
+    return campaignRun.createReport({ names, sums, seconds: (user + system) / 1e6, isStopped });
   }
 
   /**

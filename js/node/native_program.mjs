@@ -215,11 +215,11 @@ export async function assembleProgram(engine, program) {
  * @returns {Promise<(address: number) => string>}
  */
 export async function makeAddressDescriber(texts, engine, programName, session) {
-  const [{ romCodes }, { formatSourceLocation }] = await Promise.all([
+  const [{ readRomCodes }, { formatSourceLocation }] = await Promise.all([
     import("../core/engine/rom_codes.js"), import("../core/machine/source_locations.js"),
   ]);
   const program = texts.readText(programName, "asm");
-  const map = await readCheckedMap(engine, romCodes(engine, await openSession(engine, texts, session)), program);
+  const map = await readCheckedMap(engine, readRomCodes(engine, await openSession(engine, texts, session)), program);
   const source = { lines: program.text.split("\n"), linesBefore: program.linesBefore };
   return (address) => formatSourceLocation(map, source, address);
 }

@@ -74,7 +74,7 @@ function findLampChanges(calls, cycles) {
     const changeCycles = marks.flatMap((row, index) => (index > 0 && row[lamp] !== marks[index - 1][lamp] ? [index] : []));
     if (changeCycles.length === 0) return null;
     const longest = Math.max(0, ...changeCycles.slice(1).map((cycle, index) => cycle - changeCycles[index]));
-    return { first: changeCycles[0], longest, rest: cycles - changeCycles[changeCycles.length - 1] };
+    return { first: changeCycles[0], longest, afterLast: cycles - changeCycles[changeCycles.length - 1] };
   });
 }
 
@@ -175,7 +175,7 @@ function createLamp() {
 
 test("the brightness of a flickering lamp rises, and falls, by 63 % within the persistence time", () => {
   const { brightness, simulate } = createLamp();
-  for (let part = 0; part < 10; part++) simulate(0.8, EYE_PERSISTENCE_MS / 10, { first: 1, longest: 8, rest: 7 });
+  for (let part = 0; part < 10; part++) simulate(0.8, EYE_PERSISTENCE_MS / 10, { first: 1, longest: 8, afterLast: 7 });
   assert.ok(Math.abs(brightness.lampDuties[0] - 0.8 * (1 - Math.exp(-1))) < 1e-9);
   simulate(1, Infinity);
   assert.equal(brightness.lampDuties[0], 1);
@@ -188,16 +188,16 @@ test("the brightness of a flickering lamp rises, and falls, by 63 % within the p
 
 test("a steady lamp has full brightness at once, and fades when it goes out; a lamp that only flashes is visible, but not on", () => {
   const { brightness, simulate } = createLamp();
-  simulate(0.3, FRAME_MS, { first: 70, longest: 0, rest: 30 });
+  simulate(0.3, FRAME_MS, { first: 70, longest: 0, afterLast: 30 });
   assert.deepEqual([brightness.lampDuties, brightness.isOn], [[1], [true]]);
-  simulate(0.4, FRAME_MS, { first: 40, longest: 0, rest: 60 }, ".");
+  simulate(0.4, FRAME_MS, { first: 40, longest: 0, afterLast: 60 }, ".");
   assert.deepEqual(brightness.isOn, [true]);
   simulate(0, FRAME_MS);
   assert.deepEqual(brightness.isOn, [false]);
   assert.ok(brightness.lampDuties[0] > 0.3 && brightness.lampDuties[0] < 0.5, String(brightness.lampDuties[0]));
   for (let frame = 0; frame < 30; frame++) simulate(0, FRAME_MS);
   assert.deepEqual(brightness.lampDuties, [0]);
-  simulate(0.06, FRAME_MS, { first: 10, longest: 6, rest: 84 }, ".");
+  simulate(0.06, FRAME_MS, { first: 10, longest: 6, afterLast: 84 }, ".");
   assert.ok(brightness.lampDuties[0] > 0.02 && brightness.lampDuties[0] < 0.03, String(brightness.lampDuties[0]));
   assert.deepEqual(brightness.isOn, [false]);
 });
@@ -205,7 +205,7 @@ test("a steady lamp has full brightness at once, and fades when it goes out; a l
 test("a lamp that is steady within a frame is steady once it stays unchanged for twice as long", () => {
   const { brightness, simulate } = createLamp();
   // In 20 ms, the lamp stays unchanged for 2 ms, then 8 ms, then 10 ms.
-  simulate(0.5, 20, { first: 10, longest: 40, rest: 50 });
+  simulate(0.5, 20, { first: 10, longest: 40, afterLast: 50 });
   assert.ok(Math.abs(brightness.lampDuties[0] - 0.5 * (1 - Math.exp(-20 / EYE_PERSISTENCE_MS))) < 1e-9, String(brightness.lampDuties[0]));
   simulate(1, 5);
   assert.ok(brightness.lampDuties[0] < 0.5, String(brightness.lampDuties[0]));
@@ -217,10 +217,10 @@ test("a lamp that changes faster than the eye can follow is never steady", () =>
   const { brightness, simulate } = createLamp();
   // The lamp is off for 12 ms and on for 8 ms. It is sampled every 4 ms.
   for (let period = 0; period < 50; period++) {
-    simulate(0, 4, { first: 0, longest: 0, rest: 100 });
+    simulate(0, 4, { first: 0, longest: 0, afterLast: 100 });
     simulate(0, 4);
     simulate(0, 4);
-    simulate(1, 4, { first: 0, longest: 0, rest: 100 });
+    simulate(1, 4, { first: 0, longest: 0, afterLast: 100 });
     simulate(1, 4);
     if (period > 10) assert.ok(brightness.lampDuties[0] > 0.4 && brightness.lampDuties[0] < 0.6, String(brightness.lampDuties[0]));
   }

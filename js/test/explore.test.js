@@ -12,7 +12,7 @@ import { Explorer } from "../core/explore/explorer.js";
 import { SlicedSearch, prepareSearch } from "../core/explore/sliced_search.js";
 import { DeltaFiles } from "../core/explore/delta_files.js";
 import { PlaceReader } from "../core/explore/place_reader.js";
-import { PlaceQueries, PlaceValues } from "../core/explore/place_queries.js";
+import { PlaceQueries, PlaceAnswers } from "../core/explore/place_queries.js";
 import { hasExpectedResult, joinReports, formatTap, formatReportTests } from "../core/explore/report.js";
 import { Search } from "../core/explore/search.js";
 import { createSubject } from "../core/explore/subject.js";
@@ -158,7 +158,7 @@ test("properties that hold for all inputs are proved first, and not searched", a
   const { campaign } = readCampaign(text, smallSubject);
   const run = new CampaignRun(smallSubject, campaign, 1, () => true, MAX_MINIMISING_CYCLES, null, undefined, 30000);
   const summarizeProperties = () =>
-    run.report({ names: { board: "", program: "", properties: "" }, sums: "", seconds: 1, isStopped: false })
+    run.createReport({ names: { board: "", program: "", properties: "" }, sums: "", seconds: 1, isStopped: false })
     .properties.map(({ states, found }) => `${states} ${found !== null}`);
   // The proofs find two states: whenever TEST is read, the accumulator and the lamp are both 0 or both 1.
   const expected = ["2 false", "0 true", "2 false", "0 true", "0 false", "2 false", "2 false", "2 false"];
@@ -319,7 +319,7 @@ test("the values of places are those that `trace` reports", () => {
       .map((name) => `poke ${name} ${Math.floor(16 * random())}\n`).join("");
     engine.serve(file, `${poke}poke cy ${round % 2}\npress 0 ${round % 4}\nrun ${1 + Math.floor(90 * random())}\n`, file);
     const { answers } = engine.ask(file, `${reader.lines}${queries.formatLines(1)}seq\n`);
-    const values = new PlaceValues(answers);
+    const values = new PlaceAnswers(answers);
     const row = reader.takeRow(values);
     assert.equal(row, values.takeRow(queries));
     assert.match(values.take(), /^seq /);
@@ -327,7 +327,7 @@ test("the values of places are those that `trace` reports", () => {
 });
 
 test("a rejected count has no results", () => {
-  const values = new PlaceValues(["no 11", "count ran 2 end lines 1", "00F 2", "seq 4"]);
+  const values = new PlaceAnswers(["no 11", "count ran 2 end lines 1", "00F 2", "seq 4"]);
   assert.deepEqual([values.takeCountsIfAny(), values.takeCountsIfAny()], [[], [{ address: 15, startCount: 2, jumpCount: -1 }]]);
   assert.equal(values.take(), "seq 4");
 });
@@ -385,7 +385,7 @@ test("joined reports have the shortest counterexamples and the combined coverage
     { names: { board: "b", program: "p", properties: "x.props" }, sums: "1", seconds: 1, isStopped: false, seed });
   const text = "press A B\nwait 20 to 300\nnever lamp on on\nreach lamp 1 on\n";
   const [firstReport, secondReport] =
-    await Promise.all([1, 2].map(async (seed) => (await explore(text, 1, () => true, seed)).report(createReportInput(seed))));
+    await Promise.all([1, 2].map(async (seed) => (await explore(text, 1, () => true, seed)).createReport(createReportInput(seed))));
   secondReport.properties[0].found = { ...firstReport.properties[0].found, steps: 0, test: "test shorter\n" };
   const joinedReport = joinReports([firstReport, secondReport]);
   assert.equal(joinedReport.properties[0].found.test, "test shorter\n");

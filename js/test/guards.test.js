@@ -153,8 +153,8 @@ function findViolationTime(property, { c, g, events }) {
   let violationTime = -1;
   const notify = (event, time, input = "") => {
     const isValuesEvent = event === "values";
-    const areOpen = isValuesEvent || event === "down" ? areGuardsOpenAt(time) : [];
-    const moment = { time, changeTime: time, address: -1, holds: isValuesEvent && c[time], areOpen, input, downCount: 0, key: -1 };
+    const guardValues = isValuesEvent || event === "down" ? areGuardsOpenAt(time) : [];
+    const moment = { time, changeTime: time, address: -1, holds: isValuesEvent && c[time], guardValues, input, downCount: 0, key: -1 };
     const newViolationTime = property.update(memory, event, moment);
     if (newViolationTime >= 0 && (violationTime < 0 || newViolationTime < violationTime)) violationTime = newViolationTime;
   };

@@ -309,7 +309,7 @@ test("a search is not needed for a property that is proved for its inputs", asyn
   const { campaign } = readCampaign(`press B\n${NEVER_ON}reach lamp on on\n`, subject);
   const run = new CampaignRun(subject, campaign, 1, () => true, 1, null, undefined, 30000);
   while (run.proof.canContinue) await run.runFor(1);
-  const report = run.report({ names: { board: "b", program: "p", properties: "r" }, sums: "", seconds: 1, isStopped: false });
+  const report = run.createReport({ names: { board: "b", program: "p", properties: "r" }, sums: "", seconds: 1, isStopped: false });
   assert.deepEqual(report.properties.map(({ states, limits }) => [states, limits]),
     [[5, ["press"]], [5, ["press"]], [9, []], [9, []], [9, []]]);
   assert.match(formatTap(report), /^ok 1 - never lamp on on # proved for the inputs of "press" \(5 states\)$/m);

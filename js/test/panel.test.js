@@ -8,7 +8,7 @@ import { stateValue } from "../core/bench/state_line.js";
 import { Face } from "../core/board/face.js";
 import { Engine } from "../core/engine/engine.js";
 import { compareWithRom } from "../core/engine/session_program.js";
-import { romCodes } from "../core/engine/rom_codes.js";
+import { readRomCodes } from "../core/engine/rom_codes.js";
 import { buildLampRows, formatCell } from "../core/panel/lamp_rows.js";
 import { largeDigitRows } from "../core/panel/large_digits.js";
 import { Panel } from "../core/panel/terminal_panel.js";
@@ -44,7 +44,7 @@ async function openPanel({ board, program }, { lines = "", isPaused = false, has
   const ask = async (sessionLines) => engine.serve(state, sessionLines, state).answers;
   const answers = await ask(`wire\n${sentText(board, "#")}.\nasm\n${program}.\n${lines}`);
   assert.deepEqual(answers.filter((answer) => answer.startsWith("no ")), []);
-  const readSource = () => ({ map: compareWithRom(engine, romCodes(engine, state), program).map,
+  const readSource = () => ({ map: compareWithRom(engine, readRomCodes(engine, state), program).map,
     lines: program.split("\n"), linesBefore: 0 });
   const options = {
     name: "s.mcs", board: readBoard(await ask("board\n")), face: new Face(board), note: "", isPaused,

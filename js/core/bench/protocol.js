@@ -28,7 +28,7 @@
  * @typedef {import("../debug/debugger.js").Tally} Tally
  *
  * @typedef {LinesResult & PageState} LinesReply
- * @typedef {Omit<import("../engine/past_search.js").BackSearchResult, "moment" | "present">} SearchReport
+ * @typedef {Omit<import("../engine/past_search.js").BackSearchResult, "moment" | "sessionAtMoment">} SearchReport
  * @typedef {LinesReply & { typedResult: import("../debug/debugger.js").TypedResult }} TypedReply the result of lines that the user typed
  * @typedef {LinesReply & SearchReport & { isDone: boolean, cycles: number }} TravelResult the result of a move back or forward in time:
  *   whether the session has moved, and by how many cycles

@@ -73,7 +73,7 @@ class SteadinessDetector {
       const restBefore = this.currentRest + (changes.first * time) / cycles;
       const longestBefore = restBefore < EYE_PERSISTENCE_MS ? Math.max(this.longestRest, restBefore) : 0;
       this.longestRest = Math.max(longestBefore, (changes.longest * time) / cycles);
-      this.currentRest = (changes.rest * time) / cycles;
+      this.currentRest = (changes.afterLast * time) / cycles;
     } else {
       this.currentRest += time;
     }

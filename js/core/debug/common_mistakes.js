@@ -18,7 +18,7 @@ import { readBoard } from "../bench/answers.js";
 import { hex } from "../bench/numbers.js";
 import { Probes } from "../conditions/probes.js";
 import { findLiveReturns, addressOfCall } from "../machine/return_addresses.js";
-import { isCall, isReturn, romCodes } from "../engine/rom_codes.js";
+import { isCall, isReturn, readRomCodes } from "../engine/rom_codes.js";
 import { ForecastAnswers, rowValues } from "../engine/forecast_answers.js";
 import { plannedCycles, truncateLines } from "./goal_search.js";
 import { SrcSelection, usesSelection } from "./src_selection.js";
@@ -158,7 +158,7 @@ export class CommonMistakes {
   /** Returns the contents of ROM, and the object that tracks the selection by SRC. If they are not cached, reads them from the session. */
   readRom() {
     const { engine, file, statusQueries } = this.session;
-    this.codes = this.codes || romCodes(engine, file);
+    this.codes = this.codes || readRomCodes(engine, file);
     this.selection = this.selection || new SrcSelection(readBoard(statusQueries.board));
     return { codes: this.codes, selection: this.selection };
   }

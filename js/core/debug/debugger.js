@@ -19,7 +19,7 @@ import { hex } from "../bench/numbers.js";
 import { parsePlace } from "../conditions/places.js";
 import { Probes } from "../conditions/probes.js";
 import { EMPTY_SEARCH_RESULT, findPastGoal } from "../engine/past_search.js";
-import { runLines } from "../engine/key_queue.js";
+import { formatRunLines } from "../engine/key_queue.js";
 import { SEARCH_PIECE_CYCLES } from "../engine/piece_size.js";
 import { ForecastAnswers } from "../engine/forecast_answers.js";
 import { CYCLES_PER_SECOND } from "../time/mcs4_time.js";
@@ -81,10 +81,11 @@ import { CommonMistakes } from "./common_mistakes.js";
  *
  * The result of a move back or forward. `isDone` is false if the goal was not found, or if there is no move to undo. `hasChangedBoard` is
  * true if the board has changed. `cycles` is the distance of the move.
- * @typedef {Omit<BackSearchResult, "moment" | "present"> & { isDone: boolean, hasChangedBoard: boolean, cycles: number }} BackResult
+ * @typedef {Omit<BackSearchResult, "moment" | "sessionAtMoment"> & { isDone: boolean, hasChangedBoard: boolean,
+ *   cycles: number }} BackResult
  *
  * The last change of a place: the number of cycles since the change, and the address of the instruction that made it (-1 for a typed line).
- * @typedef {Omit<BackSearchResult, "moment" | "present"> & { isFound: boolean, cycles: number, address: number }} LastChange
+ * @typedef {Omit<BackSearchResult, "moment" | "sessionAtMoment"> & { isFound: boolean, cycles: number, address: number }} LastChange
  */
 
 /** The maximum distance of a near goal in cycles: one second of a real 4004. */
@@ -233,7 +234,7 @@ export class Debugger {
     const foundMistakes = checksLater ? { mistakes: [], stop: -1 } : this.commonMistakes.searchLines(plannedLines);
     if (foundMistakes.stop >= 0) plannedLines = truncateLines(plannedLines, foundMistakes.stop);
     const countBefore = session.count.total;
-    const frame = session.advanceBy(plannedLines);
+    const frame = session.runPlannedLines(plannedLines);
     this.stopFinder.countEvents(events);
     this.uncheckedLines = checksLater ? plannedLines : null;
     const stop = this.findMistakeOrRecordingStop(frame, foundMistakes.stop) || this.findStop(frame, events, cyclesBeforeGoal);
@@ -360,7 +361,7 @@ export class Debugger {
     const { cycles, id, change } = events;
     const searchResult = cycles < 0 ? { ...goalSearch, change: "" }
       : { cycles, isReached: false, end: events.reason, id, endsAtReturn, change };
-    const result = await session.serve(runLines(Math.max(1, searchResult.cycles)), async () => true);
+    const result = await session.serve(formatRunLines(Math.max(1, searchResult.cycles)), async () => true);
     this.stopFinder.countEvents(events);
     if (!searchResult.isReached && searchResult.id === 0) searchResult.id = this.breakpointIdAtStop(searchResult.end);
     return { searchResult, result, tally: this.createTally(events, { reason: searchResult.end, id: searchResult.id }, this.startTotal) };
@@ -378,7 +379,7 @@ export class Debugger {
     const copy = file.slice();
     for (let doneCycles = 0; doneCycles < cycles;) {
       const pieceCycles = Math.min(SEARCH_PIECE_CYCLES, cycles - doneCycles);
-      const plannedLines = runLines(pieceCycles).trimEnd().split("\n").map((line) => ({ line, change: null }));
+      const plannedLines = formatRunLines(pieceCycles).trimEnd().split("\n").map((line) => ({ line, change: null }));
       const events = this.stopFinder.searchLines(engine, copy, plannedLines);
       for (const [id, hits] of events.hits) allEvents.hits.set(id, (allEvents.hits.get(id) || 0) + hits);
       allEvents.notes = [...allEvents.notes, ...events.notes.map((note) => ({ ...note, cycles: note.cycles + doneCycles }))];
@@ -387,7 +388,7 @@ export class Debugger {
       if (events.cycles >= 0) {
         return { ...events, ...allEvents, cycles: doneCycles + events.cycles, id: events.id, reason: events.reason, change: events.change };
       }
-      engine.serve(copy, runLines(pieceCycles), copy);
+      engine.serve(copy, formatRunLines(pieceCycles), copy);
       doneCycles += pieceCycles;
       if (doneCycles < cycles && !(await shouldContinue(doneCycles))) break;
     }
@@ -440,11 +441,11 @@ export class Debugger {
   async goBack(goal, shouldContinue) {
     this.beginMove();
     const { session } = this;
-    const { moment, present, ...report } = await this.findPastGoal(goal, shouldContinue);
+    const { moment, sessionAtMoment, ...report } = await this.findPastGoal(goal, shouldContinue);
     if (!moment) return { ...report, isDone: false, hasChangedBoard: false, cycles: 0 };
-    const sessionAtMoment = present || await session.timeline.sessionAt(session.engine, moment, shouldContinue);
+    const target = sessionAtMoment || await session.timeline.sessionAt(session.engine, moment, shouldContinue);
     session.timeline.goBack(moment, session);
-    return { ...report, ...this.restoreMoment(sessionAtMoment) };
+    return { ...report, ...this.restoreMoment(target) };
   }
 
   /**
@@ -482,9 +483,10 @@ export class Debugger {
    */
   async findLastChange(place, shouldContinue) {
     const { session } = this;
-    const { moment, present, ...report } = await findPastGoal(session.engine, session, { kind: "change", place }, shouldContinue);
+    const goal = /** @type {const} */ ({ kind: "change", place });
+    const { moment, sessionAtMoment, ...report } = await findPastGoal(session.engine, session, goal, shouldContinue);
     if (!moment) return { ...report, isFound: false, cycles: 0, address: -1 };
-    const { file, count } = present || await session.timeline.sessionAt(session.engine, moment, shouldContinue);
+    const { file, count } = sessionAtMoment || await session.timeline.sessionAt(session.engine, moment, shouldContinue);
     const { counter } = parseCounter(session.engine.ask(file, "regs\n").answers[0]);
     return { ...report, isFound: true, cycles: session.count.total - count.total, address: report.line ? -1 : counter };
   }

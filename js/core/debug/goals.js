@@ -5,7 +5,7 @@ import { readBoard, readCounter, readRegisters } from "../bench/answers.js";
 import { parsePlace } from "../conditions/places.js";
 import { addressOfCall } from "../machine/return_addresses.js";
 import { MAX_RUN_CYCLES } from "../engine/key_queue.js";
-import { isCall, isReturn, romCodes } from "../engine/rom_codes.js";
+import { isCall, isReturn, readRomCodes } from "../engine/rom_codes.js";
 import { parseTraceLine } from "../engine/forecast_answers.js";
 import { becomesTrue } from "./condition_search.js";
 
@@ -206,7 +206,7 @@ export function endForMissingGoal(goal) {
  * @param {() => Uint8Array} [readCodes] returns the contents of ROM
  * @returns {Watcher | null} null if the goal does not exist in the current state
  */
-export function createWatcher(engine, file, goal, readCodes = () => romCodes(engine, file)) {
+export function createWatcher(engine, file, goal, readCodes = () => readRomCodes(engine, file)) {
   if (goal.kind === "here") return createAddressWatcher(engine, file, goal.address);
   if (goal.kind === "change") {
     const place = parsePlace(goal.place);

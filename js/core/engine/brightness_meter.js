@@ -1,5 +1,5 @@
-// While the machine runs, measures how long each lamp is on, and how long each digit of a display shows each pattern of segments. The data
-// come from a `trace` query before each run, which forecasts the run.
+// While the machine runs, measures how long each lamp is on, and how long each digit of a display shows each pattern of segments. For this,
+// a `trace` query before each run forecasts the lamps during the run.
 
 import { digitPatterns, UNLIT_PATTERN, isLit } from "../board/digit_patterns.js";
 import { fittingGroups, isMultiplexed } from "../board/face_board.js";
@@ -10,12 +10,12 @@ import { ForecastAnswers, parseTraceLine } from "./forecast_answers.js";
  * @typedef {import("../board/face.js").Group} Group
  *
  * The times between changes within an interval, in cycles: before the first change (`first`), the longest time between two changes
- * (`longest`), and after the last change (`rest`). Null if nothing changed.
- * @typedef {{ first: number, longest: number, rest: number } | null} ChangeSummary
+ * (`longest`), and after the last change (`afterLast`). Null if nothing changed.
+ * @typedef {{ first: number, longest: number, afterLast: number } | null} ChangeSummary
  *
  * The contents of a display during an interval. `patterns`: the segment pattern of each digit at the end. `changeSummary`: the times
- * between pattern changes. If a pattern changed, `patternTimes` lists for each digit its patterns, except the unlit one, with their
- * durations in cycles.
+ * between pattern changes. If a pattern changed, `patternTimes` lists the patterns of each digit with their durations in cycles. It leaves
+ * out the unlit pattern.
  * @typedef {{ patterns: number[], changeSummary: ChangeSummary, patternTimes: [number, number][][] }} ShownDisplay
  *
  * The lamp measurements of an interval of `cycles` cycles. `face`: the number that the page gave to the front panel. `marks`: one character
@@ -33,8 +33,8 @@ export const MAX_MEASURED_CYCLES = 20000;
 
 /**
  * Returns whether any of `count` consecutive lamps has changed between on and off.
- * @param {string} marks
- * @param {string} marksBefore the marks before the change
+ * @param {string} marks the lamp marks (`*` for a lamp that is on)
+ * @param {string} marksBefore the lamp marks before the change
  * @param {number} first the number of the first lamp
  * @param {number} count
  */
@@ -65,10 +65,10 @@ class ChangeTimes {
    */
   take(cycles) {
     if (this.firstChange < 0) return null;
-    const changes = { first: this.firstChange, longest: this.longestGap, rest: cycles - this.lastChange };
+    const summary = { first: this.firstChange, longest: this.longestGap, afterLast: cycles - this.lastChange };
     this.firstChange = -1;
     this.longestGap = 0;
-    return changes;
+    return summary;
   }
 }
 
@@ -92,8 +92,8 @@ class PatternTimes {
 
   /**
    * Records a change in the lamps' states if the change affects this display.
-   * @param {string} marks
-   * @param {string} marksBefore the marks before the change
+   * @param {string} marks the lamp marks (`*` for a lamp that is on)
+   * @param {string} marksBefore the lamp marks before the change
    * @param {number} cycles the time of the change, in cycles since the start of the interval
    */
   recordChange(marks, marksBefore, cycles) {
@@ -107,7 +107,7 @@ class PatternTimes {
   }
 
   /**
-   * Counts the time for which the current patterns have been shown.
+   * Adds the time up to `now` to the times of the current patterns.
    * @param {number} now the current time in cycles
    */
   countTimeUntil(now) {
@@ -126,13 +126,13 @@ class PatternTimes {
    */
   take(cycles) {
     const { patterns } = this;
-    const changes = this.changeTimes.take(cycles);
-    if (changes) this.countTimeUntil(cycles);
+    const changeSummary = this.changeTimes.take(cycles);
+    if (changeSummary) this.countTimeUntil(cycles);
     this.patternStart = 0;
-    if (!changes) return { patterns, changeSummary: changes, patternTimes: [] };
+    if (!changeSummary) return { patterns, changeSummary, patternTimes: [] };
     const patternTimes = this.patternCycles.map((times) => [...times]);
     for (const times of this.patternCycles) times.clear();
-    return { patterns, changeSummary: changes, patternTimes };
+    return { patterns, changeSummary, patternTimes };
   }
 }
 
@@ -163,7 +163,7 @@ class ScannedLampTimes {
 
   /**
    * Returns the cycles for which each lamp was on, and starts a new interval.
-   * @param {string} marks
+   * @param {string} marks the lamp marks at the end of the interval
    * @param {number} cycles the length of the interval
    */
   take(marks, cycles) {
@@ -188,7 +188,7 @@ export class BrightnessMeter {
     this.scannedLamps = groups.filter((group) => isMultiplexed(group) && group.kind !== "display")
       .map((group) => new ScannedLampTimes(group));
     this.cycles = 0;
-    /** The current lamp marks; "" before the first report. */
+    /** The current lamp marks: one character per lamp, `*` for on; "" before the first report. */
     this.marks = "";
     /** @type {number[]} the number of cycles for which each lamp was on, counted up to `lastCountTime` */
     this.litCycles = new Array(count).fill(0);
@@ -241,15 +241,15 @@ export class BrightnessMeter {
   /** @param {string[]} answers the lines of the answer to one `trace` query */
   add(answers) {
     const { row, lines, cycles } = new ForecastAnswers(answers).takeTrace();
-    const startCycles = this.cycles;
-    this.recordChange(row.slice(1), startCycles);
+    const cyclesBefore = this.cycles;
+    this.recordChange(row.slice(1), cyclesBefore);
     for (const line of lines) {
-      const traced = parseTraceLine(line);
+      const tracedInstruction = parseTraceLine(line);
       // An instruction takes effect after its first cycle.
-      this.recordChange(traced.row.slice(1), startCycles + traced.cycles + 1);
+      this.recordChange(tracedInstruction.row.slice(1), cyclesBefore + tracedInstruction.cycles + 1);
     }
     // An empty run counts as one cycle, so that the lamps that are on are counted for at least one cycle.
-    this.cycles = startCycles + Math.max(1, cycles);
+    this.cycles = cyclesBefore + Math.max(1, cycles);
   }
 
   /**

@@ -1,4 +1,4 @@
-// Reports the edges of a signal line while the machine runs, so that the page can play the buzzer. Reads the edges from the answers to a
+// Reports the edges of a signal line while the machine runs, so that the page can play the buzzer. Reads the edges from the answer to a
 // `trace` query before each run.
 
 import { ForecastAnswers, parseTraceLine } from "./forecast_answers.js";
@@ -36,8 +36,8 @@ export class BuzzerMeter {
   }
 
   /**
-   * Returns the levels of the line during the runs, from the answers to the queries before the runs. A line changes after the first cycle
-   * of an instruction.
+   * Returns the levels of the signal line during the runs, as the answers to `queries` forecast them. An instruction changes the signal
+   * line after the first cycle of the instruction.
    * @param {string[][]} answerLists one list of answers for each planned line; empty for a line that is not a run
    * @returns {BuzzerLevels}
    */

@@ -72,7 +72,7 @@ class Instance {
    * @param {ModuleBuffer} buffer
    * @param {number} count
    */
-  view({ offset }, count) {
+  viewBytes({ offset }, count) {
     const { buffer } = this.exports.memory;
     if (this.bytes.buffer !== buffer) this.bytes = new Uint8Array(buffer);
     return this.bytes.subarray(Number(offset), Number(offset) + count);
@@ -86,11 +86,11 @@ class Instance {
   copyLines(lines, encoder) {
     // A UTF-16 code unit needs at most three bytes in UTF-8.
     if (lines.length * 3 <= this.inputBuffer.capacity) {
-      return encoder.encodeInto(lines, this.view(this.inputBuffer, this.inputBuffer.capacity)).written || 0;
+      return encoder.encodeInto(lines, this.viewBytes(this.inputBuffer, this.inputBuffer.capacity)).written || 0;
     }
     const bytes = encoder.encode(lines);
     this.inputBuffer = this.ensureCapacity(this.inputBuffer, bytes.length);
-    this.view(this.inputBuffer, bytes.length).set(bytes);
+    this.viewBytes(this.inputBuffer, bytes.length).set(bytes);
     return bytes.length;
   }
 
@@ -100,7 +100,7 @@ class Instance {
    */
   copyFile(file) {
     this.fileBuffer = this.ensureCapacity(this.fileBuffer, file.length);
-    this.view(this.fileBuffer, file.length).set(file);
+    this.viewBytes(this.fileBuffer, file.length).set(file);
   }
 
   /**
@@ -170,7 +170,7 @@ export class Engine {
   begin(target = new Uint8Array(this.size)) {
     const { instance } = this;
     if (!this.call((calls) => calls.bench_begin(instance.fileBuffer.offset, BigInt(this.size)))) throw new BenchRefusal(OUT_OF_MEMORY);
-    target.set(instance.view(instance.fileBuffer, this.size));
+    target.set(instance.viewBytes(instance.fileBuffer, this.size));
     return target;
   }
 
@@ -184,7 +184,7 @@ export class Engine {
    */
   serve(file, lines, target) {
     const servedAnswers = this.callForAnswers("bench_serve_and_settle", file, lines);
-    target.set(this.instance.view(this.instance.fileBuffer, file.length));
+    target.set(this.instance.viewBytes(this.instance.fileBuffer, file.length));
     return servedAnswers;
   }
 
@@ -210,7 +210,7 @@ export class Engine {
       instance.answersBuffer = instance.ensureCapacity(instance.answersBuffer, count);
       ({ isDone, number, count } = this.tryToProve(size));
     }
-    return isDone ? this.decoder.decode(instance.view(instance.answersBuffer, count)) : `no ${number}`;
+    return isDone ? this.decoder.decode(instance.viewBytes(instance.answersBuffer, count)) : `no ${number}`;
   }
 
   /**
@@ -261,7 +261,7 @@ export class Engine {
       instance.answersBuffer = instance.ensureCapacity(instance.answersBuffer, report.requiredSize);
       report = this.tryToServe(name, file, inputSize);
     }
-    const answers = this.decoder.decode(instance.view(instance.answersBuffer, report.count)).split("\n");
+    const answers = this.decoder.decode(instance.viewBytes(instance.answersBuffer, report.count)).split("\n");
     answers.pop();
     const [openingAnswer] = answers.splice(0, 1);
     return { status: report.number, openingAnswer, answers };
@@ -278,10 +278,10 @@ export class Engine {
     const { instance } = this;
     instance.copyFile(file);
     const { fileBuffer, inputBuffer, answersBuffer, reportBuffer } = instance;
-    const isServed = this.call((calls) => calls[name](fileBuffer.offset, BigInt(file.length), inputBuffer.offset, BigInt(inputSize),
+    const hasSucceeded = this.call((calls) => calls[name](fileBuffer.offset, BigInt(file.length), inputBuffer.offset, BigInt(inputSize),
       answersBuffer.offset, BigInt(answersBuffer.capacity), reportBuffer.offset));
     const { number, count } = instance.readReport();
-    if (!isServed && number !== 0) throw new BenchRefusal(number);
-    return { number, count, requiredSize: isServed ? 0 : count };
+    if (!hasSucceeded && number !== 0) throw new BenchRefusal(number);
+    return { number, count, requiredSize: hasSucceeded ? 0 : count };
   }
 }

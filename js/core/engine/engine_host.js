@@ -3,8 +3,8 @@
 // hosts.
 
 /**
- * The state of a session. Only the host that created a state can interpret its bytes. A copy of the bytes is the same state. All states of
- * a host have the same length.
+ * The state of a session. Only the host that created a state can interpret its bytes. A copy of the bytes represents the same state. All
+ * states of a host have the same length.
  * @typedef {Uint8Array} State
  *
  * @typedef {import("./engine.js").ServedAnswers} ServedAnswers

@@ -4,8 +4,8 @@ import { sentText } from "../text/sendable_text.js";
 
 /**
  * An example. `lines` are console lines that the page suggests to the user; if there are none, the program starts at once. `tests` and
- * `properties` belong to the program. `project` is the text of a project file, or "". If an example has a project file, its session comes
- * from that file and starts paused. `story` is a guided tour, which help/story.js reads.
+ * `properties` are the test text and the properties text. `project` is the text of a project file, or "". If an example has a project file,
+ * its session is loaded from that file and starts paused. `story` is a guided tour, which help/story.js reads.
  * @typedef {{ name: string, title: string, board: string, program: string, tests: string, properties: string, lines: string,
  *   project: string, story?: string }} Example
  */

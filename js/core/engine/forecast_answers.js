@@ -10,8 +10,8 @@ import { readRun } from "../bench/answers.js";
  * The counts of an instruction in a run: how often it started (`startCount`), and how often it jumped (`jumpCount`, -1 if it cannot jump).
  * @typedef {{ address: number, startCount: number, jumpCount: number }} InstructionCount
  *
- * A trace of a run: the row of traced values before the run, the trace lines, and the number of cycles. If places are traced, only the
- * instructions that change one of them have lines.
+ * A trace of a run: the row of traced values before the run, the trace lines, and the number of cycles. If the query names places, only the
+ * instructions that change the value of a place have lines.
  * @typedef {{ row: string, lines: string[], cycles: number }} Trace
  *
  * The result of a run: the number of cycles, and the reason for its end ("end" if nothing stopped the run).

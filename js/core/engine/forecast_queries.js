@@ -48,8 +48,8 @@ export function splitAnswers(plannedLines, querySources, allAnswers) {
   for (const { change } of plannedLines) {
     if (change) {
       lineAnswers.push(answers.take());
-      const state = needsStates ? [answers.take()] : [];
-      querySources.forEach((source, index) => sourceAnswers[index].push(source.needsStates ? state : []));
+      const stateAnswers = needsStates ? [answers.take()] : [];
+      querySources.forEach((source, index) => sourceAnswers[index].push(source.needsStates ? stateAnswers : []));
       continue;
     }
     querySources.forEach(({ count }, index) => {
@@ -70,6 +70,6 @@ const OTHER_CHANGE = {};
  * @param {AcceptedCommand} command
  * @returns {SentLine}
  */
-export function replayLine({ line, cycles }) {
+export function createReplayLine({ line, cycles }) {
   return cycles > 0 ? { line: `run ${cycles}`, change: null } : { line, change: OTHER_CHANGE };
 }

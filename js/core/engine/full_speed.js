@@ -59,7 +59,7 @@ export class FullSpeed {
   runBatch(machine) {
     const start = performance.now();
     const frame = machine.advance(this.batchCycles);
-    const time = performance.now() - start;
+    const milliseconds = performance.now() - start;
     this.runLog.add(frame.runEntries);
     const { cycles, changesKeys, tally } = this.pendingReport;
     const { end, stop, snapshot } = frame;
@@ -71,7 +71,7 @@ export class FullSpeed {
       chipHeat: null,
     };
     if (stop) this.isOn = false;
-    const targetCycles = this.batchCycles * Math.min(2, Math.max(0.5, BATCH_MILLISECONDS / Math.max(1, time)));
+    const targetCycles = this.batchCycles * Math.min(2, Math.max(0.5, BATCH_MILLISECONDS / Math.max(1, milliseconds)));
     this.batchCycles = Math.round(Math.min(MAX_BATCH_CYCLES, Math.max(MIN_BATCH_CYCLES, targetCycles)));
   }
 

@@ -39,7 +39,7 @@ export const GROUPS_PER_CHIP = REGISTERS_PER_CHIP + 1;
  * Returns the names of all RAM nibbles on a board, in groups. One `trace` query can report a group.
  * @param {Board} board
  */
-export function nibbleGroups({ banks }) {
+export function listNibbleGroups({ banks }) {
   return banks.flatMap(({ bank, chips }) => indices(chips).flatMap((chip) => [
     ...indices(REGISTERS_PER_CHIP).map((register) => {
       const first = (chip * REGISTERS_PER_CHIP + register) * NIBBLES_PER_REGISTER;
@@ -76,7 +76,7 @@ export class ChangeCounter {
   }
 
   /**
-   * Counts a change for each nibble of the group whose value has changed.
+   * For each nibble of the group, counts a change if the nibble has a new value.
    * @param {Omit<PastChange, "unit">} change
    * @param {number} unitStart the number of counted cycles before the unit that contains the change
    */
@@ -97,7 +97,7 @@ export class ChangeCounter {
    * @param {Unit[]} units
    */
   countChanges(engine, file, units) {
-    /** @type {Map<Unit, number>} the cycles before each unit */
+    /** @type {Map<Unit, number>} the number of counted cycles before each unit */
     const unitStarts = new Map();
     for (const unit of units) {
       unitStarts.set(unit, this.cycles);
@@ -123,9 +123,9 @@ export class ChangeCounter {
  * @returns {Promise<Heat>}
  */
 export async function measureHeat(engine, timeline, board, cycles, shouldContinue) {
-  const groups = nibbleGroups(board);
-  const counter = new ChangeCounter(groups);
-  if (groups.length === 0) return counter.heat;
+  const groups = listNibbleGroups(board);
+  const changeCounter = new ChangeCounter(groups);
+  if (groups.length === 0) return changeCounter.heat;
   const maxCycles = Math.max(FIRST_PIECE_CYCLES, Math.floor(SEARCH_PIECE_CYCLES / groups.length));
   const { presentMoment } = timeline;
   let from = findStart(timeline, cycles);
@@ -134,9 +134,9 @@ export async function measureHeat(engine, timeline, board, cycles, shouldContinu
     const to = from.segment === presentMoment.segment ? presentMoment : { segment: from.segment, entry: entries.length, cycles: 0 };
     const { file } = await timeline.sessionAt(engine, from, shouldContinue);
     for (const units of splitIntoPieces(splitUnits(unitsBetween(timeline, from, to), maxCycles), maxCycles, SEARCH_PIECE_UNITS)) {
-      counter.countChanges(engine, file, units);
+      changeCounter.countChanges(engine, file, units);
       if (!(await shouldContinue(sumCycles(units)))) throw new CancelledError();
     }
   }
-  return counter.heat;
+  return changeCounter.heat;
 }

@@ -1,7 +1,7 @@
 // Counts the changes of RAM nibbles while the machine runs, from the answers to `trace` queries before each run. In each frame, the meter
 // watches one RAM chip, so that the work per frame does not grow with the number of chips.
 
-import { ChangeCounter, GROUPS_PER_CHIP, nibbleGroups } from "./heat_map.js";
+import { ChangeCounter, GROUPS_PER_CHIP, listNibbleGroups } from "./heat_map.js";
 import { ForecastAnswers, parseTraceLine } from "./forecast_answers.js";
 
 /**
@@ -15,7 +15,7 @@ import { ForecastAnswers, parseTraceLine } from "./forecast_answers.js";
 export class HeatMeter {
   /** @param {Board} board */
   constructor(board) {
-    const groups = nibbleGroups(board);
+    const groups = listNibbleGroups(board);
     this.chipCount = groups.length / GROUPS_PER_CHIP;
     this.allGroups = groups;
     /** The index of the chip that is currently watched. */
@@ -48,33 +48,33 @@ export class HeatMeter {
   }
 
   /**
-   * Returns the changes in the watched chip, from the answers to the queries before the runs. Then switches to the next chip.
+   * Counts the changes in the watched chip, as reported by the answers to `queries`. Then switches to the next chip.
    * @param {string[][]} answerLists one list of answers for each planned line; empty for a line that is not a run
    * @returns {ChipHeat}
    */
   take(answerLists) {
-    const counter = new ChangeCounter(this.groups);
-    for (const answers of answerLists) if (answers.length > 0) this.add(counter, new ForecastAnswers(answers));
+    const changeCounter = new ChangeCounter(this.groups);
+    for (const answers of answerLists) if (answers.length > 0) this.add(changeCounter, new ForecastAnswers(answers));
     this.chip = (this.chip + 1) % this.chipCount;
-    return { ...counter.heat, chipCount: this.chipCount };
+    return { ...changeCounter.heat, chipCount: this.chipCount };
   }
 
   /**
-   * Adds the changes in one run to a counter.
-   * @param {ChangeCounter} counter
+   * Adds the changes in one run to a change counter.
+   * @param {ChangeCounter} changeCounter
    * @param {ForecastAnswers} answers the answers to the queries before one run
    */
-  add(counter, answers) {
-    const startCycles = counter.cycles;
+  add(changeCounter, answers) {
+    const cyclesAtStart = changeCounter.cycles;
     for (let group = 0; group < GROUPS_PER_CHIP; group++) {
       const { row, lines, cycles } = answers.takeTrace();
       let previousRow = row;
       for (const line of lines) {
         const { row: after, cycles: cyclesBefore, address } = parseTraceLine(line);
-        counter.add({ group, before: previousRow, after, cycles: cyclesBefore, address, line: "" }, startCycles);
+        changeCounter.add({ group, before: previousRow, after, cycles: cyclesBefore, address, line: "" }, cyclesAtStart);
         previousRow = after;
       }
-      counter.cycles = startCycles + cycles;
+      changeCounter.cycles = cyclesAtStart + cycles;
     }
   }
 }

@@ -11,7 +11,7 @@ export const MAX_RUN_CYCLES = 100000;
  * Returns `run` commands that together run a number of cycles.
  * @param {number} cycles
  */
-export function runLines(cycles) {
+export function formatRunLines(cycles) {
   let lines = "";
   for (let cyclesLeft = cycles; cyclesLeft > 0; cyclesLeft -= MAX_RUN_CYCLES) lines += `run ${Math.min(cyclesLeft, MAX_RUN_CYCLES)}\n`;
   return lines;
@@ -52,7 +52,7 @@ export class KeyQueue {
   }
 
   /**
-   * Removes the waiting changes of a key.
+   * Removes the queued changes of a key.
    * @param {Key} key
    */
   forget(key) {
@@ -82,8 +82,8 @@ export class KeyQueue {
         remainingWait = minCyclesAfter(change);
         changeIndex += 1;
       }
-      const maxRun = this.changes[changeIndex] ? Math.min(remainingWait, MAX_RUN_CYCLES) : MAX_RUN_CYCLES;
-      const runCycles = Math.min(cyclesLeft, maxRun);
+      const maxRunCycles = this.changes[changeIndex] ? Math.min(remainingWait, MAX_RUN_CYCLES) : MAX_RUN_CYCLES;
+      const runCycles = Math.min(cyclesLeft, maxRunCycles);
       plannedLines.push({ line: `run ${runCycles}`, change: null });
       cyclesLeft -= runCycles;
       remainingWait = Math.max(0, remainingWait - runCycles);
@@ -92,7 +92,7 @@ export class KeyQueue {
   }
 
   /**
-   * Updates the queue after planned lines were executed. If the last run ended early, only the cycles that it ran count.
+   * Updates the queue after planned lines were executed. If the last run ended early, counts only the cycles that it ran.
    * @param {PlannedLine[]} plannedLines
    * @param {(index: number) => number} cyclesOf returns the number of cycles that the line at an index ran
    */

@@ -5,7 +5,7 @@
 import { readBoard, readRun } from "../bench/answers.js";
 import { ADDRESS_COUNT } from "../bench/rom_bytes.js";
 import { createBoardLines } from "../waves/wave_lines.js";
-import { linesWithQueries, splitAnswers, replayLine } from "./forecast_queries.js";
+import { linesWithQueries, splitAnswers, createReplayLine } from "./forecast_queries.js";
 import { ForecastAnswers, parseTraceLine, rowValues } from "./forecast_answers.js";
 import { listingLinesAt } from "./wave_recorder.js";
 import { WaveBuilder } from "./wave_builder.js";
@@ -29,7 +29,7 @@ import { RECORDING_PIECE_CYCLES, RECORDING_PIECE_UNITS } from "./piece_size.js";
  * - "hand": the user ended the recording;
  * - "trigger": the recording is complete;
  * - "board", "program": the board or the program changed;
- * - "back": the session moved in time;
+ * - "back": the session moved back or forward;
  * - "lines": too many lines were entered, or the lines ran too many cycles;
  * - "long": the recording is too long.
  * @typedef {RecordedPart & { triggerMoment: number, endReason: string }} LivePart
@@ -62,7 +62,7 @@ export class LiveRecorder {
     this.mustStopMachine = false;
     /** 1 for each address whose listing line has already been sent to the page. */
     this.listedAddresses = new Uint8Array(ADDRESS_COUNT);
-    /** The places in the trigger condition, for `trace`; "" if there are none, and after the trigger. */
+    /** The `trace` places of the trigger condition, separated by blanks; "" if there are none, and after the trigger. */
     this.tracedPlaces = "";
   }
 
@@ -148,7 +148,7 @@ export class LiveRecorder {
     const { builder, trigger } = this;
     const startMoment = builder.elapsed;
     const instructionCount = builder.moments.count;
-    const momentCounts = trigger ? trigger.members.map((member) => builder.tracks[member].moments.count) : [];
+    const earlierChangeCounts = trigger ? trigger.members.map((member) => builder.tracks[member].moments.count) : [];
     plannedLines.forEach(({ change }, index) => {
       const lineAnswers = new ForecastAnswers(tracedAnswers[index]);
       if (change) {
@@ -161,7 +161,7 @@ export class LiveRecorder {
       builder.recordEnd(readRun(answers[index]) || { cycles: 0, end: answers[index] });
     });
     builder.recordState(answers[plannedLines.length]);
-    if (trigger && trigger.edge) this.triggerOnEdge(trigger, momentCounts);
+    if (trigger && trigger.edge) this.triggerOnEdge(trigger, earlierChangeCounts);
     else if (trigger && trigger.address >= 0) this.triggerOnArrival(trigger.address, instructionCount);
     return this.endIfComplete(startMoment, instructionCount);
   }
@@ -208,8 +208,7 @@ export class LiveRecorder {
   }
 
   /**
-   * Sets the trigger moment to the next start of an instruction at an address. The instruction at which the recording starts does not
-   * count.
+   * Sets the trigger moment to the next start of an instruction at an address. Ignores the instruction at which the recording starts.
    * @param {number} address
    * @param {number} earlierCount the number of earlier instructions
    */
@@ -234,8 +233,8 @@ export class LiveRecorder {
     this.stop("trigger");
     if (!options.stopsMachine) return -1;
     this.mustStopMachine = true;
-    const next = builder.moments.all.subarray(earlierCount).find((moment) => moment >= endMoment);
-    return (next === undefined ? builder.elapsed : next) - startMoment;
+    const stopMoment = builder.moments.all.subarray(earlierCount).find((moment) => moment >= endMoment);
+    return (stopMoment === undefined ? builder.elapsed : stopMoment) - startMoment;
   }
 
   // --- While the machine is paused ---
@@ -254,7 +253,7 @@ export class LiveRecorder {
       const startIndex = index;
       const end = Math.min(commands.length, startIndex + RECORDING_PIECE_UNITS);
       for (let cycles = 0; index < end && cycles < RECORDING_PIECE_CYCLES; index++) cycles += commands[index].cycles;
-      const plannedLines = commands.slice(startIndex, index).map(replayLine);
+      const plannedLines = commands.slice(startIndex, index).map(createReplayLine);
       const { answers: allAnswers } = engine.serve(file, `${linesWithQueries(plannedLines, [this])}state\n`, file);
       const { sourceAnswers: [tracedAnswers], answers } = splitAnswers(plannedLines, [this], allAnswers);
       this.recordLines(plannedLines, tracedAnswers, answers);

@@ -125,8 +125,8 @@ export class OpenBench {
   }
 
   /**
-   * Returns the `map` answer for a program, the error in its text, and its first difference from ROM. If ROM contains the program, the
-   * check for common mistakes uses its source map from then on.
+   * Returns the `map` answer for a program, the error in its text, and its first difference from ROM. If ROM contains the program, later
+   * checks for common mistakes use the source map of the program.
    * @param {string} text the text as sent to the bench
    * @returns {ProgramCheck}
    */

@@ -1,5 +1,5 @@
-// Finds the changes of values in a part of the past. A copy of the session replays this part in units, and the bench forecasts the changes
-// in each unit.
+// Finds the changes of values in a part of the past. A copy of the session replays this part in units (see replay_units.js). Before each
+// unit, `trace` queries forecast its changes.
 
 import { ForecastAnswers, parseTraceLine } from "./forecast_answers.js";
 
@@ -15,7 +15,7 @@ import { ForecastAnswers, parseTraceLine } from "./forecast_answers.js";
  */
 
 /**
- * Returns one list of traces for each unit, and one for the state after the last unit. A list has one trace per group of places.
+ * Returns one list of traces for each unit, and one for the state after the last unit. A list has one trace per group of `trace` places.
  * @param {Engine} engine
  * @param {Uint8Array} file the session file; modified in place, to the state after the units
  * @param {Unit[]} units
@@ -39,7 +39,7 @@ function traceUnits(engine, file, units, groups) {
  * @param {Engine} engine
  * @param {Uint8Array} file the session file; modified in place, to the state after the units
  * @param {Unit[]} units
- * @param {string[][]} groups the places to watch, in groups; each group fits into one `trace` query
+ * @param {string[][]} groups the `trace` places to watch, in groups; each group fits into one `trace` query
  * @param {(change: PastChange) => void} report called for each change: for the changes of the first group in order, then for those of the
  *   next group
  */

@@ -1,5 +1,5 @@
 // Finds the target of a move back. The target is the last stop, the start of the last instruction, the moment before the last change of a
-// place, or the moment before a condition became true. (For the last arrival at a breakpoint, see last_arrival.js.)
+// `trace` place, or the moment before a condition became true. (For the last arrival at a breakpoint, see last_arrival.js.)
 
 import { readBoard, readCounter } from "../bench/answers.js";
 import { CancelledError } from "../bench/bench_errors.js";
@@ -30,13 +30,14 @@ import { sumCycles, splitIntoPieces, unitsBetween } from "./replay_units.js";
  * The result of a search of the past. If nothing was found, `moment` is null, and `reason` is "short" (the past is too short) or "lacks"
  * (the board does not have the place). For a change, the result has the changed place, the old value (`from`), the new value (`to`), and
  * the command that made the change (`line`, "" for an instruction). For an arrival, `end` is its kind: a breakpoint (with its `id`), a
- * change, or the start of the stored past. `present` is the session at `moment`, null if not known.
+ * change, or the start of the stored past. `sessionAtMoment` is the session at `moment`, null if not known.
  * @typedef {{ moment: Moment | null, reason: "" | "short" | "lacks", place: string, from: string, to: string, line: string,
- *   end: "" | "break" | "change" | "beginning", id: number, present: import("./timeline.js").SessionAtMoment | null }} BackSearchResult
+ *   end: "" | "break" | "change" | "beginning", id: number,
+ *   sessionAtMoment: import("./timeline.js").SessionAtMoment | null }} BackSearchResult
  *
  * An object that searches a part of the past. `begin` sets the session from which to replay. `findLastIn` replays consecutive units from
  * that session, and returns the last match in these units.
- * @typedef {{ begin: (present: import("./timeline.js").SessionAtMoment) => void,
+ * @typedef {{ begin: (start: import("./timeline.js").SessionAtMoment) => void,
  *   findLastIn: (units: Unit[]) => BackSearchResult | null }} Finder
  */
 
@@ -48,7 +49,7 @@ const FIRST_BLOCK_CYCLES = 500;
 const BLOCK_GROWTH = 8;
 const MAX_BLOCK_CYCLES = 4000000;
 
-/** @type {Omit<BackSearchResult, "moment" | "present">} the default fields of a result */
+/** @type {Omit<BackSearchResult, "moment" | "sessionAtMoment">} the default fields of a result */
 export const EMPTY_SEARCH_RESULT = { reason: "", place: "", from: "", to: "", line: "", end: "", id: 0 };
 
 /**
@@ -57,7 +58,7 @@ export const EMPTY_SEARCH_RESULT = { reason: "", place: "", from: "", to: "", li
  * @returns {BackSearchResult}
  */
 export function createSearchResult(fields) {
-  return { moment: null, present: null, ...EMPTY_SEARCH_RESULT, ...fields };
+  return { moment: null, sessionAtMoment: null, ...EMPTY_SEARCH_RESULT, ...fields };
 }
 
 /**
@@ -71,13 +72,14 @@ async function findLastInstruction(engine, timeline, shouldContinue) {
   for (const cycles of [1, 2]) {
     const moment = timeline.momentBefore(cycles);
     if (!moment) break;
-    const present = await timeline.sessionAt(engine, moment, shouldContinue);
-    if (readCounter(engine.ask(present.file, "regs\n").answers[0]).owed === "0") return createSearchResult({ moment, present });
+    const sessionAtMoment = await timeline.sessionAt(engine, moment, shouldContinue);
+    const { owed } = readCounter(engine.ask(sessionAtMoment.file, "regs\n").answers[0]);
+    if (owed === "0") return createSearchResult({ moment, sessionAtMoment });
   }
   return createSearchResult({ reason: "short" });
 }
 
-/** Finds the last change of a place. A result has the moment before the instruction or command that made the change. */
+/** Finds the last change of a `trace` place. A result has the moment before the instruction or command that made the change. */
 export class LastChangeFinder {
   /**
    * @param {Engine} engine
@@ -91,7 +93,7 @@ export class LastChangeFinder {
     this.file = new Uint8Array(0);
   }
 
-  /** @param {import("./timeline.js").SessionAtMoment} present */
+  /** @param {import("./timeline.js").SessionAtMoment} start */
   begin({ file }) {
     this.file = file;
   }
@@ -177,7 +179,7 @@ export async function searchPast(engine, timeline, finder, shouldContinue) {
 }
 
 /**
- * Returns a finder for the last change of a place; null if the board does not have the place.
+ * Returns a finder for the last change of a `trace` place; null if the board does not have the place.
  * @param {Engine} engine
  * @param {Uint8Array} file
  * @param {string} name
@@ -189,7 +191,7 @@ export function createChangeFinder(engine, file, name) {
 }
 
 /**
- * Resolves to a search result with the target moment of a move back, or with the `reason` why there is none.
+ * Resolves to a search result with the moment to which a move back goes, or with the `reason` why there is no such moment.
  * @param {Engine} engine
  * @param {{ timeline: Timeline, file: Uint8Array }} session
  * @param {Exclude<BackGoal, { kind: "arrival" | "call" }>} goal

@@ -23,7 +23,7 @@ export function hasScannedDisplay(face) {
 }
 
 /**
- * Returns the brightness of the lamps during the 30 ms that LAMPS_FORECAST_QUERY forecasts. Light from before this period does not count.
+ * Returns the brightness of the lamps during the 30 ms that LAMPS_FORECAST_QUERY forecasts. Ignores light from before this period.
  * @param {Face} face
  * @param {number} count the number of lamps on the board
  * @param {string[]} answers the answer to LAMPS_FORECAST_QUERY
@@ -51,14 +51,14 @@ export class PerceivedText {
    * @param {string[]} answers the answer to LAMPS_FORECAST_QUERY
    */
   read(answers) {
-    return this.readBrightness(forecastBrightness(this.face, this.lampCount, answers));
+    return this.readAtBrightness(forecastBrightness(this.face, this.lampCount, answers));
   }
 
   /**
    * Returns the text that a person reads from displays and lamps with the given brightness.
    * @param {Brightness} brightness
    */
-  readBrightness(brightness) {
+  readAtBrightness(brightness) {
     return this.displayText.readPerceived(brightness.patterns, (lamp) => brightness.isOn[lamp]);
   }
 }

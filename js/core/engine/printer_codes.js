@@ -1,8 +1,8 @@
-// Collects the codes that a program sends to the printer. Reads them from the answers to a `trace` query before each run. Each code is
+// Collects the codes that a program sends to the printer. Reads the codes from the answer to a `trace` query before each run. Each code is
 // stored with the cycle count at which it was sent. Therefore the printout depends only on the session, and a move back in time removes the
 // later codes.
 
-import { linesWithQueries, splitAnswers, replayLine } from "./forecast_queries.js";
+import { linesWithQueries, splitAnswers, createReplayLine } from "./forecast_queries.js";
 import { RECORDING_PIECE_CYCLES, RECORDING_PIECE_UNITS } from "./piece_size.js";
 import { ForecastAnswers, parseTraceLine, rowValues } from "./forecast_answers.js";
 
@@ -87,7 +87,7 @@ export class PrinterCodes {
 
   /**
    * Reads the codes from the answers to the queries before the runs. An instruction takes effect after its first cycle. Removes stored
-   * codes that were sent after `total`, and the oldest codes above MAX_CODES.
+   * codes that were sent after the cycle `total`, and the oldest codes if there are more than MAX_CODES.
    * @param {string[][]} answerLists one list of answers for each planned line; empty for a line that is not a run
    * @param {number} total the cycle count before the first line
    */
@@ -99,9 +99,9 @@ export class PrinterCodes {
       const { row, lines, cycles } = new ForecastAnswers(answers).takeTrace();
       let [level] = rowValues(row);
       for (const line of lines) {
-        const traced = parseTraceLine(line);
-        const [strobe, code] = rowValues(traced.row);
-        if (level === "0" && strobe === "1") this.codes.push([cyclesBefore + traced.cycles + 1, parseInt(code, 16)]);
+        const tracedInstruction = parseTraceLine(line);
+        const [strobe, code] = rowValues(tracedInstruction.row);
+        if (level === "0" && strobe === "1") this.codes.push([cyclesBefore + tracedInstruction.cycles + 1, parseInt(code, 16)]);
         level = strobe;
       }
       cyclesBefore += cycles;
@@ -123,7 +123,7 @@ export class PrinterCodes {
       const end = Math.min(commands.length, startIndex + RECORDING_PIECE_UNITS);
       let cycles = 0;
       for (; index < end && cycles < RECORDING_PIECE_CYCLES; index++) cycles += commands[index].cycles;
-      const plannedLines = commands.slice(startIndex, index).map(replayLine);
+      const plannedLines = commands.slice(startIndex, index).map(createReplayLine);
       const { answers } = engine.serve(file, linesWithQueries(plannedLines, [this]), file);
       const { sourceAnswers: [answerLists] } = splitAnswers(plannedLines, [this], answers);
       this.readCodes(answerLists, cyclesBefore);

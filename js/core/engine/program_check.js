@@ -31,8 +31,8 @@ export const ALL_ROMS = `wire\n${PAGE_NUMBERS.map((chip) => `[[rom]]\nchip = ${c
  */
 export function findSendingError(text) {
   if (text.length > MAX_SENT_LENGTH) return { number: TEXT_TOO_LONG, line: 0 };
-  const dot = text.split("\n").findIndex((line) => line === "." || line === ".\r");
-  return dot < 0 ? null : { number: 0, line: dot + 1 };
+  const dotLine = text.split("\n").findIndex((line) => line === "." || line === ".\r");
+  return dotLine < 0 ? null : { number: 0, line: dotLine + 1 };
 }
 
 /**

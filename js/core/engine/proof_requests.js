@@ -35,10 +35,11 @@ export class ProofRequests {
   }
 
   /**
-   * Decides the next property. Resolves to the property with its verdict, or to null if no property is left. Rejects if no proof has begun.
+   * Decides the next property. Resolves to the property with its verdict, or to null if no property is left. Rejects if no proof has
+   * started.
    */
   async proveNext() {
-    if (!this.currentJudge) throw new Error("no proof was started");
+    if (!this.currentJudge) throw new Error("no proof has started");
     const judgedProperty = await this.currentJudge.judgeNext();
     return judgedProperty && createPropertyVerdict(judgedProperty);
   }

@@ -13,7 +13,7 @@ export const RDR = 0xEA;
  * @param {Engine} engine
  * @param {Uint8Array} file
  */
-export function romCodes(engine, file) {
+export function readRomCodes(engine, file) {
   return parseRomCodes(engine.ask(file, listQueries(PAGE_NUMBERS)).answers);
 }
 

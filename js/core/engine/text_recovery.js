@@ -14,7 +14,7 @@ import { MAX_LISTING_LINES, PAGE_NUMBERS, listQueries } from "../bench/rom_bytes
  * @typedef {import("./engine_host.js").EngineHost} Engine
  */
 
-/** The test and properties texts, both empty, of a session whose board and program do not both match an example. */
+/** The empty test and properties texts for a session, used unless its board and its program both match an example. */
 const NO_TEST_TEXTS = { testText: "", propertiesText: "" };
 /** The queries that list all ROMs. */
 const LIST_ALL_ROMS = listQueries(PAGE_NUMBERS);
@@ -27,17 +27,17 @@ const LIST_ALL_ROMS = listQueries(PAGE_NUMBERS);
  * @returns {Texts}
  */
 export function recoverTexts(engine, file, examples) {
-  const board = engine.ask(file, "board\n").answers.join("\n");
-  const rom = engine.ask(file, LIST_ALL_ROMS).answers.join("\n");
+  const boardAnswer = engine.ask(file, "board\n").answers.join("\n");
+  const romListing = engine.ask(file, LIST_ALL_ROMS).answers.join("\n");
   const exampleFile = new Uint8Array(file.length);
   for (const example of examples.filter((candidate) => candidate.board)) {
     engine.serve(engine.begin(exampleFile), exampleLines(example), exampleFile);
-    if (engine.ask(exampleFile, "board\n").answers.join("\n") !== board) continue;
-    const hasSameRom = engine.ask(exampleFile, LIST_ALL_ROMS).answers.join("\n") === rom;
+    if (engine.ask(exampleFile, "board\n").answers.join("\n") !== boardAnswer) continue;
+    const hasSameRom = engine.ask(exampleFile, LIST_ALL_ROMS).answers.join("\n") === romListing;
     if (hasSameRom) return textsOfExample(example);
     return { boardText: example.board, programText: disassembleRom(engine, file), ...NO_TEST_TEXTS };
   }
-  const lines = board.split("\n").slice(1);
+  const lines = boardAnswer.split("\n").slice(1);
   return { boardText: lines.map((line) => `${line}\n`).join(""), programText: disassembleRom(engine, file), ...NO_TEST_TEXTS };
 }
 
@@ -59,7 +59,7 @@ function hasTwoBytes(line) {
  * @param {Engine} engine
  * @param {Uint8Array} file
  */
-function listAll(engine, file) {
+function listAllLines(engine, file) {
   const lines = [];
   let address = 0;
   while (address <= LAST_ADDRESS) {
@@ -84,7 +84,7 @@ export function disassembleRom(engine, file) {
   const text = [];
   /** @type {string[]} */
   let emptyLines = [];
-  for (const { address, line } of listAll(engine, file)) {
+  for (const { address, line } of listAllLines(engine, file)) {
     if (line.slice(4, 6) === "00" && !hasTwoBytes(line)) {
       emptyLines.push("\tNOP");
     } else {

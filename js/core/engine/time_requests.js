@@ -15,7 +15,7 @@ export class TimeRequests {
   /**
    * Runs the next `cycles` cycles, or up to an earlier stop. Returns the result with the new state for the page.
    * @param {number} cycles
-   * @param {Key | null} [key] a key to press; earlier key changes are made first
+   * @param {Key | null} [key] a key to press, after the key changes in the queue
    * @returns {Frame}
    */
   advance(cycles, key = null) {
@@ -25,7 +25,7 @@ export class TimeRequests {
   }
 
   /**
-   * Queues the press of a key while the machine runs. Returns the waiting key changes.
+   * Queues the press of a key while the machine runs. Returns the queued key changes.
    * @param {Key} key
    */
   press(key) {
@@ -34,7 +34,7 @@ export class TimeRequests {
   }
 
   /**
-   * Queues the release of a key while the machine runs. Returns the waiting key changes.
+   * Queues the release of a key while the machine runs. Returns the queued key changes.
    * @param {Key} key
    */
   release(key) {
@@ -43,7 +43,7 @@ export class TimeRequests {
   }
 
   /**
-   * Removes the waiting changes of a key. Returns the other waiting changes.
+   * Removes the queued changes of a key. Returns the changes that are still queued.
    * @param {Key} key
    */
   forget(key) {

@@ -18,11 +18,11 @@ import { CycleCount } from "./accepted_commands.js";
  *
  * A part of the past: the session file and the cycle count at its start, and the commands from there on, which ran `cycles` cycles.
  * `characters` is the total length of the command lines. `follows` is true if the segment starts where the previous segment ends.
- * @typedef {{ file: Uint8Array, count: CycleCount, entries: Entry[], cycles: number, characters: number, follows: boolean, marks: Mark[] }}
- * Segment
+ * @typedef {{ file: Uint8Array, count: CycleCount, entries: Entry[], cycles: number, characters: number, follows: boolean,
+ *   checkpoints: Checkpoint[] }} Segment
  *
- * A mark is an additional session state within a segment: the state after the first `entry` entries, which ran `cycles` cycles.
- * @typedef {{ entry: number, file: Uint8Array, count: CycleCount, cycles: number }} Mark
+ * A checkpoint: the session state after the first `entry` entries of a segment, which ran `cycles` cycles. A replay can start here.
+ * @typedef {{ entry: number, file: Uint8Array, count: CycleCount, cycles: number }} Checkpoint
  *
  * A moment: after `entry` entries of a segment, and `cycles` cycles into the next entry.
  * @typedef {{ segment: number, entry: number, cycles: number }} Moment
@@ -48,17 +48,17 @@ const MAX_SEGMENT_CHARACTERS = 200000;
 /** The maximum number of segments. Each segment contains a file of 164 KB. */
 const MAX_SEGMENTS = 48;
 /**
- * The minimum distance between two marks in a segment, in cycles. Marks make short moves back fast, because few cycles are replayed. Only
- * the last two segments have marks.
+ * The minimum distance between two checkpoints in a segment, in cycles. Checkpoints make short moves back fast because few cycles must be
+ * replayed. Only the last two segments have checkpoints.
  */
-const MARK_INTERVAL = 250000;
+const CHECKPOINT_INTERVAL = 250000;
 /** The maximum number of moves back that can be undone. */
 export const MAX_FORWARD_MOVES = 64;
 /** The maximum length of a replayed command, in characters. After a longer command, a new segment starts. */
 const MAX_LINE_LENGTH = 20000;
 /**
- * The maximum number of end points that `recall` tries. Several end points can have the same cycle count, because some commands take no
- * cycles.
+ * The maximum number of positions that `restorePast` tries as the end of the stored past. Several positions can have the same cycle count,
+ * because some commands run no cycles.
  */
 const MAX_TRIES = 8;
 /** The maximum number of cycles and of lines that one call replays. */
@@ -73,8 +73,8 @@ export class Timeline {
     /** True if the machine is paused; the next entry then starts at a stop. */
     this.isStopped = true;
     /**
-     * @type {({ segments: Segment[] } & SessionAtMoment)[]} the sessions to which moves forward return; the next move forward returns to
-     *   the last one
+     * @type {({ segments: Segment[] } & SessionAtMoment)[]} the session before each move back that can be undone; a move forward returns to
+     *   the last session in this list
      */
     this.future = [];
     /** @type {PastChanges} */
@@ -141,8 +141,8 @@ export class Timeline {
   }
 
   /**
-   * Appends commands to the past. Earlier moves back can then no longer be undone. A stored entry never changes. If the commands are too
-   * many or too long to replay, the past starts again after them.
+   * Appends commands to the past. Earlier moves back can then no longer be undone. A stored entry never changes. If there are too many
+   * commands to replay, or a command is too long, stores none of them and starts a segment that does not follow the last segment.
    * @param {AcceptedCommand[]} commands
    * @param {SessionAtMoment} present the session after the commands
    */
@@ -162,31 +162,32 @@ export class Timeline {
         this.isStopped = false;
       }
     }
-    this.addMarkIfDue(present);
+    this.addCheckpointIfDue(present);
     const { cycles: segmentCycles, entries, characters } = lastSegment;
     const isFull = segmentCycles >= MAX_SEGMENT_CYCLES || entries.length >= MAX_SEGMENT_ENTRIES || characters >= MAX_SEGMENT_CHARACTERS;
     if (isTooLong || isFull) {
       this.segments.push(createSegment(present, !isTooLong));
-      if (this.segments.length > 2) this.segments[this.segments.length - 3].marks = [];
+      if (this.segments.length > 2) this.segments[this.segments.length - 3].checkpoints = [];
       if (this.segments.length > MAX_SEGMENTS) this.dropSegment();
     }
   }
 
   /**
-   * Stores the present state as a mark if at least MARK_INTERVAL cycles have run since the previous mark.
+   * Stores the present state as a checkpoint if at least CHECKPOINT_INTERVAL cycles have run since the previous checkpoint.
    * @param {SessionAtMoment} present
    */
-  addMarkIfDue({ file, count }) {
-    const { entries, cycles, marks } = this.lastSegment;
-    const lastMarkCycles = marks.length > 0 ? marks[marks.length - 1].cycles : 0;
-    if (cycles - lastMarkCycles >= MARK_INTERVAL) marks.push({ entry: entries.length, file: file.slice(), count: count.copy(), cycles });
+  addCheckpointIfDue({ file, count }) {
+    const { entries, cycles, checkpoints } = this.lastSegment;
+    const lastCheckpointCycles = checkpoints.length > 0 ? checkpoints[checkpoints.length - 1].cycles : 0;
+    if (cycles - lastCheckpointCycles < CHECKPOINT_INTERVAL) return;
+    checkpoints.push({ entry: entries.length, file: file.slice(), count: count.copy(), cycles });
   }
 
   /** Removes the oldest segment without a stop, but not the last segment. If all older segments have stops, removes the oldest segment. */
   dropSegment() {
     const olderSegments = this.segments.slice(0, -1);
-    const stoplessIndex = olderSegments.findIndex(({ entries }) => !entries.some(({ isStop }) => isStop));
-    const droppedIndex = Math.max(0, stoplessIndex);
+    const firstWithoutStop = olderSegments.findIndex(({ entries }) => !entries.some(({ isStop }) => isStop));
+    const droppedIndex = Math.max(0, firstWithoutStop);
     this.segments = this.segments.filter((_, index) => index !== droppedIndex);
     this.segments[droppedIndex] = { ...this.segments[droppedIndex], follows: false };
   }
@@ -243,18 +244,18 @@ export class Timeline {
    * @returns {Promise<SessionAtMoment>}
    */
   async sessionAt(engine, moment, shouldContinue) {
-    const { file, count, entries, marks } = this.segments[moment.segment];
-    const mark = [...marks].reverse().find(({ entry }) => entry <= moment.entry) || { entry: 0, file, count };
-    const replayedEntries = [...entries.slice(mark.entry, moment.entry), ...firstCycles(entries[moment.entry], moment.cycles)];
-    const present = { file: mark.file.slice(), count: mark.count.copy() };
+    const { file, count, entries, checkpoints } = this.segments[moment.segment];
+    const checkpoint = [...checkpoints].reverse().find(({ entry }) => entry <= moment.entry) || { entry: 0, file, count };
+    const replayedEntries = [...entries.slice(checkpoint.entry, moment.entry), ...truncateEntry(entries[moment.entry], moment.cycles)];
+    const session = { file: checkpoint.file.slice(), count: checkpoint.count.copy() };
     for (let from = 0; from < replayedEntries.length;) {
       if (from > 0 && !(await shouldContinue())) throw new CancelledError();
       const piece = nextPiece(replayedEntries, from);
       from += piece.length;
-      engine.serve(present.file, piece.map(({ line }) => `${line}\n`).join(""), present.file);
+      engine.serve(session.file, piece.map(({ line }) => `${line}\n`).join(""), session.file);
     }
-    present.count.add(replayedEntries);
-    return present;
+    session.count.add(replayedEntries);
+    return session;
   }
 
   /**
@@ -267,10 +268,10 @@ export class Timeline {
     this.future.push({ segments, ...present });
     if (this.future.length > MAX_FORWARD_MOVES) this.future.shift();
     const oldSegment = segments[moment.segment];
-    const entries = [...oldSegment.entries.slice(0, moment.entry), ...firstCycles(oldSegment.entries[moment.entry], moment.cycles)];
+    const entries = [...oldSegment.entries.slice(0, moment.entry), ...truncateEntry(oldSegment.entries[moment.entry], moment.cycles)];
     const cycles = entries.reduce((sum, entry) => sum + entry.cycles, 0);
-    const marks = oldSegment.marks.filter(({ entry }) => entry <= moment.entry);
-    this.segments = [...segments.slice(0, moment.segment), { ...oldSegment, entries, cycles, marks }];
+    const checkpoints = oldSegment.checkpoints.filter(({ entry }) => entry <= moment.entry);
+    this.segments = [...segments.slice(0, moment.segment), { ...oldSegment, entries, cycles, checkpoints }];
     this.unreportedChanges = { isNewPast: true, entries: [] };
     this.isStopped = true;
   }
@@ -335,13 +336,13 @@ function nextPiece(entries, from) {
 }
 
 /**
- * Creates an empty segment that starts at the moment of a session.
+ * Creates an empty segment that starts with the state of a session.
  * @param {SessionAtMoment} present
  * @param {boolean} follows true if the segment starts where the previous one ends
  * @returns {Segment}
  */
 function createSegment({ file, count }, follows) {
-  return { file: file.slice(), count: count.copy(), entries: [], cycles: 0, characters: 0, follows, marks: [] };
+  return { file: file.slice(), count: count.copy(), entries: [], cycles: 0, characters: 0, follows, checkpoints: [] };
 }
 
 /**
@@ -350,6 +351,6 @@ function createSegment({ file, count }, follows) {
  * @param {number} cycles
  * @returns {Entry[]}
  */
-function firstCycles(entry, cycles) {
+function truncateEntry(entry, cycles) {
   return entry && cycles > 0 ? [{ line: `run ${cycles}`, cycles, resets: false, isStop: entry.isStop }] : [];
 }

@@ -69,7 +69,7 @@ export class TravelRequests {
   }
 
   /**
-   * Resolves to the last change of a place in the stored past.
+   * Resolves to the last change of a `trace` place in the stored past.
    * @param {string} place a register, RAM nibble, port or other place that conditions can name
    */
   async findLastChange(place) {
@@ -93,7 +93,7 @@ export class TravelRequests {
 }
 
 /**
- * Returns the result of a move in time, with the new state of the session for the page.
+ * Returns the result of a move back or forward, with the new state of the session for the page.
  * @param {OpenBench} bench
  * @param {string} word the name of the move in the console
  * @param {BackResult} outcome

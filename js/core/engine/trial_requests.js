@@ -1,4 +1,4 @@
-// Requests that run tests and search for counterexamples. Both use separate sessions; the open session does not change.
+// Requests that run tests and search for counterexamples. They use temporary sessions and do not change the open session.
 
 import { SlicedSearch, parseSearchTexts, prepareSearch } from "../explore/sliced_search.js";
 import { createSampleTest } from "../testing/sample_test.js";
@@ -63,11 +63,11 @@ export class TrialRequests {
 
   /**
    * Continues the search for a number of milliseconds, or until it finds a counterexample. Resolves to the progress of the search. Throws
-   * an error if no search has begun.
+   * an error if no search has started.
    * @param {number} milliseconds
    */
   continueSearch(milliseconds) {
-    if (!this.currentSearch) throw new Error("no search was started");
+    if (!this.currentSearch) throw new Error("no search has started");
     return this.currentSearch.runFor(milliseconds);
   }
 }

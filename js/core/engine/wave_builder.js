@@ -18,7 +18,7 @@ import { parseTraceLine, rowValues } from "./forecast_answers.js";
  * A `trace` place, the readers of its signal lines, and the character positions at which its value starts and ends in each row.
  * @typedef {{ place: string, readers: Reader[], from: number, to: number }} Field
  *
- * The places of one query, and the last row of their values that the bench reported; "" before the first row.
+ * The `trace` places of one query, and the last row of their values that the bench reported; "" before the first row.
  * @typedef {{ fields: Field[], row: string }} QueryGroup
  *
  * The part of a recording since the last call of `take`. RecordedPart in wave_recorder.js explains the members.
@@ -47,15 +47,15 @@ function digitAt(line, index) {
  * @param {string} line the board line, such as `rom0.3`, `ram0.1.3` or `chain0.5`
  */
 function placeOfBoardLine(line) {
-  const dot = line.lastIndexOf(".");
-  const [place, bit] = [line.slice(0, dot), Number(line.slice(dot + 1))];
+  const dotIndex = line.lastIndexOf(".");
+  const [place, bit] = [line.slice(0, dotIndex), Number(line.slice(dotIndex + 1))];
   /** @type {(answer: string) => number} */
   const read = place.startsWith("chain") ? (answer) => Number(answer[bit]) : (answer) => (parseInt(answer, 16) >> bit) & 1;
   return { place, read };
 }
 
 /**
- * Returns the `trace` places of signal lines, without duplicates, each with the readers of its lines.
+ * Returns one field for each `trace` place that signal lines of a kind use. A field contains the readers of these lines.
  * @param {WaveLine[]} lines
  * @param {"level" | "value"} kind the kind of lines
  */
@@ -102,7 +102,7 @@ function groupPlaces(lines) {
 }
 
 /**
- * Sets the position of each place in the rows of a group. The length of each value is constant.
+ * Sets the position of each `trace` place in the rows of a group. The length of each value is constant.
  * @param {QueryGroup} group
  * @param {string} row
  */
@@ -127,7 +127,7 @@ function isSameRange(left, right, from, to) {
   return true;
 }
 
-/** Builds a recording from the answers to its queries, to runs and to `state`. */
+/** Builds a recording from the answers to its `trace` queries, to runs and to `state`. */
 export class WaveBuilder {
   /**
    * @param {WaveLine[]} lines
@@ -172,8 +172,8 @@ export class WaveBuilder {
   }
 
   /**
-   * Records a run from the answers to the queries before it and to the run itself. Throws an error if no cycle ran, unless the code at the
-   * program counter is not an instruction.
+   * Records a run, from the answers to the queries before the run and the answer to the run itself. Throws an error if no cycle ran, unless
+   * the opcode at the program counter is not an instruction.
    * @param {ForecastAnswers} answers
    */
   recordRun(answers) {
@@ -191,7 +191,7 @@ export class WaveBuilder {
     if (this.hasCounter) for (const line of answers.takeTrace().lines) this.recordInstructionLine(line);
     for (const group of this.groups) {
       const trace = answers.takeTrace();
-      // A command before the run could have changed the row.
+      // A command before the run may have changed the row.
       this.recordRow(group, trace.row, this.elapsed);
       for (const line of trace.lines) {
         const { cycles, row } = parseTraceLine(line);

@@ -1,5 +1,5 @@
-// Records the signal lines of a board for the next or the last cycles of a session. To do so, this module runs a copy of the session in the
-// worker, and asks the bench for a forecast before each run.
+// Records the signal lines of a board for the next or the last cycles of a session. For this, a copy of the session runs in the worker.
+// Before each run, `trace` queries forecast the values of the lines.
 
 import { readBoard } from "../bench/answers.js";
 import { CancelledError } from "../bench/bench_errors.js";
@@ -115,10 +115,10 @@ export function listingLinesAt(engine, file, addresses) {
 export async function recordNextCycles(engine, file, cycles, texts, shouldContinue) {
   const recorder = new WaveRecorder(engine, copyWithoutStops(engine, file), texts);
   const { builder } = recorder;
-  const piece = new PieceSize(FIRST_PIECE_CYCLES, FIRST_PIECE_CYCLES, MAX_RUN_CYCLES);
+  const pieceSize = new PieceSize(FIRST_PIECE_CYCLES, FIRST_PIECE_CYCLES, MAX_RUN_CYCLES);
   while (builder.elapsed < cycles && !builder.isStuck) {
-    const nextCycles = Math.min(piece.size, cycles - builder.elapsed);
-    piece.measure(() => recorder.record([{ line: `run ${nextCycles}`, cycles: nextCycles }]));
+    const nextCycles = Math.min(pieceSize.size, cycles - builder.elapsed);
+    pieceSize.measure(() => recorder.record([{ line: `run ${nextCycles}`, cycles: nextCycles }]));
     if (builder.elapsed < cycles && !(await shouldContinue(builder.elapsed))) throw new CancelledError();
   }
   return recorder.finish();

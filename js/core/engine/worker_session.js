@@ -10,7 +10,7 @@ import { findInputEnd, joinLines, matchAnswers, readInputs } from "../bench/inpu
 import { KeyQueue } from "./key_queue.js";
 import { buildSnapshot, snapshotQueries } from "../bench/snapshot.js";
 import { PieceSize } from "./piece_size.js";
-import { romCodes } from "./rom_codes.js";
+import { readRomCodes } from "./rom_codes.js";
 import { EYE_PERSISTENCE_CYCLES } from "../time/mcs4_time.js";
 import { MAX_MEASURED_CYCLES } from "./brightness_meter.js";
 import { MAX_SEGMENT_ENTRIES, Timeline } from "./timeline.js";
@@ -34,9 +34,8 @@ import { MAX_SEGMENT_ENTRIES, Timeline } from "./timeline.js";
  * An input, the number of lines in its text, and its answer lines.
  * @typedef {{ line: string, textLines: number, answers: string[] }} ServedInput
  *
- * The result of executing lines: the last inputs with their answers (`entries`), the first line of all answers (`firstAnswer`), and the
- * shell's exit status.
- * `hasChangedRom` and `hasChangedBoard` are true if the lines could have changed ROM or the board.
+ * The result of executing lines: the last inputs with their answers (`entries`), the first answer line (`firstAnswer`, "" for none), and
+ * the shell's exit status (`status`). `hasChangedRom` and `hasChangedBoard` are true if the lines could have changed ROM or the board.
  * @typedef {{ entries: ServedInput[], firstAnswer: string, status: number, hasChangedRom: boolean, hasChangedBoard: boolean }} LinesResult
  * @typedef {LinesResult & { snapshot: string[] }} ResultAndSnapshot
  *
@@ -46,9 +45,9 @@ import { MAX_SEGMENT_ENTRIES, Timeline } from "./timeline.js";
  *   buzzerLevels: BuzzerLevels | null, chipHeat: ChipHeat | null }} Frame
  */
 
-/** The maximum number of executed inputs in a result. */
+/** The maximum number of entries in a result. If more inputs were executed, the result contains the last ones. */
 export const MAX_ENTRIES = 400;
-/** The maximum number of cycles in executed lines that a recording replays. If the lines ran more cycles, the recording ends. */
+/** The maximum number of cycles that a recording replays after lines were executed. If the lines ran more cycles, the recording ends. */
 const MAX_REPLAYED_CYCLES = 2000000;
 /** The initial, the minimum and the maximum length, in characters, of the pieces in which `serve` executes lines. */
 const FIRST_PIECE_LENGTH = 4096;
@@ -74,7 +73,9 @@ export class WorkerSession {
     this.queue = new KeyQueue();
     this.statusQueries = makeStatusQueries(engine, file);
     this.timeline = new Timeline(this);
-    /** @type {AcceptedCommand[]} the breakpoint changes since the last move in time; the next command first adds them to the past */
+    /**
+     * @type {AcceptedCommand[]} the breakpoint changes since the last move back or forward; the next command first adds them to the past
+     */
     this.unrecordedCommands = [];
     /** @type {Uint8Array | null} the bytes in ROM; null until they are read */
     this.cachedRomBytes = null;
@@ -104,7 +105,7 @@ export class WorkerSession {
 
   /** The bytes of ROM, by address; cached until ROM changes. */
   get romBytes() {
-    if (!this.cachedRomBytes) this.cachedRomBytes = romCodes(this.engine, this.file);
+    if (!this.cachedRomBytes) this.cachedRomBytes = readRomCodes(this.engine, this.file);
     return this.cachedRomBytes;
   }
 
@@ -121,7 +122,7 @@ export class WorkerSession {
     return takeSnapshotOf(this.engine, this.file, this.statusQueries);
   }
 
-  /** Replaces the session file with the file in `nextFile`, which the last call has written. */
+  /** Replaces the session file with the new file, which the last `servePlannedLines` has written to `nextFile`. */
   adoptResult() {
     [this.file, this.nextFile] = [this.nextFile, this.file];
   }
@@ -132,7 +133,7 @@ export class WorkerSession {
    * @returns {Frame}
    */
   advance(cycles) {
-    return this.advanceBy(this.queue.plan(cycles));
+    return this.runPlannedLines(this.queue.plan(cycles));
   }
 
   /**
@@ -140,7 +141,7 @@ export class WorkerSession {
    * @param {PlannedLine[]} plannedLines
    * @returns {Frame}
    */
-  advanceBy(plannedLines) {
+  runPlannedLines(plannedLines) {
     const { servedLines, answers, snapshot, measurements } = this.servePlannedLines(plannedLines);
     this.adoptResult();
     const runs = answers.map(readRun);
@@ -176,7 +177,7 @@ export class WorkerSession {
 
   /**
    * Replaces the session with its state at another moment. Returns whether the board has changed.
-   * @param {{ file: Uint8Array, count: CycleCount }} present
+   * @param {{ file: Uint8Array, count: CycleCount }} target the session at that moment
    */
   replaceState({ file, count }) {
     const statusQueries = makeStatusQueries(this.engine, file);
@@ -198,8 +199,8 @@ export class WorkerSession {
   }
 
   /**
-   * Changes breakpoints after a move in time. The changes are added to the past only with the next command, so that a move forward is still
-   * possible until then.
+   * Changes breakpoints after a move back or forward. The changes are added to the past together with the next command. Until then, a move
+   * forward stays possible.
    * @param {string} lines commands that change breakpoints
    */
   changeBreakpoints(lines) {
@@ -292,8 +293,8 @@ export class WorkerSession {
   }
 
   /**
-   * Executes lines piece by piece. Nothing changes if a piece throws or the work is cancelled. A piece with an exit status other than 0 is
-   * the last one.
+   * Executes lines piece by piece. Nothing changes if a piece throws or the work is cancelled. If a piece ends with an exit status other
+   * than 0, the later pieces are not executed.
    * @param {string} lines
    * @param {(done: number) => Promise<boolean>} shouldContinue called after each piece with the number of processed characters; resolves to
    *   true to continue
@@ -323,7 +324,7 @@ export class WorkerSession {
     }
     const statusQueries = report.hasChangedBoard ? makeStatusQueries(this.engine, sourceFile) : this.statusQueries;
     const snapshot = takeSnapshotOf(this.engine, sourceFile, statusQueries);
-    // Nothing below can fail. The session changes now.
+    // Nothing after this point can fail, so the session can change now.
     if (sourceFile !== this.file) [this.file, this.nextFile] = [sourceFile, this.file];
     this.statusQueries = statusQueries;
     if (report.hasChangedRom) this.cachedRomBytes = null;
@@ -332,7 +333,7 @@ export class WorkerSession {
     this.printerCodes = printerCodes;
     if (report.acceptedCommands.length > 0) this.timeline.record([...this.unrecordedCommands.splice(0), ...report.acceptedCommands], this);
     this.timeline.recordStop();
-    // The waiting key changes belong to the old board.
+    // The queued key changes are for the old board.
     if (report.hasChangedBoard) this.queue.clear();
     if (report.hasChangedBoard) this.forgetMeters();
     if (fileBefore) this.addToRecording(fileBefore, report.acceptedCommands);
@@ -367,7 +368,7 @@ function takeSnapshotOf(engine, file, { lines, inputs }) {
   return buildSnapshot(inputs, engine.ask(file, lines).answers);
 }
 
-/** Collects the results of all pieces in which lines are executed. */
+/** Collects the results of the pieces in which `serve` executes lines. */
 class LinesReport {
   /** @param {CycleCount} count the cycle count before the first piece */
   constructor(count) {

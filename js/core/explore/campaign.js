@@ -61,15 +61,15 @@ function findOriginalColumn(originalLine, column) {
   return at;
 }
 
-/** The maximum number of places in all `note` lines. */
+/** The maximum number of `trace` places in all `note` lines. */
 const MAX_NOTES = 16;
 /** The default for the maximum number of keys that are down at the same time. */
 const DEFAULT_MAX_KEYS_DOWN = 2;
 /** The shortest and the longest time in the line `no press below TIME reaches @LABEL`, in cycles. A proof can use these times. */
-const PRESS_TIMES = { min: 2, max: 100000 };
+const PRESS_TIME_RANGE = { min: 2, max: 100000 };
 /** The default waits, 1 and 20 ms, in cycles. */
 const DEFAULT_WAITS = { minWait: cyclesFromMilliseconds(1), maxWait: cyclesFromMilliseconds(20) };
-/** The default times for which each key in a sequence for a model is pressed and then released, in cycles. */
+/** The default times, in cycles, for which each key in a model's key sequence is down and then up. */
 const DEFAULT_PACE = { downTime: TOOL_KEY_DOWN_CYCLES, upTime: TOOL_KEY_UP_CYCLES };
 
 /** A reader of one properties text, with the settings that it has read so far. */
@@ -116,8 +116,8 @@ class PropertiesReader {
   }
 
   /**
-   * Parses a condition that violates a property, or reaches a goal, if the condition is true. If the line has a `while` guard, the result
-   * is true only while the guard's condition is true, too.
+   * Parses a condition that must not become true, or that is a goal. If the line has a `while` guard, the result is true only while the
+   * guard's condition is true, too.
    * @param {string} text
    */
   parseViolation(text) {
@@ -126,8 +126,7 @@ class PropertiesReader {
   }
 
   /**
-   * Parses a condition that violates a property if the condition is false. If the line has a `while` guard, the result is also true while
-   * the guard's condition is false.
+   * Parses a condition that must be true. If the line has a `while` guard, the result is also true while the guard's condition is false.
    * @param {string} text
    */
   parseRequirement(text) {
@@ -179,16 +178,16 @@ class PropertiesReader {
 }
 
 /**
- * Parses two times, with or without `to` between them. Returns both in cycles. Throws `ConditionError` for any other words.
+ * Parses two times, with or without `to` between them. Returns the times in cycles. Throws `ConditionError` for any other words.
  * @param {string[]} words
  * @param {string} syntax the error message if the words are not two times
  */
 function parseTimePair(words, syntax) {
-  const first = parseDuration(words, 0);
-  const timeWords = words.slice(first.wordCount).filter((word, index) => index > 0 || word !== "to");
+  const firstTime = parseDuration(words, 0);
+  const timeWords = words.slice(firstTime.wordCount).filter((word, index) => index > 0 || word !== "to");
   const secondCycles = parseExactDuration(timeWords);
-  if (first.cycles === 0 || secondCycles === 0) fail(syntax);
-  return [first.cycles, secondCycles];
+  if (firstTime.cycles === 0 || secondCycles === 0) fail(syntax);
+  return [firstTime.cycles, secondCycles];
 }
 
 
@@ -315,15 +314,15 @@ const PROPERTY_PARSERS = {
     const syntax = say.SHORT_PRESS_SYNTAX;
     const [, time, label] = /^press below (.+) reaches (\S+)$/.exec(remainingText) || fail(syntax);
     const limit = reader.parseTime(time, syntax);
-    if (limit < PRESS_TIMES.min || limit > PRESS_TIMES.max) fail(syntax);
+    if (limit < PRESS_TIME_RANGE.min || limit > PRESS_TIME_RANGE.max) fail(syntax);
     if (listInputNames(reader.names.face).length === 0) fail(say.NOTHING_TO_PRESS);
     return noPressProperty(text, reader.parseLabel(label), limit);
   },
   reach: (reader, remainingText, text) => {
-    const line = /^line (\d+)$/.exec(remainingText);
-    if (!line && !/^@\S+$/.test(remainingText)) return reachProperty(text, reader.parseViolation(remainingText));
-    const instruction = line && reader.instructions.find((candidate) => candidate.line === Number(line[1]));
-    if (line && !instruction) fail(say.noInstructionInMessage(line[1]));
+    const lineMatch = /^line (\d+)$/.exec(remainingText);
+    if (!lineMatch && !/^@\S+$/.test(remainingText)) return reachProperty(text, reader.parseViolation(remainingText));
+    const instruction = lineMatch && reader.instructions.find((candidate) => candidate.line === Number(lineMatch[1]));
+    if (lineMatch && !instruction) fail(say.noInstructionInMessage(lineMatch[1]));
     const address = instruction ? instruction.address : reader.parseLabel(remainingText);
     return reader.whileCondition === "" ? reachAddressProperty(text, address)
       : reachProperty(text, reader.parseViolation(`pc = ${address}`));
@@ -383,12 +382,12 @@ function parseGuardedLine(reader, text, firstGuard) {
   /** @type {Guard[]} */
   const guards = [];
   let unguardedText = "";
-  let count = 0;
+  let guardCount = 0;
   for (let currentGuard = firstGuard; currentGuard; currentGuard = splitGuard(unguardedText)) {
     reader.searchStart = text.length - (unguardedText || text).length;
     ({ remainingText: unguardedText } = currentGuard);
-    count += 1;
-    if (count > MAX_GUARDS) fail(say.tooManyGuardsMessage(MAX_GUARDS));
+    guardCount += 1;
+    if (guardCount > MAX_GUARDS) fail(say.tooManyGuardsMessage(MAX_GUARDS));
     const [, condition] = /^while (.+)$/.exec(currentGuard.guard) || [];
     if (condition === undefined) guards.push(parseGuard(reader, currentGuard.guard));
     else reader.whileCondition = `${reader.whileCondition && `${reader.whileCondition} and `}(${reader.parseCondition(condition).text})`;
@@ -500,9 +499,9 @@ export function readCampaign(text, subject, needsInputs = true) {
       errors.push({ line: index + 1, column, words: column < 0 ? error.message : errorInColumn(error.message, column) });
     }
   });
-  const last = Math.max(1, text.trimEnd().split("\n").length);
+  const lastLine = Math.max(1, text.trimEnd().split("\n").length);
   if (!addDefaults(reader) && needsInputs && errors.length === 0) {
-    errors.push({ line: last, column: -1, words: say.NO_INPUT_MAY_CHANGE });
+    errors.push({ line: lastLine, column: -1, words: say.NO_INPUT_MAY_CHANGE });
   }
   if (errors.length === 0 && !hasKeysForModel(reader)) {
     const { line } = reader.properties.find(({ form }) => form === "model") || { line: 1 };

@@ -180,8 +180,8 @@ export class CampaignRun {
   }
 
   /**
-   * Stores the test of a counterexample whose confirmation failed. After MAX_UNCONFIRMED such tests, the search no longer checks this
-   * property. Returns null.
+   * Stores the test of a counterexample whose confirmation failed. After MAX_UNCONFIRMED_COUNTEREXAMPLES such tests, the search no longer
+   * checks this property. Returns null.
    * @param {number} property
    * @param {string} test
    */
@@ -197,7 +197,7 @@ export class CampaignRun {
    * @param {Pick<Report, "names" | "sums" | "seconds" | "isStopped">} details the parts of the report that the caller supplies
    * @returns {Report}
    */
-  report(details) {
+  createReport(details) {
     const { campaign: { properties }, search, subject: { instructions }, proof } = this;
     return {
       form: "explore 1", ...details, seeds: [this.seed], steps: search.steps, states: search.stateCount, covered: search.coverage.text,

@@ -3,8 +3,8 @@
 
 import { readCounter } from "../bench/answers.js";
 import { hex } from "../bench/numbers.js";
-import { runLines } from "../engine/key_queue.js";
-import { walkLines } from "./walks.js";
+import { formatRunLines } from "../engine/key_queue.js";
+import { formatWalkLines } from "./walks.js";
 import * as say from "../../words/explore.js";
 
 /**
@@ -22,7 +22,7 @@ import * as say from "../../words/explore.js";
  */
 export function formatViolationLines(campaign, { steps, time }) {
   const lastChangeTime = steps.reduce((sum, { wait }) => sum + wait, campaign.checkStart);
-  return walkLines(campaign, steps) + runLines(time - lastChangeTime);
+  return formatWalkLines(campaign, steps) + formatRunLines(time - lastChangeTime);
 }
 
 /** Writes the test for a counterexample. */

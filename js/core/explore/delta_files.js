@@ -1,7 +1,7 @@
-// Stores session files compactly: for each file, only the 32-bit words that differ from those of the first file. Most words do not differ.
+// Stores session files compactly: for each file, only the 32-bit words that differ from those of a base file. Most words do not differ.
 
 /**
- * A stored file: the indices and the values of the words that differ from those of the first file.
+ * A stored file: the indices and the values of the words that differ from those of the base file.
  * @typedef {{ indexes: Uint32Array, words: Uint32Array }} FileDelta
  */
 
@@ -9,11 +9,11 @@
 const WORD_BYTES = 4;
 
 export class DeltaFiles {
-  /** @param {Uint8Array} first the session file with which all other files are compared */
-  constructor(first) {
-    this.first = viewWords(first);
+  /** @param {Uint8Array} baseFile the session file with which `encode` compares other files */
+  constructor(baseFile) {
+    this.baseWords = viewWords(baseFile);
     /** The words of the last decoded file. */
-    this.scratch = new Uint32Array(first.length / WORD_BYTES);
+    this.scratch = new Uint32Array(baseFile.length / WORD_BYTES);
     /** The bytes of the last decoded file, in the same memory as `scratch`. */
     this.bytes = new Uint8Array(this.scratch.buffer);
     /** @type {number[]} a list that `encode` reuses */
@@ -21,15 +21,15 @@ export class DeltaFiles {
   }
 
   /**
-   * Returns the words of a file that differ from those of the first file.
+   * Returns the words of a file that differ from those of the base file.
    * @param {Uint8Array} file
    * @returns {FileDelta}
    */
   encode(file) {
     const words = viewWords(file);
-    const { first, indexes } = this;
+    const { baseWords, indexes } = this;
     indexes.length = 0;
-    for (let at = 0; at < first.length; at++) if (words[at] !== first[at]) indexes.push(at);
+    for (let at = 0; at < baseWords.length; at++) if (words[at] !== baseWords[at]) indexes.push(at);
     return { indexes: Uint32Array.from(indexes), words: Uint32Array.from(indexes, (at) => words[at]) };
   }
 
@@ -39,7 +39,7 @@ export class DeltaFiles {
    */
   decode({ indexes, words }) {
     const { scratch } = this;
-    scratch.set(this.first);
+    scratch.set(this.baseWords);
     indexes.forEach((index, at) => {
       scratch[index] = words[at];
     });

@@ -35,23 +35,23 @@ export class InitialProof {
     this.timeLeft = subject.engine.prove ? milliseconds : 0;
     /** The number of states in the proof of each property; 0 for unproved properties. */
     this.states = campaign.properties.map(() => 0);
-    /** @type {string[][]} for each property, the lines of the properties text with the input limits that the proof of the property needs */
+    /** @type {string[][]} for each property, the lines of the properties text that set the input limits of its proof */
     this.limits = campaign.properties.map(() => []);
     const { board } = subject.names;
     const inputLimits = listInputLimits(campaign, board);
-    /** For each property, the limits on the inputs for successive attempts of a proof. */
+    /** For each property, the input limits for successive attempts to prove the property. */
     this.inputLimits = campaign.properties.map((property) => listPropertyLimits(property, campaign, inputLimits, board));
     const separateQuestions = this.timeLeft > 0 ? createQuestions(subject, campaign) : [];
     const combinableQuestions = separateQuestions.filter(({ properties: [at], question }) => (
       !needsSeparateQuestion(campaign.properties[at], question)));
     /**
-     * The remaining questions. The first one can combine several others, which stay in the list in case the combined question is not
-     * proved.
+     * The remaining questions. The first question can combine several later questions. These stay in the list in case the combined question
+     * is not proved.
      * @type {PropertyQuestion[]}
      */
     this.questions = combinableQuestions.length > 1 ? [joinQuestions(combinableQuestions), ...separateQuestions] : separateQuestions;
     this.bounds = listBounds(MAX_BOUND, FIRST_BOUND);
-    /** The number of questions at the start of the list that this round has already asked without a final answer. */
+    /** The number of questions that this round has already asked without a final answer. These questions are at the start of the list. */
     this.askedCount = 0;
     /** The duration of the last question in milliseconds. */
     this.lastDuration = 0;
@@ -90,15 +90,15 @@ export class InitialProof {
   }
 
   /**
-   * Returns a list with one new question: the same question with the next limits on the inputs. The list is empty if there are no further
-   * limits, or if the question is about several properties.
+   * Returns a list with one question: the given question with the next input limits. Returns an empty list if there are no further limits,
+   * or if the given question is about several properties.
    * @param {PropertyQuestion} propertyQuestion
    */
   createLimitedQuestions({ properties, question }) {
     const inputLimits = this.inputLimits[properties[0]];
-    const next = question.inputLimits ? inputLimits.indexOf(question.inputLimits) + 1 : 0;
-    if (next === inputLimits.length || properties.length > 1) return [];
-    return [{ properties, question: { ...question, inputLimits: inputLimits[next] } }];
+    const nextIndex = question.inputLimits ? inputLimits.indexOf(question.inputLimits) + 1 : 0;
+    if (nextIndex === inputLimits.length || properties.length > 1) return [];
+    return [{ properties, question: { ...question, inputLimits: inputLimits[nextIndex] } }];
   }
 
   /**

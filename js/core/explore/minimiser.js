@@ -13,7 +13,7 @@ import { updateDownInputs, initialDownInputs, areStepsAllowed, findLongestWaitAf
 
 /** Each step counts as this number of cycles towards the cycle limit, in addition to its wait. */
 const STEP_COST = 500;
-/** The number of lengths that `removeStart` tries for the first wait. Each is one cycle longer than the previous one. */
+/** The number of lengths that `removeStart` tries for the first wait. Each length is one cycle more than the previous length. */
 const MAX_EXTRA_CYCLES = 256;
 /** The fractions to which `shortenWaits` tries to shorten a wait. */
 const WAIT_FRACTIONS = [0, 1 / 4, 1 / 2, 3 / 4, 7 / 8, 15 / 16, 63 / 64];
@@ -47,15 +47,15 @@ export class Minimiser {
       isShorter = await this.removeSteps();
       isShorter = (await this.removePairs()) || isShorter;
       isShorter = (await this.shortenWaits()) || isShorter;
-      // `removeStart` needs the most tries, so it comes last.
+      // `removeStart` needs the most tries, so it is called last.
       isShorter = isShorter || (await this.removeStart());
     }
     return { property: this.property, steps: this.steps, time: this.time };
   }
 
   /**
-   * Replaces the current steps if the new steps also violate the property. Returns whether the steps were replaced. Tries no steps that the
-   * campaign forbids, and none after the cycle limit is reached.
+   * Replaces the current steps if the new steps also violate the property. Returns whether the steps were replaced. Does not try steps that
+   * the campaign forbids. Tries no more steps after the cycle limit is reached.
    * @param {WalkStep[]} steps
    */
   async tryWalk(steps) {
@@ -136,12 +136,12 @@ export class Minimiser {
   async removeStart() {
     const { campaign, steps } = this;
     let downInputs = initialDownInputs(campaign);
-    const idleSteps = steps.flatMap((step, at) => {
+    const idleStepIndexes = steps.flatMap((step, at) => {
       const isIdle = downInputs.length === 0 && at > 0;
       downInputs = updateDownInputs(downInputs, step);
       return isIdle ? [at] : [];
     });
-    for (const at of idleSteps.reverse()) {
+    for (const at of idleStepIndexes.reverse()) {
       // A wait cannot be longer than one `run` of the bench.
       for (let { wait } = steps[at]; wait < Math.min(steps[at].wait + MAX_EXTRA_CYCLES, MAX_RUN_CYCLES + 1); wait++) {
         if (await this.tryWalk([{ ...steps[at], wait }, ...steps.slice(at + 1)])) return true;

@@ -4,8 +4,8 @@
 
 import { readItems } from "../bench/answers.js";
 import { DisplayText } from "../board/display_text.js";
-import { changeLine, randomBelow } from "./walks.js";
-import { runLines } from "../engine/key_queue.js";
+import { formatChangeLine, randomBelow } from "./walks.js";
+import { formatRunLines } from "../engine/key_queue.js";
 
 /**
  * @typedef {import("./campaign.js").Campaign} Campaign
@@ -60,7 +60,7 @@ export class Model {
   }
 
   /**
-   * Resolves to the first difference between the display and the model's output after some key sequences, or to null.
+   * Compares the display with the model's output after each of several key sequences. Resolves to the first difference, or to null.
    * @param {number[][]} keySequences
    * @returns {Promise<Difference | null>}
    */
@@ -89,13 +89,13 @@ export class Model {
     const { downTime, upTime } = this.campaign;
     const { face } = this.subject.names;
     const lines = keys.map((input) => (
-      `${changeLine(this.campaign, { wait: 0, kind: "down", input })}${runLines(downTime)}`
-      + `${changeLine(this.campaign, { wait: 0, kind: "up", input })}${runLines(upTime)}`)).join("");
+      `${formatChangeLine(this.campaign, { wait: 0, kind: "down", input })}${formatRunLines(downTime)}`
+      + `${formatChangeLine(this.campaign, { wait: 0, kind: "up", input })}${formatRunLines(upTime)}`)).join("");
     const { answers } = this.subject.engine.ask(this.start.file, `${lines}lamps\n`);
-    const marks = readItems(answers[answers.length - 1]).join("");
+    const lampMarks = readItems(answers[answers.length - 1]).join("");
     const lamps = [...face.lamps].map(([lamp, { text }]) => ({ lamp, text }));
-    const { number, names } = new DisplayText(face.groups.filter(({ kind }) => kind === "display"), lamps).read(marks);
-    const lampsOn = lamps.filter(({ lamp, text }) => marks[lamp] === "*" && text !== "minus").map(({ text }) => text);
+    const { number, names } = new DisplayText(face.groups.filter(({ kind }) => kind === "display"), lamps).read(lampMarks);
+    const lampsOn = lamps.filter(({ lamp, text }) => lampMarks[lamp] === "*" && text !== "minus").map(({ text }) => text);
     return { number, fullText: names === "" ? number : `${number} ${names}`, lampsOn };
   }
 

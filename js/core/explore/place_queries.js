@@ -10,7 +10,7 @@ export class PlaceQueries {
   /** @param {string[]} names */
   constructor(names) {
     this.names = [...new Set(names)];
-    /** The groups of places, one group per query. */
+    /** The groups of `trace` places, one group per query. */
     this.groups = [];
     for (let from = 0; from < this.names.length; from += MAX_PLACES) this.groups.push(this.names.slice(from, from + MAX_PLACES));
   }
@@ -44,7 +44,7 @@ export function listConditions({ condition, guards }) {
 /** @type {boolean[]} the values of the guard conditions of a property without guards */
 const NO_GUARDS = [];
 
-/** The conditions of a property, each with the indices of its places in the list of all places. */
+/** The conditions of a property, each with the indices of its `trace` places in the list of all places. */
 export class Conditions {
   /**
    * @param {Property} property
@@ -83,10 +83,10 @@ function evaluateCondition({ condition, indexes }, values) {
   return condition !== null && condition.holds(indexes.map((at) => values[at]));
 }
 
-/** Reads the answers to place queries one after another. */
-export class PlaceValues extends ForecastAnswers {
+/** Reads the answers to the queries of `trace` places, one after another. */
+export class PlaceAnswers extends ForecastAnswers {
   /**
-   * Returns the current values of all places, separated by blanks, and ignores later changes.
+   * Returns the current values of all `trace` places, separated by blanks. Skips the later changes in the answers.
    * @param {PlaceQueries} places
    */
   takeRow(places) {
@@ -96,7 +96,7 @@ export class PlaceValues extends ForecastAnswers {
   }
 
   /**
-   * Returns the current values of all places, and the values after each instruction that changes them, with the cycles before the
+   * Returns the current values of all `trace` places, and the values after each instruction that changes them, with the cycles before the
    * instruction.
    * @param {PlaceQueries} places
    * @returns {{ values: string[], changes: Change[] }}
@@ -125,8 +125,8 @@ export class PlaceValues extends ForecastAnswers {
 }
 
 /**
- * An instruction that changes values in a group of places: the cycles before it, its address, and the new values of the group. `from` is
- * the index of the first new value in the list of the values of all places.
+ * An instruction that changes values in a group of `trace` places: the cycles before it, its address, and the new values of the group.
+ * `from` is the index of the first new value in the list of the values of all places.
  * @typedef {{ cycles: number, address: number, from: number, values: string[] }} Change
  */
 

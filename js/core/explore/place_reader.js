@@ -6,7 +6,7 @@ import { PlaceQueries } from "./place_queries.js";
 
 /**
  * @typedef {import("../bench/answers.js").Board} Board
- * @typedef {import("./place_queries.js").PlaceValues} PlaceValues
+ * @typedef {import("./place_queries.js").PlaceAnswers} PlaceAnswers
  *
  * The position of a value in the answer to a query: the query, the index of the answer line, the index of the first character, and the
  * number of characters. If `precedingWord` is not "", the index counts from the end of that word. If `length` is 0, the value extends to
@@ -21,7 +21,7 @@ import { PlaceQueries } from "./place_queries.js";
 const REGISTER_POSITIONS = new Map([["acc", [4, 1]], ["cy", [9, 1]], ["pc", [14, 3]], ["dcl", [29, 1]]]);
 /** The index of register r0 in the answer to `regs`. */
 const R0_POSITION = 40;
-/** The number of `ram` lines per chip: one per register, and one for the port. */
+/** The number of lines per chip in the answer to `ram`: one per register, and one for the port. */
 const LINES_PER_CHIP = 5;
 const REGISTERS_PER_CHIP = 4;
 
@@ -80,7 +80,7 @@ function findPort(name, board) {
 }
 
 /**
- * Returns the position of a place in the answer to a fast query; null if only `trace` reports the place.
+ * Returns the position of a `trace` place in the answer to a fast query; null if only `trace` reports the place.
  * @param {string} name
  * @param {Board} board
  */
@@ -105,12 +105,12 @@ export class PlaceReader {
     this.queries = [...new Set(this.positions.map(({ query }) => query))];
     /** The query lines. */
     this.lines = this.queries.map((query) => `${query}\n`).join("") + this.remainingPlaces.formatLines(1);
-    const counts = this.queries.map((query) => (
+    const lineCounts = this.queries.map((query) => (
       query.startsWith("ram ") ? 1 + LINES_PER_CHIP * countChips(board, Number(query.slice(4))) : 1));
-    /** For each position, the index of its line in the answers to all queries. */
+    /** For each element of `positions`, the index of the answer line that contains its value. */
     this.answerIndexes = this.positions.map(({ query, line }) => (
-      line + counts.slice(0, this.queries.indexOf(query)).reduce((sum, count) => sum + count, 0)));
-    this.answerCount = counts.reduce((sum, count) => sum + count, 0);
+      line + lineCounts.slice(0, this.queries.indexOf(query)).reduce((sum, count) => sum + count, 0)));
+    this.answerCount = lineCounts.reduce((sum, count) => sum + count, 0);
   }
 
   /**
@@ -122,8 +122,8 @@ export class PlaceReader {
   }
 
   /**
-   * Returns the values of all places, separated by blanks, from the answers to the query lines.
-   * @param {PlaceValues} values
+   * Returns the values of all `trace` places, separated by blanks, from the answers to the query lines.
+   * @param {PlaceAnswers} values
    */
   takeRow(values) {
     const { positions, answerIndexes, remainingPlaces: tracedPlaces } = this;

@@ -10,7 +10,7 @@ import * as say from "../../words/explore.js";
  * @typedef {import("./search_inputs.js").Input} Input
  *
  * The kinds of events:
- * - `values`: the places of the property's conditions have new values;
+ * - `values`: the `trace` places of the property's conditions have new values;
  * - `label`: the program counter reaches an address of the property;
  * - `down`, `up`: an input goes down, or up; `reset`: the power is cut; `end`: a wait ends;
  * - `call`, `return`: a subroutine is called, or returns.
@@ -19,10 +19,10 @@ import * as say from "../../words/explore.js";
  * The circumstances of an event. Times are in cycles since power-on.
  * - `time`: the time of the event; `changeTime`: for `values`, the end of the first cycle of the instruction that changed the values;
  * - `address`: for `label`, the address that the program counter reaches;
- * - `holds`: true if the property's condition is true; `areOpen`: for each guard, true if its condition is true;
+ * - `holds`: true if the property's condition is true; `guardValues`: for each guard, true if its condition is true;
  * - `input`: for `down`, the name of the input that goes down; `downCount`: the number of inputs that are down;
  * - `key`: for `down` and `up`, the index of the key that goes down or up, -1 if the input is no key.
- * @typedef {{ time: number, changeTime: number, address: number, holds: boolean, areOpen: boolean[], input: string,
+ * @typedef {{ time: number, changeTime: number, address: number, holds: boolean, guardValues: boolean[], input: string,
  *   downCount: number, key: number }} Moment
  *
  * A guard of a property. The property is checked only:
@@ -35,7 +35,7 @@ import * as say from "../../words/explore.js";
  * - `form`: the form of its line; `text`, `line`: its text and line number; `address`: the address of its label, -1 for none;
  * - `start`: for `within`, the address at which the time measurement starts; `limit`: the time limit in cycles; `keys`: the keys in its
  *   text;
- * - `createMemory`: returns the initial memory, for the inputs of a campaign; `update`: updates the memory after an event, and returns the
+ * - `createMemory`: returns the initial memory for a start time and inputs; `update`: updates the memory after an event, and returns the
  *   time of the violation or -1;
  * - `newStateKey`: returns the part of the memory that distinguishes states, as text;
  * - `hasApplied`: returns whether an event in the walk was relevant to the property, such as a press of its key.
@@ -276,7 +276,8 @@ export function oncePerPressProperty(text, address) {
 /**
  * Creates the property that the program counter reaches a label only after some key was down for at least `limit` cycles without
  * interruption. Memory: 1 if a key was down for that long since power-on; and for each input, the time at which the key went down. This
- * time is -1 for a key that is up and for an input that is no key. A key that is down at the start, or at a power cycle, counts from then.
+ * time is -1 for a key that is up and for an input that is no key. For a key that is down at the start or at a power cycle, this is the
+ * time of the start or of the power cycle.
  * @param {string} text
  * @param {number} address
  * @param {number} limit
@@ -367,7 +368,7 @@ function notifyGuarded({ form, update, keys }, memory, event, moment, isOpen) {
 }
 
 /**
- * Creates a property that is checked only while all guards are open. Memory: the memory of each guard; 1 if all guards were ever open at
+ * Creates a property that is checked only while all guards are open. Memory: the memory of each guard; 1 once all guards have been open at
  * the same time; and the memory of the original property.
  * @param {string} text
  * @param {Property} property
@@ -390,7 +391,7 @@ export function guardedProperty(text, property, guards) {
       const closingMoment = { ...moment, time: lastOpenCycle + 1, changeTime: lastOpenCycle + 1, holds: false };
       let violationTime = hasClosed ? property.update(originalMemory, "values", closingMoment) : UNSET;
       guards.forEach((guard, index) => {
-        memory[index] = updateGuard(guard, memory[index], event, moment, moment.areOpen[index] === true);
+        memory[index] = updateGuard(guard, memory[index], event, moment, moment.guardValues[index] === true);
       });
       const isOpen = guards.every((guard, index) => memory[index] !== UNSET && moment.time <= findLastOpenCycle(guard, memory[index]));
       if (isOpen) memory[originalStart - 1] = 1;

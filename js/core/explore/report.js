@@ -17,8 +17,8 @@ import { neverReachedVerdict, provedVerdict } from "../../words/prove.js";
  *
  * The result for a property. `isSkipped`: true if the property is a model whose command was not run. `applied`: true if an event in the
  * search was relevant to the property; always true for a goal. `states`: the number of states in the proof, 0 without a proof. `limits`:
- * the lines of the properties text with the input limits that the proof needs, [] for a proof for all inputs. `leftOut`: the guards that
- * the proof does not consider. `chains`: for a model, the number of key sequences that were compared. `found`: the counterexample, null for
+ * the lines of the properties text that set the input limits of the proof, [] for a proof for all inputs. `leftOut`: the guards that the
+ * proof does not consider. `chains`: for a model, the number of key sequences that were compared. `found`: the counterexample, null for
  * none.
  * @typedef {{ text: string, line: number, isGoal: boolean, isSkipped: boolean, applied: boolean, states: number, limits: string[],
  *   leftOut: string, chains: number, found: Counterexample | null }} PropertyResult
@@ -54,12 +54,12 @@ function pickShorter(first, second) {
 }
 
 /**
- * Returns a proof from several results. Prefers a proof for all inputs.
+ * Returns one of the proofs in several results of a property, if possible one without input limits.
  * @param {PropertyResult[]} results
  * @returns {Pick<PropertyResult, "states" | "limits">}
  */
 function pickProof(results) {
-  // The reports of older versions have no limits.
+  // Reports of older versions have no `limits`.
   const proofs = results.filter(({ states }) => states > 0).map(({ states, limits = [] }) => ({ states, limits }));
   return proofs.find(({ limits }) => limits.length === 0) || proofs[0] || { states: 0, limits: [] };
 }
@@ -93,7 +93,7 @@ export function joinReports(reports) {
 }
 
 /**
- * Returns whether a property was not violated, or a goal was reached.
+ * Returns whether a property was not violated, or a goal was reached; false for a skipped property.
  * @param {PropertyResult} property
  */
 export function hasExpectedResult({ isGoal, isSkipped, found }) {
@@ -191,8 +191,8 @@ export function formatTap(report) {
 export function formatReportTests(report) {
   const { names: { board, program } } = report;
   const propertiesWithTest = report.properties.filter((property) => property.found);
-  const head = say.counterexamplesHeader(board, program);
+  const introduction = say.counterexamplesHeader(board, program);
   const tests = propertiesWithTest.map((property) => (
     `\n# ${propertyLocation(property, report)}\n${property.found ? property.found.test : ""}`));
-  return head + tests.join("");
+  return introduction + tests.join("");
 }

@@ -1,19 +1,21 @@
-// Searches for violations by random walks that start at stored states. For most walks, the search only reads a snapshot after each change.
-// If a walk reaches a new state, the search repeats the walk to count its instructions (walk_counter.js). The search watches a walk
-// instruction by instruction (walk_watcher.js) if the walk executes code for the first time. The search also watches a walk if a property
-// needs more data or seems violated, and a sample of all other walks.
+// Searches for violations by random walks that start at stored states. For most walks, the search only reads a snapshot after each step. If
+// a walk reaches a new state, the search repeats the walk to count its instructions (walk_counter.js). The search watches a walk
+// instruction by instruction (walk_watcher.js) if the walk executes code for the first time or may violate a property. It also does so if a
+// property needs more data, and for one in WATCH_INTERVAL walks as a sample.
 
 import { countWalk, isCountingSufficient } from "./walk_counter.js";
 import { Coverage } from "./search_coverage.js";
 import { DeltaFiles } from "./delta_files.js";
 import { PlaceReader } from "./place_reader.js";
-import { Conditions, PlaceValues, listConditions } from "./place_queries.js";
+import { Conditions, PlaceAnswers, listConditions } from "./place_queries.js";
 import { listAddresses } from "./properties.js";
-import { chooseStep, findChangedKey, updateDownInputs, initialDownInputs, changeLine, walkLines, createRandom } from "./walks.js";
+import {
+  chooseStep, findChangedKey, updateDownInputs, initialDownInputs, formatChangeLine, formatWalkLines, createRandom,
+} from "./walks.js";
 import { updateAges, createInitialAges, randomBelow } from "./walks.js";
 import { Watcher } from "./walk_watcher.js";
 import { MAX_ENABLED_BREAKPOINTS } from "../debug/breakpoints.js";
-import { MAX_RUN_CYCLES, runLines } from "../engine/key_queue.js";
+import { MAX_RUN_CYCLES, formatRunLines } from "../engine/key_queue.js";
 
 /**
  * @typedef {import("./campaign.js").Campaign} Campaign
@@ -31,9 +33,9 @@ import { MAX_RUN_CYCLES, runLines } from "../engine/key_queue.js";
  * The violation of a property, or the arrival at a goal: the index of the property, the steps from the start state, and the time in cycles.
  * @typedef {{ property: number, steps: WalkStep[], time: number }} Violation
  *
- * A snapshot of the state after a step. `notedValues` are the values of the noted places. For each property, `holds` says whether its
- * condition is true, and `areOpen` says which of its guard conditions are true.
- * @typedef {{ notedValues: string, holds: boolean[], areOpen: boolean[][] }} Snapshot
+ * A snapshot of the state after a step. `notedValues` are the values of the noted `trace` places. For each property, `holds` says whether
+ * its condition is true, and `guardValues` says which of its guard conditions are true.
+ * @typedef {{ notedValues: string, holds: boolean[], guardValues: boolean[][] }} Snapshot
  */
 
 const MAX_WALK_STEPS = 16;
@@ -44,11 +46,11 @@ const MAX_SNAPSHOTS = 200000;
 /** One in WATCH_INTERVAL walks is watched even if the walk reaches no new state. */
 const WATCH_INTERVAL = 32;
 /**
- * The number of candidate states that are picked at random for each walk. The walk starts at the candidate at which the fewest walks have
- * started.
+ * The number of stored states that are picked at random for each walk. Of these states, the walk starts at the one where the fewest walks
+ * have started.
  */
 const CANDIDATE_COUNT = 3;
-/** Half of all walks start at a recent state. This is the mean number of states that were stored after the recent state. */
+/** The mean number of states that were stored after a recent state. Half of all walks start at a recent state. */
 const MEAN_STATES_BACK = 6;
 
 export class Search {
@@ -69,7 +71,7 @@ export class Search {
     this.conditions = campaign.properties.map((property) => new Conditions(property, this.places));
     /** @type {number[]} the indices of the properties for which the search still looks for a violation */
     this.openProperties = campaign.properties.flatMap(({ form }, at) => (form === "model" ? [] : [at]));
-    /** @type {Set<number>} the indices of the properties to which an event in a walk was relevant */
+    /** @type {Set<number>} the indices of the properties to which at least one event of a walk was relevant */
     this.appliedProperties = new Set();
     this.steps = 0;
     this.walks = 0;
@@ -100,7 +102,7 @@ export class Search {
     const memories = properties.map(({ createMemory, form }) => (
       form === "calls" ? [min] : form === "returns" ? [max] : createMemory(checkStart, inputs)));
     if (checkStart > 0) {
-      subject.engine.serve(file, runLines(checkStart), file);
+      subject.engine.serve(file, formatRunLines(checkStart), file);
       this.setCallMemories(memories);
     }
     return { file, time: checkStart, downInputs, memories };
@@ -120,8 +122,8 @@ export class Search {
     const startMemories = memories.map((memory, at) => (watcher.callProperties.includes(at) ? memory : memory.map(() => 0)));
     const start = { file, time: 0, downInputs: [], memories: startMemories };
     const { stepStates } = watcher.watch(start, steps, []);
-    const last = stepStates[stepStates.length - 1];
-    for (const at of watcher.callProperties) memories[at] = last ? last.memories[at] : [0];
+    const lastStepState = stepStates[stepStates.length - 1];
+    for (const at of watcher.callProperties) memories[at] = lastStepState ? lastStepState.memories[at] : [0];
   }
 
   /**
@@ -194,7 +196,7 @@ export class Search {
   }
 
   /**
-   * Records the properties to which an event in a walk was relevant.
+   * Records the properties to which at least one event of a walk was relevant.
    * @param {number[][]} memories the memories of the properties at the end of the walk
    */
   recordAppliedProperties(memories) {
@@ -209,8 +211,8 @@ export class Search {
     const picksRecent = random() < 0.5;
     let chosenState = null;
     for (let tries = 0; tries < CANDIDATE_COUNT; tries++) {
-      const stepsBack = Math.floor(-Math.log(1 - random()) * MEAN_STATES_BACK);
-      const state = states[picksRecent ? Math.max(0, states.length - 1 - stepsBack) : randomBelow(random, states.length)];
+      const statesBack = Math.floor(-Math.log(1 - random()) * MEAN_STATES_BACK);
+      const state = states[picksRecent ? Math.max(0, states.length - 1 - statesBack) : randomBelow(random, states.length)];
       if (!chosenState || state.resumeCount < chosenState.resumeCount) chosenState = state;
     }
     const state = /** @type {State} */ (chosenState);
@@ -224,12 +226,12 @@ export class Search {
    */
   chooseSteps(state) {
     const steps = [];
-    let currentDown = state.downInputs;
+    let { downInputs } = state;
     let { ages } = state;
     for (let remaining = 1 + randomBelow(this.random, MAX_WALK_STEPS); remaining > 0; remaining--) {
-      const step = chooseStep(this.campaign, currentDown, ages, this.random);
+      const step = chooseStep(this.campaign, downInputs, ages, this.random);
       ages = updateAges(ages, step);
-      currentDown = updateDownInputs(currentDown, step);
+      downInputs = updateDownInputs(downInputs, step);
       steps.push(step);
     }
     return steps;
@@ -252,8 +254,8 @@ export class Search {
   }
 
   /**
-   * Runs a walk and reads a snapshot after each change. Ends early if a property seems violated (`isSuspect`). Returns the snapshots; the
-   * indices of the steps that reach a new state or execute code for the first time; and `isSuspect`.
+   * Runs a walk and reads a snapshot after each step. Ends early, and returns true as `isSuspect`, if the walk may violate a property.
+   * `newSteps` lists the indices of the steps that reach a new state or execute code for the first time.
    * @param {Uint8Array} file
    * @param {State} state
    * @param {WalkStep[]} steps
@@ -261,11 +263,11 @@ export class Search {
   examineWalk(file, state, steps) {
     const { campaign, places, labelProperties, stopAddresses } = this;
     const labelAddresses = labelProperties.flatMap((at) => listAddresses(campaign.properties[at]));
-    const counts = labelAddresses.some((address) => !stopAddresses.includes(address));
+    const needsCounts = labelAddresses.some((address) => !stopAddresses.includes(address));
     const lines = steps.map((step) => (
-      `${counts ? `count ${step.wait}\n` : ""}run ${step.wait}\n${changeLine(campaign, step)}${places.lines}`)).join("");
+      `${needsCounts ? `count ${step.wait}\n` : ""}run ${step.wait}\n${formatChangeLine(campaign, step)}${places.lines}`)).join("");
     const breakLines = stopAddresses.map((address) => `break ${address}\n`).join("");
-    const values = new PlaceValues(this.subject.engine.ask(file, breakLines + lines).answers);
+    const values = new PlaceAnswers(this.subject.engine.ask(file, breakLines + lines).answers);
     values.skip(stopAddresses.length);
     /** @type {number[]} */
     const newSteps = [];
@@ -273,12 +275,12 @@ export class Search {
     const snapshots = [];
     const estimatedState = new EstimatedState(this, state);
     for (const [at, step] of steps.entries()) {
-      const instructionCounts = counts ? values.takeCountsIfAny() : [];
+      const instructionCounts = needsCounts ? values.takeCountsIfAny() : [];
       if (values.takeRun().end !== "end") return { newSteps, isSuspect: true, snapshots };
       if (step.kind !== "none") values.skip(1);
       const snapshot = this.getSnapshot(places.takeRow(values));
       snapshots.push(snapshot);
-      if (estimatedState.canBeViolated(step, snapshot, instructionCounts)) return { newSteps, isSuspect: true, snapshots };
+      if (estimatedState.canStepViolate(step, snapshot, instructionCounts)) return { newSteps, isSuspect: true, snapshots };
       if (this.coverage.add(instructionCounts)) newSteps.push(at);
       if (this.recordIfNew(snapshot, estimatedState.memoryKey) && !newSteps.includes(at)) newSteps.push(at);
     }
@@ -287,7 +289,7 @@ export class Search {
 
   /**
    * Returns the snapshot that results from a row of values.
-   * @param {string} row the values of all places, separated by blanks
+   * @param {string} row the values of all `trace` places, separated by blanks
    * @returns {Snapshot}
    */
   getSnapshot(row) {
@@ -297,7 +299,7 @@ export class Search {
     const snapshot = {
       notedValues: this.notedIndexes.map((at) => values[at]).join(" "),
       holds: this.conditions.map((condition) => condition.holds(values)),
-      areOpen: this.conditions.map((condition) => condition.evaluateGuards(values)),
+      guardValues: this.conditions.map((condition) => condition.evaluateGuards(values)),
     };
     if (this.snapshots.size >= MAX_SNAPSHOTS) this.snapshots.clear();
     this.snapshots.set(row, snapshot);
@@ -310,9 +312,9 @@ export class Search {
    * @param {string} memoryKey the parts of the property memories that distinguish states
    */
   recordIfNew({ notedValues }, memoryKey) {
-    const key = `${notedValues}${memoryKey}`;
-    if (this.seenKeys.has(key)) return false;
-    this.seenKeys.add(key);
+    const stateKey = `${notedValues}${memoryKey}`;
+    if (this.seenKeys.has(stateKey)) return false;
+    this.seenKeys.add(stateKey);
     return true;
   }
 
@@ -329,7 +331,7 @@ export class Search {
     for (const at of newSteps) {
       if (this.states.length >= MAX_STATES || state.depth + at >= MAX_DEPTH) return;
       const walkPart = steps.slice(from, at + 1);
-      this.subject.engine.serve(file, walkLines(this.campaign, walkPart), file);
+      this.subject.engine.serve(file, formatWalkLines(this.campaign, walkPart), file);
       const { time, downInputs, memories } = stepStates[at];
       const ages = walkPart.reduce(updateAges, parent.ages);
       parent = { delta: this.files.encode(file), time, downInputs, ages, memories, parent, steps: walkPart,
@@ -394,18 +396,18 @@ class EstimatedState {
   }
 
   /**
-   * Updates the memories after a step. Returns whether the step can have violated a property.
+   * Updates the memories after a step. Returns whether the step may have violated a property.
    * @param {WalkStep} step
    * @param {Snapshot} snapshot
    * @param {import("../engine/forecast_answers.js").InstructionCount[]} instructionCounts the instruction counts of the wait
    */
-  canBeViolated(step, { holds, areOpen }, instructionCounts) {
+  canStepViolate(step, { holds, guardValues }, instructionCounts) {
     const { campaign, conditionProperties, memories } = this;
     const { properties, inputs } = campaign;
     this.downInputs = updateDownInputs(this.downInputs, step);
     const input = step.kind === "down" ? inputs[step.input].name : "";
     const time = this.time + step.wait;
-    const moment = { time, changeTime: time, address: -1, holds: false, areOpen: NO_GUARDS, input, downCount: this.downInputs.length,
+    const moment = { time, changeTime: time, address: -1, holds: false, guardValues: NO_GUARDS, input, downCount: this.downInputs.length,
       key: findChangedKey(campaign, step) };
     const countAt = (/** @type {number} */ label) => (
       (instructionCounts.find(({ address }) => address === label) || { startCount: 0 }).startCount);
@@ -416,14 +418,14 @@ class EstimatedState {
     return isAtLabel || conditionProperties.some((at) => {
       const { update } = properties[at];
       const memory = memories[at];
-      if (step.kind === "down" && update(memory, "down", { ...moment, areOpen: areOpen[at] }) >= 0) return true;
+      if (step.kind === "down" && update(memory, "down", { ...moment, guardValues: guardValues[at] }) >= 0) return true;
       if (step.kind === "reset" && update(memory, "reset", moment) >= 0) return true;
-      return update(memory, "values", { ...moment, holds: holds[at], areOpen: areOpen[at] }) >= 0;
+      return update(memory, "values", { ...moment, holds: holds[at], guardValues: guardValues[at] }) >= 0;
     });
   }
 
   /**
-   * Updates the memory of a property with a label after a step. Returns whether the step can have violated the property.
+   * After a step, updates the memory of a property that has a label. Returns whether the step may have violated the property.
    * @param {Property} property
    * @param {number[]} memory
    * @param {import("./properties.js").Moment} moment the moment at the end of the wait
@@ -432,7 +434,7 @@ class EstimatedState {
    */
   canViolateAtLabel(property, memory, moment, step, count) {
     const { form, update, limit, guards } = property;
-    // Only watching the walk shows whether the guards were open when the counter reached the label.
+    // The counts do not show whether the guards were open when the program counter reached the label.
     if (guards.length > 0) return count > 0 || form === "after press";
     if (stopsAtLabel(property)) return count > 0;
     if (form === "after press" && memory[0] >= 0 && (count > 0 || moment.time > memory[0] + limit)) {
@@ -444,7 +446,7 @@ class EstimatedState {
       if (moment.time - memory[0] > limit) return true;
       if (count > 0) memory[0] = this.time;
     }
-    // If the label was reached during this wait, assume that presses were as short as at the start of the wait.
+    // If the label was reached during this wait, assume the start of the wait, when the keys had been down for the shortest time.
     if (form === "no press" && count > 0 && update(memory, "label", { ...moment, time: this.time, key: -1 }) >= 0) return true;
     const isCounted = form === "once" || form === "only after";
     for (let times = 0; isCounted && times < count; times++) if (update(memory, "label", moment) >= 0) return true;
@@ -453,8 +455,8 @@ class EstimatedState {
   }
 
   /**
-   * Updates the memory of a `within` property after a step. Returns whether the limit may have passed before the program counter
-   * reached the second label.
+   * Updates the memory of a `within` property after a step. Returns whether the program counter may have reached the second label only
+   * after the limit.
    * @param {Property} property
    * @param {number[]} memory
    * @param {import("./properties.js").Moment} moment the moment at the end of the wait

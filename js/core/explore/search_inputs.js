@@ -6,8 +6,8 @@ import { keyLine, pinKey } from "../board/key_place.js";
  * @typedef {import("../board/key_place.js").Key} Key
  *
  * An input, which is either down or up. `downLine` and `upLine` are the bench lines that change its position; `downTestLine` and
- * `upTestLine` are the test lines for the same changes. `isDown` is true if it is down in the start state. `isKey` is true for a key of the
- * matrix. `canBePressed` is true for such a key, and for TEST if the front panel has a button or switch for it.
+ * `upTestLine` are the test lines for the same changes. `isDown` is true if the input is down in the start state. `isKey` is true for a key
+ * of the matrix. `canBePressed` is true for such a key, and for TEST if the front panel has a button or switch for it.
  * @typedef {{ name: string, key: Key, isKey: boolean, canBePressed: boolean, downLine: string, upLine: string, downTestLine: string,
  *   upTestLine: string, isDown: boolean }} Input
  *

@@ -87,7 +87,7 @@ export class SlicedSearch {
    * @param {() => Promise<void>} yieldToMessages yields to other messages while a counterexample is minimised
    */
   constructor(engine, texts, { subject, campaign }, { seed, seconds }, yieldToMessages) {
-    // A counterexample counts only after its test has failed; for a goal, after its test has passed.
+    // Confirms a counterexample only if its test fails, and the arrival at a goal only if its test passes.
     const confirm = (/** @type {string} */ test, /** @type {boolean} */ isGoal) => (
       confirmsCounterexample(engine, texts, test, isGoal, yieldToMessages));
     const [cycleLimit, proofTime] = [minimisingCycleLimit(seconds), initialProofTime(seconds)];
@@ -110,11 +110,11 @@ export class SlicedSearch {
         counterexamples.push({ property: counterexample.property, file: campaignRun.createSessionFile(counterexample.violation) });
       }
     }
-    return { report: this.report(), found: counterexamples, isDone: campaignRun.isDone };
+    return { report: this.createReport(), found: counterexamples, isDone: campaignRun.isDone };
   }
 
-  report() {
+  createReport() {
     const { search, proof, model } = this.campaignRun.timeSpent;
-    return this.campaignRun.report({ names: say.TEXT_NAMES, sums: "", seconds: (search + proof + model) / 1000, isStopped: false });
+    return this.campaignRun.createReport({ names: say.TEXT_NAMES, sums: "", seconds: (search + proof + model) / 1000, isStopped: false });
   }
 }

@@ -24,7 +24,7 @@ class OpenCallRecorder extends ExecutionRecorder {
   }
 
   end() {
-    // Calls that have not returned stay open in the next test, which continues from the saved state.
+    // Keeps the open calls, because the next test continues from the saved state.
   }
 }
 
@@ -58,7 +58,7 @@ export function findLeadingTests(names, testText, state) {
 }
 
 /**
- * Returns the tests, each cut after the line that saves the state from which the next test continues.
+ * Removes the end of each test: the lines after the `save` line of the state from which the next test continues.
  * @param {Test[]} tests
  * @param {string} state the name of the state that the last test saves
  * @returns {Test[]}
@@ -72,7 +72,7 @@ function cutAtSavedStates(tests, state) {
 }
 
 /**
- * Returns the lines of tests, except the lines that save a state or continue from one.
+ * Returns the lines of tests, except the lines that save a state or continue from a state.
  * @param {Test[]} tests
  */
 function formatLines(tests) {
@@ -81,8 +81,8 @@ function formatLines(tests) {
 }
 
 /**
- * Returns the minimum and the maximum number of calls that have not returned after some tests. If one of the tests resets the machine, the
- * number is unknown, so the result is the full range.
+ * Returns the minimum and the maximum number of open calls at the end of some tests. If one of the tests resets the machine, the number is
+ * unknown, so the result is the full range.
  * @param {Test[]} tests
  * @param {OpenCallRecorder} recorder
  */

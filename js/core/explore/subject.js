@@ -5,7 +5,7 @@ import { matchAnswers, readInputs } from "../bench/inputs.js";
 import { Face } from "../board/face.js";
 import { SourceMap } from "../machine/source_map.js";
 import { sentText } from "../text/sendable_text.js";
-import { isBranch, romCodes } from "../engine/rom_codes.js";
+import { isBranch, readRomCodes } from "../engine/rom_codes.js";
 import * as say from "../../words/explore.js";
 
 /**
@@ -52,14 +52,14 @@ export function createSubject(engine, boardText, programText, linesBefore = 0) {
   if (boardRefusal) throw new RejectedTextError("board", boardRefusal);
   const programRefusal = parseRefusal(loadAnswers[0]) || parseRefusal(map[0]);
   if (programRefusal) throw new RejectedTextError("program", programRefusal);
-  const source = new SourceMap(map, programText);
-  const codes = romCodes(engine, file);
+  const sourceMap = new SourceMap(map, programText);
+  const codes = readRomCodes(engine, file);
   const instructions = [];
-  for (let line = 1; line <= source.lineCount; line++) {
-    const address = source.addressOf(line);
-    if (address === undefined || !source.beginsInstruction(address)) continue;
+  for (let line = 1; line <= sourceMap.lineCount; line++) {
+    const address = sourceMap.addressOf(line);
+    if (address === undefined || !sourceMap.beginsInstruction(address)) continue;
     instructions.push({ line: line + linesBefore, address, isBranch: isBranch(codes[address]) });
   }
-  const names = { face: new Face(boardText), board: readBoard(board), map: source };
+  const names = { face: new Face(boardText), board: readBoard(board), map: sourceMap };
   return { engine, file, names, codes, instructions, texts: { board: boardText, program: programText } };
 }

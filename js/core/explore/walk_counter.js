@@ -2,8 +2,8 @@
 // much faster than watching the walk (walk_watcher.js), but cannot determine the memory of a property that depends on the times of events.
 
 import { isCall, isReturn } from "../engine/rom_codes.js";
-import { PlaceValues } from "./place_queries.js";
-import { updateDownInputs, changeLine } from "./walks.js";
+import { PlaceAnswers } from "./place_queries.js";
+import { updateDownInputs, formatChangeLine } from "./walks.js";
 
 /**
  * @typedef {import("./properties.js").Property} Property
@@ -14,12 +14,12 @@ import { updateDownInputs, changeLine } from "./walks.js";
 
 /** The memory of a `never for` property whose condition is false. */
 const FALSE_CONDITION_MEMORY = [-1];
-/** The forms of properties whose memory can be determined without watching, if they have no guards. */
+/** The forms of properties whose memory the counts and snapshots can determine, if the properties have no guards. */
 const COUNTABLE_FORMS = new Set(["code", "never", "always", "never for", "reach", "reach at", "model", "calls", "returns"]);
 
 /**
- * Returns whether snapshots and counts are sufficient to determine the memories of the open properties. A `never for` property needs
- * watching while its condition is true, because snapshots do not show how long a condition has been true.
+ * Returns whether snapshots and counts are sufficient to determine the memories of the open properties. Snapshots do not show how long a
+ * condition has been true. For a `never for` property, they are sufficient only while its condition is false.
  * @param {Property[]} properties
  * @param {number[]} openProperties the indices of the properties that are not decided yet
  * @param {boolean[][]} holds true if the condition is true after a step, by step and property
@@ -51,8 +51,8 @@ function updateMemory({ form }, memory, { kind }, openedCalls) {
  * @returns {StepState[]}
  */
 export function countWalk({ subject: { engine, codes }, campaign, coverage }, start, steps) {
-  const lines = steps.map((step) => `count ${step.wait}\nrun ${step.wait}\n${changeLine(campaign, step)}`).join("");
-  const values = new PlaceValues(engine.ask(start.file, lines).answers);
+  const lines = steps.map((step) => `count ${step.wait}\nrun ${step.wait}\n${formatChangeLine(campaign, step)}`).join("");
+  const values = new PlaceAnswers(engine.ask(start.file, lines).answers);
   let { time, downInputs, memories } = start;
   return steps.map((step) => {
     const counts = values.takeCountsIfAny();

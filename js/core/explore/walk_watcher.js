@@ -3,9 +3,9 @@
 
 import { instructionCycles, isCall, isReturn } from "../engine/rom_codes.js";
 import { parseTraceLine } from "../engine/forecast_answers.js";
-import { Conditions, PlaceQueries, PlaceValues, listConditions } from "./place_queries.js";
+import { Conditions, PlaceQueries, PlaceAnswers, listConditions } from "./place_queries.js";
 import { listAddresses } from "./properties.js";
-import { findChangedKey, updateDownInputs, changeLine } from "./walks.js";
+import { findChangedKey, updateDownInputs, formatChangeLine } from "./walks.js";
 
 /**
  * @typedef {import("./campaign.js").Campaign} Campaign
@@ -50,7 +50,7 @@ export class Watcher {
     /** @type {Set<number>} the addresses of the labels in the open properties */
     this.openLabels = new Set();
     /** True if the queries include `count`. */
-    this.asksCounts = coverage !== null || this.callProperties.length > 0 || campaign.properties.some(({ address }) => address >= 0);
+    this.queriesCounts = coverage !== null || this.callProperties.length > 0 || campaign.properties.some(({ address }) => address >= 0);
   }
 
   /**
@@ -87,7 +87,7 @@ export class Watcher {
   watchChange(start, step, openProperties) {
     const memories = start.memories.map((memory) => [...memory]);
     const walk = new Walk(this, memories, openProperties, start);
-    walk.values = new PlaceValues(this.subject.engine.ask(start.file, this.places.formatLines(1)).answers).takeChanges(this.places).values;
+    walk.values = new PlaceAnswers(this.subject.engine.ask(start.file, this.places.formatLines(1)).answers).takeChanges(this.places).values;
     walk.notifyInputChange(step);
     const violation = walk.firstViolation && { ...walk.firstViolation, step: 0 };
     return { violation, stepStates: [{ time: walk.time, downInputs: walk.downInputs, memories, isNew: false }] };
@@ -103,20 +103,20 @@ export class Watcher {
   queryReports(file, steps, openProperties) {
     const { campaign, places, subject: { engine } } = this;
     const lines = steps.map((step) => {
-      const countLine = this.asksCounts ? `count ${step.wait}\n` : "";
-      return `${places.formatLines(step.wait)}${countLine}run ${step.wait}\n${changeLine(campaign, step)}`;
+      const countLine = this.queriesCounts ? `count ${step.wait}\n` : "";
+      return `${places.formatLines(step.wait)}${countLine}run ${step.wait}\n${formatChangeLine(campaign, step)}`;
     }).join("");
-    const placeValues = new PlaceValues(engine.ask(file, lines).answers);
+    const placeAnswers = new PlaceAnswers(engine.ask(file, lines).answers);
     /** @type {StepReport[]} */
     const stepReports = [];
     for (const step of steps) {
-      const { values, changes } = placeValues.takeChanges(places);
-      const counts = this.asksCounts ? placeValues.takeCountsIfAny() : [];
-      stepReports.push({ values, changes, counts, runAnswer: placeValues.take(), list: null });
-      if (step.kind !== "none") placeValues.skip(1);
+      const { values, changes } = placeAnswers.takeChanges(places);
+      const counts = this.queriesCounts ? placeAnswers.takeCountsIfAny() : [];
+      stepReports.push({ values, changes, counts, runAnswer: placeAnswers.take(), list: null });
+      if (step.kind !== "none") placeAnswers.skip(1);
     }
-    const asksCalls = this.callProperties.some((at) => openProperties.includes(at));
-    this.addInstructionLists(file, steps, stepReports, stepReports.map((report) => this.needsInstructionList(report, asksCalls)));
+    const needsCalls = this.callProperties.some((at) => openProperties.includes(at));
+    this.addInstructionLists(file, steps, stepReports, stepReports.map((report) => this.needsInstructionList(report, needsCalls)));
     return stepReports;
   }
 
@@ -129,13 +129,13 @@ export class Watcher {
    */
   addInstructionLists(file, steps, stepReports, isListed) {
     if (!isListed.includes(true)) return;
-    const lastListed = isListed.lastIndexOf(true);
-    const lines = steps.slice(0, lastListed + 1).map((step, at) => (
-      `${isListed[at] ? `trace ${step.wait}\n` : ""}run ${step.wait}\n${changeLine(this.campaign, step)}`)).join("");
-    const placeValues = new PlaceValues(this.subject.engine.ask(file, lines).answers);
-    for (const [at, step] of steps.slice(0, lastListed + 1).entries()) {
-      if (isListed[at]) stepReports[at].list = placeValues.takeTrace().lines.map(parseTraceLine);
-      placeValues.skip(step.kind === "none" ? 1 : 2);
+    const lastListedIndex = isListed.lastIndexOf(true);
+    const lines = steps.slice(0, lastListedIndex + 1).map((step, at) => (
+      `${isListed[at] ? `trace ${step.wait}\n` : ""}run ${step.wait}\n${formatChangeLine(this.campaign, step)}`)).join("");
+    const placeAnswers = new PlaceAnswers(this.subject.engine.ask(file, lines).answers);
+    for (const [at, step] of steps.slice(0, lastListedIndex + 1).entries()) {
+      if (isListed[at]) stepReports[at].list = placeAnswers.takeTrace().lines.map(parseTraceLine);
+      placeAnswers.skip(step.kind === "none" ? 1 : 2);
     }
   }
 
@@ -144,16 +144,16 @@ export class Watcher {
    * is also necessary if a call or return does not change the return addresses, because the recorded changes then do not show this call or
    * return.
    * @param {StepReport} report
-   * @param {boolean} asksCalls true if an open property needs all calls and returns
+   * @param {boolean} needsCalls true if an open property needs all calls and returns
    */
-  needsInstructionList({ changes, counts }, asksCalls) {
+  needsInstructionList({ changes, counts }, needsCalls) {
     if (counts.some(({ address }) => this.openLabels.has(address))) return true;
-    if (!asksCalls) return false;
+    if (!needsCalls) return false;
     const { codes } = this.subject;
     /** @type {(address: number) => boolean} */
-    const changesCalls = (address) => isCall(codes[address]) || isReturn(codes[address]);
-    const recordedCount = new Set(changes.filter(({ address }) => changesCalls(address)).map(({ cycles }) => cycles)).size;
-    return recordedCount !== counts.reduce((sum, { address, startCount }) => sum + (changesCalls(address) ? startCount : 0), 0);
+    const isCallOrReturn = (address) => isCall(codes[address]) || isReturn(codes[address]);
+    const recordedCount = new Set(changes.filter(({ address }) => isCallOrReturn(address)).map(({ cycles }) => cycles)).size;
+    return recordedCount !== counts.reduce((sum, { address, startCount }) => sum + (isCallOrReturn(address) ? startCount : 0), 0);
   }
 }
 
@@ -192,8 +192,8 @@ class Walk {
       if (event === "label" && ownLabel !== address && start !== address) continue;
       const needsConditions = event === "values" || event === "label";
       const holds = needsConditions && conditions[at].holds(values);
-      const areOpen = needsConditions || event === "down" ? conditions[at].evaluateGuards(values) : NO_GUARDS;
-      const moment = { time, changeTime, address, holds, areOpen, input, downCount: this.downInputs.length, key };
+      const guardValues = needsConditions || event === "down" ? conditions[at].evaluateGuards(values) : NO_GUARDS;
+      const moment = { time, changeTime, address, holds, guardValues, input, downCount: this.downInputs.length, key };
       const violationTime = update(this.memories[at], event, moment);
       const isFirst = violationTime >= 0 && (!this.firstViolation || violationTime < this.firstViolation.time);
       if (isFirst && this.openProperties.includes(at)) this.firstViolation = { property: at, time: violationTime };
@@ -207,12 +207,12 @@ class Walk {
    */
   notifyStepEvents(report, step) {
     const startTime = this.time;
-    const end = Number(report.runAnswer.split(" ")[3]);
+    const runCycles = Number(report.runAnswer.split(" ")[3]);
     this.values = report.values;
     this.notify("values", startTime);
-    if (report.list) this.notifyListedInstructions(report, startTime, end);
-    else for (const change of report.changes) this.notifyChange(change, startTime, end, true);
-    this.time = startTime + end;
+    if (report.list) this.notifyListedInstructions(report, startTime, runCycles);
+    else for (const change of report.changes) this.notifyChange(change, startTime, runCycles, true);
+    this.time = startTime + runCycles;
     this.notify("end", this.time);
     this.notifyInvalidOpcode(report);
     if (!this.firstViolation) this.notifyInputChange(step);
@@ -223,21 +223,21 @@ class Walk {
    * Reports to the properties that an instruction changed values.
    * @param {Change} change
    * @param {number} startTime the time at which the step starts
-   * @param {number} end the length of the wait in cycles
+   * @param {number} runCycles the number of cycles that the step ran
    * @param {boolean} notifiesCalls true to report a call or return, too
    */
-  notifyChange({ cycles, address, from, values }, startTime, end, notifiesCalls) {
+  notifyChange({ cycles, address, from, values }, startTime, runCycles, notifiesCalls) {
     const { codes } = this.watcher.subject;
     if (this.firstViolation) return;
     this.values = from === 0 && values.length === this.values.length ? values
       : [...this.values.slice(0, from), ...values, ...this.values.slice(from + values.length)];
-    const time = startTime + Math.min(end, cycles + instructionCycles(codes[address]));
-    this.notify("values", time, { changeTime: startTime + Math.min(end, cycles + 1) });
+    const time = startTime + Math.min(runCycles, cycles + instructionCycles(codes[address]));
+    this.notify("values", time, { changeTime: startTime + Math.min(runCycles, cycles + 1) });
     if (notifiesCalls) this.notifyCall(address, time);
   }
 
   /**
-   * Reports a call or return, if the instruction at an address is one.
+   * If the instruction at an address is a call or a return, reports the call or the return.
    * @param {number} address
    * @param {number} time
    */
@@ -248,24 +248,24 @@ class Walk {
   }
 
   /**
-   * Reports the events of a step whose executed instructions are known. The program counter reaches an instruction before the instruction
-   * changes anything.
+   * Reports the events of a step whose executed instructions are known. Reports the arrival at a label before the changes that its
+   * instruction makes.
    * @param {StepReport} report
    * @param {number} startTime
-   * @param {number} end
+   * @param {number} runCycles
    */
-  notifyListedInstructions({ list, changes }, startTime, end) {
+  notifyListedInstructions({ list, changes }, startTime, runCycles) {
     const { openLabels: labels, subject: { codes } } = this.watcher;
     let changeIndex = 0;
     for (const { cycles, address } of list || []) {
       if (this.firstViolation) return;
       if (labels.has(address)) this.notify("label", startTime + cycles, { address });
       for (; changeIndex < changes.length && changes[changeIndex].cycles <= cycles; changeIndex++) {
-        this.notifyChange(changes[changeIndex], startTime, end, false);
+        this.notifyChange(changes[changeIndex], startTime, runCycles, false);
       }
-      this.notifyCall(address, startTime + Math.min(end, cycles + instructionCycles(codes[address])));
+      this.notifyCall(address, startTime + Math.min(runCycles, cycles + instructionCycles(codes[address])));
     }
-    for (; changeIndex < changes.length; changeIndex++) this.notifyChange(changes[changeIndex], startTime, end, false);
+    for (; changeIndex < changes.length; changeIndex++) this.notifyChange(changes[changeIndex], startTime, runCycles, false);
   }
 
   /**
@@ -297,4 +297,4 @@ class Walk {
 
 /** @type {boolean[]} the values of the guard conditions of a property without guards */
 const NO_GUARDS = [];
-const EMPTY_MOMENT = { time: 0, changeTime: 0, address: -1, holds: false, areOpen: NO_GUARDS, input: "", downCount: 0, key: -1 };
+const EMPTY_MOMENT = { time: 0, changeTime: 0, address: -1, holds: false, guardValues: NO_GUARDS, input: "", downCount: 0, key: -1 };

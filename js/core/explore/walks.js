@@ -1,6 +1,6 @@
 // Creates and checks walks. A walk is a sequence of steps; a step is a wait, followed by a change of an input or a power cycle.
 
-import { runLines } from "../engine/key_queue.js";
+import { formatRunLines } from "../engine/key_queue.js";
 
 /**
  * @typedef {import("./campaign.js").Campaign} Campaign
@@ -184,7 +184,7 @@ export function findLongestWaitAfter(campaign, steps) {
  * @param {Pick<Campaign, "inputs">} campaign
  * @param {WalkStep} step
  */
-export function changeLine({ inputs }, { kind, input }) {
+export function formatChangeLine({ inputs }, { kind, input }) {
   if (kind === "none") return "";
   return kind === "reset" ? "reset\n" : `${kind === "down" ? inputs[input].downLine : inputs[input].upLine}\n`;
 }
@@ -194,6 +194,6 @@ export function changeLine({ inputs }, { kind, input }) {
  * @param {Campaign} campaign
  * @param {WalkStep[]} steps
  */
-export function walkLines(campaign, steps) {
-  return steps.map((step) => runLines(step.wait) + changeLine(campaign, step)).join("");
+export function formatWalkLines(campaign, steps) {
+  return steps.map((step) => formatRunLines(step.wait) + formatChangeLine(campaign, step)).join("");
 }

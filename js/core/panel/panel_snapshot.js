@@ -159,6 +159,6 @@ export class PanelSnapshot {
   /** The state of the displays and named lamps as text. */
   get display() {
     const { displayText } = this.perceivedText;
-    return joinDisplayText(this.brightness ? this.perceivedText.readBrightness(this.brightness) : displayText.read(this.marks));
+    return joinDisplayText(this.brightness ? this.perceivedText.readAtBrightness(this.brightness) : displayText.read(this.marks));
   }
 }

@@ -7,7 +7,7 @@ import { formatViolationLines, formatTest } from "../explore/counterexample_test
 import { listAddresses } from "../explore/properties.js";
 import { Minimiser } from "../explore/minimiser.js";
 import { Watcher } from "../explore/walk_watcher.js";
-import { initialDownInputs, areStepsAllowed, walkLines } from "../explore/walks.js";
+import { initialDownInputs, areStepsAllowed, formatWalkLines } from "../explore/walks.js";
 import { countCyclesToMistake } from "./mistakes.js";
 import { listInputs, replayReads } from "./input_replay.js";
 
@@ -205,7 +205,7 @@ class Replay {
         : watcher.watchChange(start, step, [0]);
       if (violation) return violation.time;
       if (!stepState) return -1;
-      engine.serve(start.file, walkLines(freeCampaign, [step]), start.file);
+      engine.serve(start.file, formatWalkLines(freeCampaign, [step]), start.file);
       start = { ...stepState, file: start.file };
     }
     return -1;

@@ -8,10 +8,10 @@ import { ADDRESS_COUNT } from "../bench/rom_bytes.js";
 import { parsePorts, parseState } from "../bench/state_line.js";
 import { isSameKey, keyLine, matrixKey, pinKey } from "../board/key_place.js";
 import { MAX_ENABLED_BREAKPOINTS } from "../debug/breakpoints.js";
-import { MAX_RUN_CYCLES, runLines } from "../engine/key_queue.js";
+import { MAX_RUN_CYCLES, formatRunLines } from "../engine/key_queue.js";
 import { RDR } from "../engine/rom_codes.js";
 import { createInput, createTestInput, listKeyInputs } from "../explore/search_inputs.js";
-import { changeLine } from "../explore/walks.js";
+import { formatChangeLine } from "../explore/walks.js";
 import { createSteps, findLatestMoments } from "./change_moments.js";
 import { DEFAULT_PAUSE } from "./question.js";
 
@@ -338,7 +338,7 @@ function scheduleChanges(levelSteps, inputs, { minWait, maxPressTime }) {
  */
 function runSteps(subject, inputs, steps) {
   const file = subject.file.slice();
-  for (const step of steps) subject.engine.serve(file, runLines(step.wait) + changeLine({ inputs }, step), file);
+  for (const step of steps) subject.engine.serve(file, formatRunLines(step.wait) + formatChangeLine({ inputs }, step), file);
   return file;
 }
 

@@ -1,4 +1,4 @@
-// Handlers for an editor's requests about a board text. They use the same modules as the page's editor.
+// Handlers for an editor's requests about a board text. The page's editor uses the same modules.
 
 import { Face } from "../board/face.js";
 import { TextErrorFinder, findFrontPanelErrors } from "../text/text_error_finder.js";
@@ -21,7 +21,7 @@ import * as say from "../../words/server.js";
  * @typedef {import("./token_codes.js").ColouredWord} ColouredWord
  */
 
-/** The protocol's kinds for the symbols and the completions of a board. */
+/** The protocol's numbers for the kinds of a board's symbols and completions. */
 const OBJECT_SYMBOL = 19;
 const PROPERTY_COMPLETION = 10;
 
@@ -74,23 +74,23 @@ export class BoardLanguage {
   definition({ text }, { line, character }) {
     const references = new BoardReferences(text);
     const value = references.valueAt(line + 1, character);
-    const part = value && references.findPart(value);
-    return part ? rangeInLine(part.line, part.from, part.to) : null;
+    const entry = value && references.findReferencedEntry(value);
+    return entry ? rangeInLine(entry.line, entry.from, entry.to) : null;
   }
 
   /**
    * Returns the ranges of all values that refer to the chip or chain at a position.
    * @param {OpenText} openText
    * @param {Position} position
-   * @param {boolean} withDefinition true to include the definition of the chip or chain
+   * @param {boolean} includesDefinition true to include the definition of the chip or chain
    */
-  references({ text }, { line, character }, withDefinition) {
+  references({ text }, { line, character }, includesDefinition) {
     const references = new BoardReferences(text);
     const value = references.valueAt(line + 1, character);
-    const part = (value && references.findPart(value)) || references.findPartAtLine(line + 1);
-    if (!part) return [];
-    const matchingValues = references.values.filter((candidate) => references.findPart(candidate) === part);
-    return [...(withDefinition ? [part] : []), ...matchingValues].map((target) => rangeInLine(target.line, target.from, target.to));
+    const entry = (value && references.findReferencedEntry(value)) || references.findEntryAtLine(line + 1);
+    if (!entry) return [];
+    const matchingValues = references.values.filter((candidate) => references.findReferencedEntry(candidate) === entry);
+    return [...(includesDefinition ? [entry] : []), ...matchingValues].map((target) => rangeInLine(target.line, target.from, target.to));
   }
 
   /**
@@ -108,9 +108,9 @@ export class BoardLanguage {
    * @param {string} trigger the typed character that triggered the request, "" for none
    */
   completion({ lines }, { line, character }, trigger) {
-    // The editor also sends a request when the user types a blank. Then the answer is empty, unless a value starts after the blank.
-    const lineStart = lines[line].slice(Math.max(0, character - 9), character);
-    if (trigger === " " && !/=[ \t]*$/.test(lineStart)) return { from: character, to: character, list: [] };
+    // The editor also requests completions when the user types a blank. Returns an empty list then, unless a value starts after the blank.
+    const textBefore = lines[line].slice(Math.max(0, character - 9), character);
+    if (trigger === " " && !/=[ \t]*$/.test(textBefore)) return { from: character, to: character, list: [] };
     const boardCompletion = completeBoard(lines, line, character, this.tables);
     return { ...boardCompletion, list: boardCompletion.list.map((item) => ({ ...item, kind: PROPERTY_COMPLETION })) };
   }
@@ -120,14 +120,14 @@ export class BoardLanguage {
    * @param {OpenText} openText
    */
   symbols({ lines, text }) {
-    const { entries, lamps, partName } = new BoardReferences(text);
+    const { entries, lamps, entryName } = new BoardReferences(text);
     const face = new Face(text);
     return entries.map((entry) => {
       const faceText = face.lamps.get(lamps.indexOf(entry));
       const lastLine = entry.keys.reduce((maxLine, { line, value }) => Math.max(maxLine, line, value.line), entry.line);
       const range = { start: rangeInLine(entry.line, entry.from, 0).start, end: rangeInLine(lastLine, 0, lines[lastLine - 1].length).end };
       const selectionRange = rangeInLine(entry.line, entry.from, entry.to);
-      return { name: partName(entry), kind: OBJECT_SYMBOL, detail: faceText ? faceText.text : "", range, selectionRange };
+      return { name: entryName(entry), kind: OBJECT_SYMBOL, detail: faceText ? faceText.text : "", range, selectionRange };
     });
   }
 
@@ -145,9 +145,9 @@ export class BoardLanguage {
       if (kind !== "bare" && kind !== "string") return [];
       const previousWord = tokens[index - 1] ? tokens[index - 1].text : "";
       const isHeader = headers.has(line) && previousWord === "[" && /^\s*\[/.test(lines[line - 1]);
-      const isKey = tokens[index + 1] && tokens[index + 1].text === "=" && tokens[index + 1].kind === "punctuation";
+      const isTomlKey = tokens[index + 1] && tokens[index + 1].text === "=" && tokens[index + 1].kind === "punctuation";
       const valueType = kind === "string" ? "string" : /^[+-]?\d/.test(word) ? "number" : "";
-      const type = isHeader ? "class" : isKey ? "property" : valueType;
+      const type = isHeader ? "class" : isTomlKey ? "property" : valueType;
       return type ? [{ line: line - 1, from, to, type }] : [];
     })];
   }

@@ -34,24 +34,24 @@ export class BoardReferences {
     this.lamps = entries.filter(({ table }) => table === "lamp");
     /** @type {KeyedValue[]} */
     this.values = entries.flatMap((entry) => entry.keys.flatMap(({ name, value }) => {
-      const inner = Array.isArray(value.inner) ? value.inner : [value];
-      return inner.map((element) => ({ ...element, key: name, entry }));
+      const innerValues = Array.isArray(value.inner) ? value.inner : [value];
+      return innerValues.map((element) => ({ ...element, key: name, entry }));
     }));
     /** @type {Map<Entry, number>} the index of each table among tables with the same name */
     this.tableIndices = new Map();
     /** @type {Map<string, Entry>} the first table of each chip, by chip name (`rom 3`, `ram 0`) */
     this.chips = new Map();
     /** @type {Map<string, number>} the number of tables so far, by table name */
-    const counts = new Map();
+    const tableCounts = new Map();
     for (const entry of entries) {
       const { table } = entry;
-      const index = counts.get(table) || 0;
-      const chip = `${table} ${getKeyValue(entry, NUMBER_KEYS[table])}`;
+      const index = tableCounts.get(table) || 0;
+      const chipName = `${table} ${getKeyValue(entry, NUMBER_KEYS[table])}`;
       this.tableIndices.set(entry, index);
-      counts.set(table, index + 1);
-      if (!this.chips.has(chip)) this.chips.set(chip, entry);
+      tableCounts.set(table, index + 1);
+      if (!this.chips.has(chipName)) this.chips.set(chipName, entry);
     }
-    this.partName = this.partName.bind(this);
+    this.entryName = this.entryName.bind(this);
   }
 
   /**
@@ -68,7 +68,7 @@ export class BoardReferences {
    * @param {KeyedValue} value
    * @returns {Entry | null}
    */
-  findPart({ inner, key, entry }) {
+  findReferencedEntry({ inner, key, entry }) {
     if (entry.table === "[keys]" && key === "chain") return this.chains[Number(inner)] || null;
     const match = LINE_NAME.exec(String(inner));
     if (!match || key === "port") return null;
@@ -81,7 +81,7 @@ export class BoardReferences {
    * Returns the table of a chip or chain that contains a line; null if there is none.
    * @param {number} line the line number from 1
    */
-  findPartAtLine(line) {
+  findEntryAtLine(line) {
     const contains = (/** @type {Entry} */ entry) => line >= entry.line && entry.keys.some((key) => line <= key.line);
     return this.entries.filter((entry) => ["rom", "ram", "chain"].includes(entry.table) && contains(entry)).pop() || null;
   }
@@ -90,7 +90,7 @@ export class BoardReferences {
    * Returns the name of a table with its number, such as `rom 3`, `ram bank 0` or `lamp 0`.
    * @param {Entry} entry
    */
-  partName(entry) {
+  entryName(entry) {
     const kind = entry.table.replace(/[[\]]/g, "");
     const number = NUMBER_KEYS[kind] && getKeyValue(entry, NUMBER_KEYS[kind]);
     if (number !== undefined) return `${kind} ${kind === "ram" ? "bank " : ""}${number}`;
@@ -108,13 +108,13 @@ export class BoardReferences {
     const match = LINE_NAME.exec(String(value.inner));
     if (!match || value.key === "port") return "";
     const [name, kind, first, second, third] = match;
-    const lineText = kind === "rom" ? say.lineOfRom(second, first)
+    const lineDescription = kind === "rom" ? say.lineOfRom(second, first)
       : kind === "chain" ? say.bitOfChain(second, first)
         : say.lineOfRam(third, second, first);
     const lamp = this.lamps.indexOf(value.entry);
     const faceText = face.lamps.get(lamp);
     const lampText = lamp < 0 ? "" : `, lamp ${lamp}${faceText ? ` (${faceText.text})` : ""}`;
-    const part = this.findPart(value);
-    return `${name}: ${lineText}${lampText}${part ? say.definitionSuffix(kind === "chain", part.line) : ""}.`;
+    const entry = this.findReferencedEntry(value);
+    return `${name}: ${lineDescription}${lampText}${entry ? say.definitionSuffix(kind === "chain", entry.line) : ""}.`;
   }
 }

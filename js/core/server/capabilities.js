@@ -44,7 +44,7 @@ function toList(value) {
  * @param {any} params
  * @returns {Client}
  */
-export function readClient(params) {
+export function readClientCapabilities(params) {
   const capabilities = getField(params, "capabilities");
   const folders = toList(getField(params, "workspaceFolders")).map((folder) => getField(folder, "uri"));
   return {

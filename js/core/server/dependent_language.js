@@ -25,7 +25,7 @@ import * as say from "../../words/server.js";
  * @typedef {{ board: NamedText, program: NamedText, tests: NamedText[] }} DependencyTexts
  */
 
-/** The protocol's completion kinds for keywords and for values. */
+/** The protocol's numbers for the completion kinds `Keyword` and `Value`. */
 const KEYWORD_COMPLETION = 14;
 const VALUE_COMPLETION = 12;
 
@@ -77,9 +77,10 @@ export class DependentLanguage {
    * @param {Texts} texts
    */
   prepareTexts(texts) {
-    const lastCall = this.lastPrepared;
-    const isKnown = lastCall && lastCall.texts.boardText === texts.boardText && lastCall.texts.programText === texts.programText;
-    if (!this.lastPrepared || !isKnown) this.lastPrepared = { texts, prepared: prepareTests(this.engine, texts) };
+    const { lastPrepared } = this;
+    const isUnchanged = lastPrepared
+      && lastPrepared.texts.boardText === texts.boardText && lastPrepared.texts.programText === texts.programText;
+    if (!this.lastPrepared || !isUnchanged) this.lastPrepared = { texts, prepared: prepareTests(this.engine, texts) };
     return this.lastPrepared.prepared;
   }
 

@@ -52,7 +52,7 @@ export function toDiagnostics(errors, isComplete) {
  * @param {import("./open_text.js").OpenText} openText
  * @returns {TextError | null}
  */
-export function lengthError({ lines, length }) {
+export function findLengthError({ lines, length }) {
   if (length <= MAX_STORED_LENGTH) return null;
   let [line, lengthBefore] = [0, 0];
   for (; lengthBefore + lines[line].length < MAX_STORED_LENGTH; line++) lengthBefore += lines[line].length + 1;
@@ -68,9 +68,9 @@ export function lengthError({ lines, length }) {
  */
 function touchesRange({ line, from, to }, { start, end }) {
   const lineIndex = line - 1;
-  const beginsBefore = lineIndex < end.line || (lineIndex === end.line && from <= end.character);
+  const startsBefore = lineIndex < end.line || (lineIndex === end.line && from <= end.character);
   const endsAfter = lineIndex > start.line || (lineIndex === start.line && to >= start.character);
-  return beginsBefore && endsAfter;
+  return startsBefore && endsAfter;
 }
 
 /**
@@ -81,12 +81,12 @@ function touchesRange({ line, from, to }, { start, end }) {
  */
 export function createQuickFixes(uri, errors, range) {
   return errors.filter((error) => touchesRange(error, range)).flatMap((error) => {
-    const texts = error.quickFixTexts || [];
-    return texts.map((newText) => ({
+    const replacements = error.quickFixTexts || [];
+    return replacements.map((newText) => ({
       title: say.quickFixTitle(newText),
       kind: "quickfix",
       diagnostics: [toDiagnostic(error)],
-      isPreferred: texts.length === 1,
+      isPreferred: replacements.length === 1,
       edit: { changes: { [uri]: [{ range: rangeInLine(error.line, error.from, error.to), newText }] } },
     }));
   });

@@ -43,7 +43,7 @@
  * @property {(openText: OpenText, position: Position) => Hover | null} [hover]
  * @property {(openText: OpenText, position: Position) => Range | Location | null} [definition] returns a Range if the
  *   target is in the same text
- * @property {(openText: OpenText, position: Position, withDefinition: boolean) => Range[]} [references]
+ * @property {(openText: OpenText, position: Position, includesDefinition: boolean) => Range[]} [references]
  * @property {(openText: OpenText, position: Position) => { range: Range, placeholder: string } | null} [renameTarget]
  * @property {(openText: OpenText, position: Position, newName: string) => TextEdit[]} [rename]
  * @property {(openText: OpenText, position: Position, trigger: string) => Omit<Completion, "list">

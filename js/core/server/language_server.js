@@ -4,8 +4,8 @@
 import { readBoardTables } from "../text/text_help.js";
 import { ErrorMessages } from "../bench/error_messages.js";
 import { BoardLanguage } from "./board_language.js";
-import { readClient } from "./capabilities.js";
-import { toDiagnostics, lengthError } from "./diagnostics.js";
+import { readClientCapabilities } from "./capabilities.js";
+import { toDiagnostics, findLengthError } from "./diagnostics.js";
 import { getField } from "./framing.js";
 import {
   NON_BOARD_FILES, findBoard, findDependencies, findProject, findProjectInFolder, isBoard, isProgram, isProjectFile, isPropertyFile,
@@ -64,7 +64,7 @@ export class LanguageServer {
     this.project = new ProjectLanguage(readText);
     this.testRuns = new TestRuns(engine, refusalMessage, dependenciesOf, host.pause);
     /** @type {Client} the client; it has no capabilities before `initialize` */
-    this.client = readClient({});
+    this.client = readClientCapabilities({});
     connection.handlers = { requests: new Requests(this).createHandlers(), notifications: this.createNotificationHandlers() };
   }
 
@@ -111,7 +111,7 @@ export class LanguageServer {
    * @returns {Language | null}
    */
   findLanguage(openText) {
-    if (lengthError(openText)) return null;
+    if (findLengthError(openText)) return null;
     if (isProjectFile(openText.uri)) return this.project;
     if (isBoard(openText)) return this.board;
     if (isTestFile(openText)) return this.tests;
@@ -126,8 +126,8 @@ export class LanguageServer {
    */
   findDependencies(uri) {
     const { folder, board, program, tests } = findDependencies(uri, (fileUri, projectFolder) => this.readText(fileUri, projectFolder));
-    const namedText = (/** @type {string} */ fileUri) => ({ uri: fileUri, text: this.readText(fileUri, folder) });
-    return { board: namedText(board), program: namedText(program), tests: tests.map(namedText) };
+    const readNamedText = (/** @type {string} */ fileUri) => ({ uri: fileUri, text: this.readText(fileUri, folder) });
+    return { board: readNamedText(board), program: readNamedText(program), tests: tests.map(readNamedText) };
   }
 
   /**
@@ -300,7 +300,7 @@ export class LanguageServer {
    * @param {() => boolean} isWanted returns false if the result is no longer needed
    */
   async findErrors(openText, isWanted) {
-    const tooLongError = lengthError(openText);
+    const tooLongError = findLengthError(openText);
     const isKnown = isProgram(openText) || isBoard(openText) || isTestFile(openText) || isPropertyFile(openText);
     if (tooLongError) return { errors: isKnown ? [tooLongError] : [], isComplete: true };
     const language = this.findLanguage(openText);

@@ -44,8 +44,8 @@ export class OpenText {
    * @returns {Position}
    */
   clampPosition({ line, character }) {
-    const last = this.lines.length - 1;
-    if (line > last) return { line: last, character: this.lines[last].length };
+    const lastLine = this.lines.length - 1;
+    if (line > lastLine) return { line: lastLine, character: this.lines[lastLine].length };
     return { line, character: Math.min(character, this.lines[line].length) };
   }
 

@@ -15,7 +15,10 @@ import { describeDirective, describeInstruction, describeRegister } from "../tex
  *   meaningOf: (name: string) => string }} CompletionContext
  */
 
-/** The protocol's completion kinds for labels, registers, keywords, constants and JCN conditions. */
+/**
+ * The protocol's numbers for the completion kinds `Function` (labels), `Variable` (registers), `Keyword`, `Constant` and `Value` (JCN
+ * conditions).
+ */
 const FUNCTION_COMPLETION = 3;
 const VARIABLE_COMPLETION = 6;
 const KEYWORD_COMPLETION = 14;

@@ -84,14 +84,14 @@ export function createProgramHover(lines, { line, character }, context) {
   const helpText = helpForProgram(lines, line, character, context.instructions, context.meaningOf);
   const word = wordAt(text, character);
   const condition = word ? describeCondition(text, word, context) : "";
-  const lineText = context.describeLine(line + 1);
+  const lineDescription = context.describeLine(line + 1);
   const instruction = word && context.instructions.get(word.text.toUpperCase());
   const comment = word && !instruction ? findNameComment(lines, word.text) : [];
   const markdown = [
     instruction ? formatInstructionTable(instruction) : escapeMarkdown(helpText), escapeMarkdown(condition),
-    comment.length > 0 ? formatBlock(comment) : "", escapeMarkdown(lineText),
+    comment.length > 0 ? formatBlock(comment) : "", escapeMarkdown(lineDescription),
   ].filter((paragraph) => paragraph !== "").join("\n\n");
   const range = word && (helpText !== "" || condition !== "") ? { range: rangeInLine(line + 1, word.from, word.to) } : {};
-  const plainTexts = [helpText, condition, comment.join("\n"), lineText].filter((plainText) => plainText !== "");
+  const plainTexts = [helpText, condition, comment.join("\n"), lineDescription].filter((plainText) => plainText !== "");
   return plainTexts.length === 0 ? null : { plainText: plainTexts.join("\n\n"), markdown, ...range };
 }

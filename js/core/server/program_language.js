@@ -1,4 +1,4 @@
-// Handlers for an editor's requests about a program. They use the same modules as the page's editor.
+// Handlers for an editor's requests about a program. The page's editor uses the same modules.
 
 import { hex } from "../bench/numbers.js";
 import { readJcnConditions, readInstructions } from "../help/manual.js";
@@ -138,11 +138,11 @@ export class ProgramLanguage {
   describeLine(text, line, { map, bytes }) {
     const address = map.addressOf(line);
     if (address === undefined) return "";
-    const codes = [...bytes().subarray(address, address + map.sizes[line])].map((byte) => hex(byte, 2)).join(" ");
+    const hexBytes = [...bytes().subarray(address, address + map.sizes[line])].map((byte) => hex(byte, 2)).join(" ");
     const { head } = splitStatement(text);
     const instruction = head && this.instructions.get(head.text.toUpperCase());
     const cycles = instruction ? say.cyclesSuffix(instruction.cycles) : "";
-    return say.describeProgramLine(line, hex(address, 3), codes, cycles);
+    return say.describeProgramLine(line, hex(address, 3), hexBytes, cycles);
   }
 
   /**
@@ -160,12 +160,12 @@ export class ProgramLanguage {
    * Returns the ranges of all references to the name at a position.
    * @param {OpenText} openText
    * @param {Position} position
-   * @param {boolean} withDefinition true to include the definition of the name
+   * @param {boolean} includesDefinition true to include the definition of the name
    */
-  references({ lines }, { line, character }, withDefinition) {
+  references({ lines }, { line, character }, includesDefinition) {
     const name = nameAt(lines, line, character);
     const nameReferences = name === "" ? [] : findReferences(lines, name);
-    return nameReferences.filter(({ isDefinition }) => withDefinition || !isDefinition)
+    return nameReferences.filter(({ isDefinition }) => includesDefinition || !isDefinition)
       .map((reference) => rangeInLine(reference.line, reference.from, reference.to));
   }
 

@@ -33,30 +33,30 @@ export class ProjectLanguage {
    * Returns the files that a project names; an empty list if the project file has errors.
    * @param {OpenText} openText
    */
-  namedFiles({ text }) {
+  listProjectFiles({ text }) {
     const { names } = readProject(text);
     return names ? listNamedFiles(names) : [];
   }
 
   /**
-   * Returns the named files as symbols.
+   * Returns the files that a project names, as symbols.
    * @param {OpenText} openText
    */
   symbols(openText) {
-    return this.namedFiles(openText).map(({ path, key, line, from, to }) => {
+    return this.listProjectFiles(openText).map(({ path, key, line, from, to }) => {
       const range = rangeInLine(line, from, to);
       return { name: path, kind: FILE_SYMBOL, detail: key, range, selectionRange: range };
     });
   }
 
   /**
-   * Returns links to the named files that exist and are inside the folder.
+   * Returns links to the files that the project names, if they exist and are inside the folder of the project.
    * @param {OpenText} openText
    * @returns {DocumentLink[]}
    */
   links(openText) {
     const folder = parentFolder(openText.uri);
-    const existingFiles = this.namedFiles(openText).filter(({ path }) => this.readText(uriInFolder(folder, path), folder) !== null);
+    const existingFiles = this.listProjectFiles(openText).filter(({ path }) => this.readText(uriInFolder(folder, path), folder) !== null);
     return existingFiles.map(({ path, line, from, to }) => (
       { range: rangeInLine(line, from, to), target: uriInFolder(folder, path), tooltip: path }));
   }

@@ -8,7 +8,7 @@ import { completeProperty, helpForProperty, readPropertyForms } from "../text/pr
 import { DependentLanguage, locateError } from "./dependent_language.js";
 import { parentFolder, uriInFolder } from "./text_kinds.js";
 import { rangeInLine } from "./lsp_protocol.js";
-import { colouredWords } from "./token_codes.js";
+import { listColouredWords } from "./token_codes.js";
 
 /**
  * @typedef {import("./language.js").DocumentLink} DocumentLink
@@ -21,8 +21,8 @@ const PROPERTY_SYMBOL = 7;
 /** Matches a line that is shown as a symbol: a property, a goal (`reach`), or a model. */
 const PROPERTY_LINE = /^(never|always|at|after|every|no|reach|model|while|once|@\S+|.*\bonly after)\b/;
 /**
- * Matches a line `from STATE of FILE`, with which the search starts at a state that a test saves. Captures the text before the file name,
- * and the file name.
+ * Matches a line `from STATE of FILE`: the search starts at a state that a test in another file saves. Captures the text before the file
+ * name, and the file name.
  */
 const STATE_OF_FILE = /^([ \t]*from[ \t]+\S+[ \t]+of[ \t]+)(\S.*)$/;
 
@@ -50,7 +50,7 @@ export class PropertyLanguage extends DependentLanguage {
     const dependencyError = this.findDependencyError(dependencies);
     if (dependencyError) return { errors: [dependencyError], isComplete: true };
     if (text.trim() === "") return { errors: [], isComplete: true };
-    const { errors } = readCampaign(text, this.subject(dependencies.board.text || "", dependencies.program.text || ""));
+    const { errors } = readCampaign(text, this.getSubject(dependencies.board.text || "", dependencies.program.text || ""));
     return { errors: errors.map((error) => locateError(lines, error)), isComplete: true };
   }
 
@@ -60,7 +60,7 @@ export class PropertyLanguage extends DependentLanguage {
    * @param {string} boardText
    * @param {string} programText
    */
-  subject(boardText, programText) {
+  getSubject(boardText, programText) {
     if (!this.lastSubject || this.lastSubject.boardText !== boardText || this.lastSubject.programText !== programText) {
       this.lastSubject = { boardText, programText, subject: createSubject(this.engine, boardText, programText) };
     }
@@ -113,7 +113,7 @@ export class PropertyLanguage extends DependentLanguage {
    * @param {OpenText} openText
    */
   semanticTokens({ lines }) {
-    return colouredWords(lines, LINE_COLOURERS.properties);
+    return listColouredWords(lines, LINE_COLOURERS.properties);
   }
 
   /**

@@ -1,7 +1,7 @@
 // Defines the handlers of all requests. A handler checks the parameters, calls the object that handles the kind of text (its `Language`,
 // language.js), and converts the result to the protocol's format.
 
-import { listCapabilities, readClient, RUN_TEST } from "./capabilities.js";
+import { listCapabilities, readClientCapabilities, RUN_TEST } from "./capabilities.js";
 import { toCodeLens } from "./code_lens.js";
 import { createQuickFixes } from "./diagnostics.js";
 import { findFolds } from "./folding_ranges.js";
@@ -33,8 +33,8 @@ const MAX_TAB_SIZE = 16;
  */
 function readFormattingOptions(options) {
   const tabSize = getField(options, "tabSize");
-  const isSize = Number.isInteger(tabSize) && tabSize >= 1 && tabSize <= MAX_TAB_SIZE;
-  return { tabSize: isSize ? tabSize : 8, insertSpaces: getField(options, "insertSpaces") !== false };
+  const isValidSize = Number.isInteger(tabSize) && tabSize >= 1 && tabSize <= MAX_TAB_SIZE;
+  return { tabSize: isValidSize ? tabSize : 8, insertSpaces: getField(options, "insertSpaces") !== false };
 }
 
 /**
@@ -80,7 +80,7 @@ export class Requests {
    * @param {any} params
    */
   initialize(params) {
-    this.server.client = readClient(params);
+    this.server.client = readClientCapabilities(params);
     return { capabilities: listCapabilities(this.server.client), serverInfo: { name: "mcs4 lsp" } };
   }
 
@@ -99,13 +99,13 @@ export class Requests {
   // --- requests about a text
 
   /**
-   * Calls a function with the text that a request names, and with the language (language.js) of this text.
+   * Calls a function with two arguments: the language (language.js) and the text that a request names.
    * @template Result
    * @param {any} params
    * @param {(language: Language, openText: OpenText) => Result} callback
    * @returns {Result | null} null for a text in an unknown language
    */
-  callWithLanguage(params, callback) {
+  applyToText(params, callback) {
     const { openText } = this.server.getRequestedText(params);
     const language = this.server.findLanguage(openText);
     return language && callback(language, openText);
@@ -114,16 +114,16 @@ export class Requests {
   /** @returns {Record<string, RequestHandler>} */
   createTextHandlers() {
     return {
-      "textDocument/documentSymbol": (params) => this.callWithLanguage(params, (language, openText) => (
+      "textDocument/documentSymbol": (params) => this.applyToText(params, (language, openText) => (
         language.symbols ? language.symbols(openText) : [])),
       "textDocument/codeAction": (params) => this.codeAction(params),
-      "textDocument/codeLens": (params) => this.callWithLanguage(params, (language, openText) => (
+      "textDocument/codeLens": (params) => this.applyToText(params, (language, openText) => (
         (language.lenses ? language.lenses(openText) : []).map((lens) => toCodeLens(lens, openText.uri, this.server.client.commands)))),
       "textDocument/formatting": (params) => this.format(params, WHOLE_TEXT_RANGE),
       "textDocument/rangeFormatting": (params) => this.format(params, requireRange(getField(params, "range"))),
-      "textDocument/documentLink": (params) => this.callWithLanguage(params, (language, openText) => (
+      "textDocument/documentLink": (params) => this.applyToText(params, (language, openText) => (
         language.links ? language.links(openText) : [])),
-      "textDocument/foldingRange": (params) => this.callWithLanguage(params, (language, openText) => (
+      "textDocument/foldingRange": (params) => this.applyToText(params, (language, openText) => (
         findFolds(openText.lines, language.foldPatterns))),
       "textDocument/inlayHint": (params) => this.hints(params),
       "textDocument/semanticTokens/full": (params) => this.serveSemanticTokens(params, (openText, words) => (
@@ -143,7 +143,7 @@ export class Requests {
    *   to colour
    */
   serveSemanticTokens(params, callback) {
-    return this.callWithLanguage(params, (language, openText) => (
+    return this.applyToText(params, (language, openText) => (
       callback(openText, language.semanticTokens ? language.semanticTokens(openText) : [])));
   }
 
@@ -154,7 +154,7 @@ export class Requests {
    */
   format(params, range) {
     const layout = readFormattingOptions(getField(params, "options"));
-    return this.callWithLanguage(params, (language, openText) => (language.format ? language.format(openText, range, layout) : null));
+    return this.applyToText(params, (language, openText) => (language.format ? language.format(openText, range, layout) : null));
   }
 
   /**
@@ -163,7 +163,7 @@ export class Requests {
    */
   hints(params) {
     const range = requireRange(getField(params, "range"));
-    return this.callWithLanguage(params, (language, openText) => (language.hints ? language.hints(openText, range) : []));
+    return this.applyToText(params, (language, openText) => (language.hints ? language.hints(openText, range) : []));
   }
 
   /**
@@ -192,33 +192,33 @@ export class Requests {
   // --- requests about a position in a text
 
   /**
-   * Calls a function with the position that a request names, with the text and its language. Returns the function's result; null for a text
-   * in an unknown language.
+   * Calls a function with three arguments: the language, the text and the position in a request. Returns the function's result; null for a
+   * text in an unknown language.
    * @template Result
    * @param {any} params
    * @param {(language: Language, openText: OpenText, position: Position) => Result} callback
    */
-  callAtPosition(params, callback) {
+  applyAtPosition(params, callback) {
     const position = requirePosition(getField(params, "position"));
-    return this.callWithLanguage(params, (language, openText) => callback(language, openText, openText.clampPosition(position)));
+    return this.applyToText(params, (language, openText) => callback(language, openText, openText.clampPosition(position)));
   }
 
   /** @returns {Record<string, RequestHandler>} */
   createPositionHandlers() {
     return {
       "textDocument/hover": (params) => this.hover(params),
-      "textDocument/definition": (params) => this.callAtPosition(params, (language, openText, position) => {
+      "textDocument/definition": (params) => this.applyAtPosition(params, (language, openText, position) => {
         const target = language.definition ? language.definition(openText, position) : null;
         return target && ("uri" in target ? target : { uri: openText.uri, range: target });
       }),
       "textDocument/references": (params) => this.references(params),
-      "textDocument/documentHighlight": (params) => this.callAtPosition(params, (language, openText, position) => (
+      "textDocument/documentHighlight": (params) => this.applyAtPosition(params, (language, openText, position) => (
         (language.references ? language.references(openText, position, true) : []).map((range) => ({ range })))),
-      "textDocument/prepareRename": (params) => this.callAtPosition(params, (language, openText, position) => (
+      "textDocument/prepareRename": (params) => this.applyAtPosition(params, (language, openText, position) => (
         language.renameTarget ? language.renameTarget(openText, position) : null)),
       "textDocument/rename": (params) => this.rename(params),
       "textDocument/completion": (params) => this.completion(params),
-      "textDocument/signatureHelp": (params) => this.callAtPosition(params, (language, openText, position) => (
+      "textDocument/signatureHelp": (params) => this.applyAtPosition(params, (language, openText, position) => (
         language.signature ? language.signature(openText, position) : null)),
       "textDocument/selectionRange": (params) => this.selections(params),
     };
@@ -229,7 +229,7 @@ export class Requests {
    * @param {any} params
    */
   hover(params) {
-    const hoverHelp = this.callAtPosition(params, (language, openText, position) => (
+    const hoverHelp = this.applyAtPosition(params, (language, openText, position) => (
       language.hover ? language.hover(openText, position) : null));
     if (!hoverHelp) return null;
     const { plainText, markdown, ...range } = hoverHelp;
@@ -242,9 +242,10 @@ export class Requests {
    * @param {any} params
    */
   references(params) {
-    const withDefinition = getField(getField(params, "context"), "includeDeclaration") !== false;
-    return this.callAtPosition(params, (language, openText, position) => (
-      (language.references ? language.references(openText, position, withDefinition) : []).map((range) => ({ uri: openText.uri, range }))));
+    const includesDefinition = getField(getField(params, "context"), "includeDeclaration") !== false;
+    return this.applyAtPosition(params, (language, openText, position) => (
+      (language.references ? language.references(openText, position, includesDefinition) : []).map((range) => (
+        { uri: openText.uri, range }))));
   }
 
   /**
@@ -253,7 +254,7 @@ export class Requests {
    */
   rename(params) {
     const newName = requireString(getField(params, "newName"), "newName");
-    return this.callAtPosition(params, (language, openText, position) => (
+    return this.applyAtPosition(params, (language, openText, position) => (
       language.rename ? { changes: { [openText.uri]: language.rename(openText, position, newName) } } : null));
   }
 
@@ -263,7 +264,7 @@ export class Requests {
    */
   completion(params) {
     const trigger = String(getField(getField(params, "context"), "triggerCharacter") || "");
-    return this.callAtPosition(params, (language, openText, position) => {
+    return this.applyAtPosition(params, (language, openText, position) => {
       if (!language.completion) return [];
       const { from, to, list } = language.completion(openText, position, trigger);
       const range = { start: { ...position, character: from }, end: { ...position, character: to } };
@@ -280,7 +281,7 @@ export class Requests {
    */
   selections(params) {
     const positions = requireList(getField(params, "positions"), "positions").map(requirePosition);
-    return this.callWithLanguage(params, (language, openText) => positions.map((position) => {
+    return this.applyToText(params, (language, openText) => positions.map((position) => {
       const clampedPosition = openText.clampPosition(position);
       const columnRanges = language.selectionColumns ? language.selectionColumns(openText, clampedPosition) : [];
       return selectionRangeAt(openText.lines, clampedPosition, columnRanges, language.foldPatterns);
@@ -292,14 +293,14 @@ export class Requests {
   /** @returns {Record<string, RequestHandler>} */
   createCallHandlers() {
     return {
-      "textDocument/prepareCallHierarchy": (params) => this.callAtPosition(params, (language, openText, position) => {
+      "textDocument/prepareCallHierarchy": (params) => this.applyAtPosition(params, (language, openText, position) => {
         const routine = language.routine ? language.routine(openText, position) : null;
         return routine && [this.toCallItem(routine, openText.uri)];
       }),
-      "callHierarchy/incomingCalls": (params) => this.callAtItem(params, (language, openText, position) => (
+      "callHierarchy/incomingCalls": (params) => this.applyAtCallItem(params, (language, openText, position) => (
         (language.callers ? language.callers(openText, position) : []).map(({ routine, ranges }) => (
           { from: this.toCallItem(routine, openText.uri), fromRanges: ranges })))),
-      "callHierarchy/outgoingCalls": (params) => this.callAtItem(params, (language, openText, position) => (
+      "callHierarchy/outgoingCalls": (params) => this.applyAtCallItem(params, (language, openText, position) => (
         (language.callees ? language.callees(openText, position) : []).map(({ routine, ranges }) => (
           { to: this.toCallItem(routine, openText.uri), fromRanges: ranges })))),
     };
@@ -315,15 +316,15 @@ export class Requests {
   }
 
   /**
-   * Calls a function with the position of the call hierarchy item that a request names, with the text and its language. Returns the result
-   * of the function.
+   * Calls a function with three arguments: the language, the text, and the position of the call hierarchy item in a request. Returns the
+   * function's result.
    * @template Result
    * @param {any} params
    * @param {(language: Language, openText: OpenText, position: Position) => Result} callback
    */
-  callAtItem(params, callback) {
+  applyAtCallItem(params, callback) {
     const item = getField(params, "item");
     const { start } = requireRange(getField(item, "selectionRange"));
-    return this.callAtPosition({ textDocument: { uri: getField(item, "uri") }, position: start }, callback);
+    return this.applyAtPosition({ textDocument: { uri: getField(item, "uri") }, position: start }, callback);
   }
 }

@@ -45,9 +45,9 @@ function createDirectiveSignature(description, kind) {
 function createStatementSignature(head, instructions) {
   if (describeDirective(head)) return createDirectiveSignature(describeDirective(head), head === "ORG" ? "t" : "b");
   const instruction = instructions.get(head);
-  const kinds = instruction ? parseOperandKinds(instruction.form) : [];
-  if (!instruction || kinds.length === 0) return null;
-  const operands = kinds.map((operand) => ({ operand, description: describeOperand(operand) }));
+  const operandKinds = instruction ? parseOperandKinds(instruction.form) : [];
+  if (!instruction || operandKinds.length === 0) return null;
+  const operands = operandKinds.map((operand) => ({ operand, description: describeOperand(operand) }));
   return createSignature(instruction.form, describeInstruction(instruction), operands);
 }
 
@@ -65,7 +65,7 @@ export function signatureAt(line, column, instructions) {
   const signature = createStatementSignature(head.text.toUpperCase(), instructions);
   if (!signature) return null;
   const commaCount = textBefore.slice(head.to).split(",").length - 1;
-  const isList = head.text.toUpperCase() === "DB";
-  if (commaCount >= signature.parameters.length && !isList) return null;
-  return { signatures: [signature], activeSignature: 0, activeParameter: isList ? 0 : commaCount };
+  const hasOperandList = head.text.toUpperCase() === "DB";
+  if (commaCount >= signature.parameters.length && !hasOperandList) return null;
+  return { signatures: [signature], activeSignature: 0, activeParameter: hasOperandList ? 0 : commaCount };
 }

@@ -6,7 +6,7 @@ import { FOLD_PATTERNS } from "../text/folding.js";
 import { completeTest, helpForTest, readTestForms } from "../text/test_words.js";
 import { DependentLanguage, locateError } from "./dependent_language.js";
 import { rangeInLine } from "./lsp_protocol.js";
-import { colouredWords } from "./token_codes.js";
+import { listColouredWords } from "./token_codes.js";
 import * as say from "../../words/server.js";
 
 /**
@@ -94,8 +94,9 @@ export class TestLanguage extends DependentLanguage {
    */
   definition(openText, position) {
     const [, name] = /^[ \t]*do[ \t]+(\S+)/.exec(openText.lines[position.line]) || [];
-    const steps = findHeads(openText.lines).find((head) => head.kind === "steps" && head.name === name);
-    return steps ? { uri: openText.uri, range: rangeInLine(steps.line + 1, steps.from, steps.to) } : this.labelAt(openText, position);
+    const stepsHead = findHeads(openText.lines).find((head) => head.kind === "steps" && head.name === name);
+    if (!stepsHead) return this.labelAt(openText, position);
+    return { uri: openText.uri, range: rangeInLine(stepsHead.line + 1, stepsHead.from, stepsHead.to) };
   }
 
   /**
@@ -117,7 +118,7 @@ export class TestLanguage extends DependentLanguage {
    * @param {OpenText} openText
    */
   semanticTokens({ lines }) {
-    return colouredWords(lines, LINE_COLOURERS.tests);
+    return listColouredWords(lines, LINE_COLOURERS.tests);
   }
 
   /**

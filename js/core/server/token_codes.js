@@ -10,7 +10,7 @@ export const TOKEN_TYPES = ["comment", "function", "variable", "enumMember", "ke
 /** The token modifiers that the server uses, in the order of their bits in the encoding. */
 export const TOKEN_MODIFIERS = ["declaration", "readonly"];
 
-/** @type {Record<string, string>} the protocol's token types, by style of the page's editor */
+/** @type {Record<string, string>} the protocol's token types, by the style that the page's editor gives to a word */
 const TYPES_BY_STYLE = {
   "keyword": "keyword", "number": "number", "comment": "comment", "string": "string", "def": "function", "variable-2": "variable",
 };
@@ -21,7 +21,7 @@ const TYPES_BY_STYLE = {
  * @param {(line: string) => { from: number, to: number, style: string }[]} colours returns the styled words of a line
  * @returns {ColouredWord[]}
  */
-export function colouredWords(lines, colours) {
+export function listColouredWords(lines, colours) {
   return lines.flatMap((text, line) => colours(text).filter(({ style }) => TYPES_BY_STYLE[style]).map(({ from, to, style }) => (
     { line, from, to, type: TYPES_BY_STYLE[style] })));
 }
@@ -40,15 +40,15 @@ export function encodeTokens(words) {
   return sortedWords.filter((word) => word.to > word.from).flatMap((word) => {
     const columnDistance = word.line === previousLine ? word.from - previousFrom : word.from;
     const modifiers = (word.isDeclaration ? 1 : 0) + (word.isReadonly ? 2 : 0);
-    const code = [word.line - previousLine, columnDistance, word.to - word.from, TOKEN_TYPES.indexOf(word.type), modifiers];
+    const encodedWord = [word.line - previousLine, columnDistance, word.to - word.from, TOKEN_TYPES.indexOf(word.type), modifiers];
     [previousLine, previousFrom] = [word.line, word.from];
-    return code;
+    return encodedWord;
   });
 }
 
 /**
- * Returns the edits that change the old encoding to the new encoding: no edit if both are equal, or else one edit that replaces a range of
- * numbers.
+ * Returns the edits that change the old encoding to the new encoding: no edit if the encodings are equal, or else one edit that replaces a
+ * range of numbers.
  * @param {number[]} oldTokens
  * @param {number[]} newTokens
  * @returns {{ start: number, deleteCount: number, data: number[] }[]}

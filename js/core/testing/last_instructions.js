@@ -1,7 +1,7 @@
 // Lists the last instructions that a test executed, one trace line per instruction. Repeats the last cycles from a copy of an earlier
 // state.
 
-import { runLines } from "../engine/key_queue.js";
+import { formatRunLines } from "../engine/key_queue.js";
 import { InstructionTexts } from "../trace/instruction_texts.js";
 import { TraceLines } from "../trace/trace_lines.js";
 import { LISTABLE_CYCLES } from "./test_session.js";
@@ -46,8 +46,8 @@ export function traceLastInstructions(session, { board, map }) {
   if (laterActions.length === 0) return [];
   const { firstAction, skippedCycles } = findListedPart(laterActions);
   const file = storedState.file.slice();
-  const formatActionLines = (/** @type {TestAction} */ { line, cycles }) => (line === "run" ? runLines(cycles) : `${line}\n`);
-  const skippedRunLines = skippedCycles > 0 ? runLines(skippedCycles) : "";
+  const formatActionLines = (/** @type {TestAction} */ { line, cycles }) => (line === "run" ? formatRunLines(cycles) : `${line}\n`);
+  const skippedRunLines = skippedCycles > 0 ? formatRunLines(skippedCycles) : "";
   engine.serve(file, laterActions.slice(0, firstAction).map(formatActionLines).join("") + skippedRunLines, file);
   let elapsed = storedState.elapsed + laterActions.slice(0, firstAction).reduce((sum, { cycles }) => sum + cycles, skippedCycles);
   const trace = new TraceLines(engine, board, new InstructionTexts({ map, source: null }));
@@ -56,7 +56,7 @@ export function traceLastInstructions(session, { board, map }) {
     const actionCycles = index === 0 ? cycles - skippedCycles : cycles;
     if (line === "run") lines.push(...trace.traceRun(file, actionCycles, elapsed));
     else lines.push(`          ${line}`);
-    engine.serve(file, line === "run" ? runLines(actionCycles) : `${line}\n`, file);
+    engine.serve(file, line === "run" ? formatRunLines(actionCycles) : `${line}\n`, file);
     elapsed += actionCycles;
   });
   const lastLines = [...lines.slice(-MAX_INSTRUCTIONS), say.nextInstructionLine(trace.formatNext(session.file, elapsed))];

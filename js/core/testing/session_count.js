@@ -1,6 +1,6 @@
 // Computes coverage and a profile over the next cycles of a session.
 
-import { romCodes } from "../engine/rom_codes.js";
+import { readRomCodes } from "../engine/rom_codes.js";
 import { compareWithRom } from "../engine/session_program.js";
 import { copyWithoutStops } from "../engine/free_running_copy.js";
 import { ExecutionRecorder } from "./recorders.js";
@@ -36,7 +36,7 @@ import { TestSession } from "./test_session.js";
  */
 export async function measureSession(engine, state, programText, cycles, RecorderClass = ExecutionRecorder) {
   const startState = copyWithoutStops(engine, state);
-  const codes = romCodes(engine, startState);
+  const codes = readRomCodes(engine, startState);
   const { errors, difference, map } = compareWithRom(engine, codes, programText);
   if (errors.length > 0 || difference) return { errors, difference, counts: null };
   const recorder = new RecorderClass(codes);

@@ -6,7 +6,7 @@ import { Face } from "../board/face.js";
 import { missingPartErrors } from "../board/face_board.js";
 import { SourceMap } from "../machine/source_map.js";
 import { findSendingErrors, sentText } from "../text/sendable_text.js";
-import { romCodes } from "../engine/rom_codes.js";
+import { readRomCodes } from "../engine/rom_codes.js";
 
 /**
  * @typedef {import("../conditions/condition_language.js").Names} Names
@@ -100,5 +100,5 @@ export function prepareTests(engine, { boardText, programText }) {
   const [board, map] = matchAnswers(readInputs(queries), engine.ask(file, queries).answers);
   const names = { face: new Face(boardText), board: readBoard(board), map: new SourceMap(map, program) };
   const errors = findNameErrors(names.face, names.board);
-  return { prepared: errors.length > 0 ? null : { file, names, codes: romCodes(engine, file) }, errors };
+  return { prepared: errors.length > 0 ? null : { file, names, codes: readRomCodes(engine, file) }, errors };
 }

@@ -4,7 +4,7 @@
 import { LAMPS_FORECAST_QUERY } from "../engine/perceived_text.js";
 import { readCounter, readRegisters } from "../bench/answers.js";
 import { stateValue } from "../bench/state_line.js";
-import { romCodes } from "../engine/rom_codes.js";
+import { readRomCodes } from "../engine/rom_codes.js";
 import { MAX_RUN_CYCLES } from "../engine/key_queue.js";
 import { ForecastAnswers, parseTraceLine, rowValues } from "../engine/forecast_answers.js";
 
@@ -98,7 +98,7 @@ export class TestSession {
 
   /** Reads the bytes in ROM again after they have changed. */
   readCodes() {
-    this.recorder.codes = romCodes(this.engine, this.file);
+    this.recorder.codes = readRomCodes(this.engine, this.file);
   }
 
   /**

@@ -1,5 +1,5 @@
 // `mcs4 trace`: prints the next instructions of a session, one per line.
-import { romCodes } from "../../core/engine/rom_codes.js";
+import { readRomCodes } from "../../core/engine/rom_codes.js";
 import { SessionTrace } from "../../core/trace/session_trace.js";
 import { cannotCombine } from "../../words/commands.js";
 import { parseCount, checkArguments, loadProject } from "../arguments.mjs";
@@ -34,7 +34,7 @@ export async function run(values, words) {
   const engine = await startEngine();
   const state = await openSession(engine, texts, session);
   const trace = new SessionTrace(engine, state, yieldToMessages);
-  const map = program && await readCheckedMap(engine, romCodes(engine, state), program);
+  const map = program && await readCheckedMap(engine, readRomCodes(engine, state), program);
   const source = program && values.names === undefined ? { lines: program.text.split("\n"), linesBefore: program.linesBefore } : null;
   const names = map && { map, source };
   const pieces = lastCount > 0 ? trace.traceLast(lastCount, cycles, names) : trace.traceNext(cycles, names);

@@ -2,7 +2,7 @@
 import { readBoard } from "../../core/bench/answers.js";
 import { hasOutput } from "../../core/board/face_board.js";
 import { Face } from "../../core/board/face.js";
-import { romCodes } from "../../core/engine/rom_codes.js";
+import { readRomCodes } from "../../core/engine/rom_codes.js";
 import { copyWithoutStops } from "../../core/engine/free_running_copy.js";
 import { linesWithMembers, recordPieces } from "../../core/engine/wave_stream.js";
 import { findNameErrors, wireBoard } from "../../core/testing/test_preparation.js";
@@ -69,7 +69,7 @@ async function openWiredSession(session, { board: boardName, program: programNam
   const program = programName === undefined ? null : texts.readText(programName, "asm");
   const answers = engine.ask(openedState, "board\n").answers;
   if (boardText) await checkBoard(engine, boardText, answers);
-  const map = program && await readCheckedMap(engine, romCodes(engine, openedState), program);
+  const map = program && await readCheckedMap(engine, readRomCodes(engine, openedState), program);
   const state = copyWithoutStops(engine, openedState);
   const face = new Face(boardText ? boardText.text : "");
   return { engine, state, board: readBoard(answers), boardText, face, program: map && createRecordedProgram(map, program.text) };
