@@ -139,9 +139,9 @@ export class CommonMistakes {
   }
 
   /**
-   * Returns the number of cycles to check in the next lines, at most MAX_CYCLES_PER_CALL. Checks as many cycles as possible for
-   * FULLY_CHECKED_CYCLES cycles after the machine starts or a key changes. If mistakes stop the machine and the lines are short enough,
-   * always checks all cycles. Otherwise checks only a sample, because a check runs each cycle three more times.
+   * Returns the number of cycles to check in the next lines, at most MAX_CYCLES_PER_CALL. In the first FULLY_CHECKED_CYCLES cycles after
+   * the machine starts or a key changes, all cycles up to this limit are checked. If mistakes stop the machine and the lines do not exceed
+   * the limit, all cycles are always checked. Otherwise only a sample is checked, because a check runs each cycle three more times.
    * @param {PlannedLine[]} plannedLines
    */
   cyclesToCheck(plannedLines) {

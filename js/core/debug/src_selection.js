@@ -36,7 +36,7 @@ export function usesSelection(code) {
 export class SrcSelection {
   /** @param {Board} board */
   constructor(board) {
-    /** @type {Map<number, string>} the directions of the port lines of the ROMs, such as `iioo`, by chip number */
+    /** @type {Map<number, string>} the port masks of the ROMs, such as `i001` (`i` for an input line), by chip number */
     this.portMasks = new Map(board.roms.map(({ chip, port }) => [Number(chip), port]));
     /** @type {Map<number, number>} the number of chips, by bank */
     this.chipCounts = new Map(board.banks.map(({ bank, chips }) => [Number(bank), Number(chips)]));
