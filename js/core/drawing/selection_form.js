@@ -158,17 +158,17 @@ function keysForm(board, face) {
  */
 function lampForm(board, face, lamp) {
   const part = `lamp ${lamp}`;
-  const lampsOfGroup = lampsInSameGroup(face, lamp);
-  const isSingle = lampsOfGroup.length === 1;
+  const groupLamps = lampsInSameGroup(face, lamp);
+  const isSingle = groupLamps.length === 1;
   // All lamps of a group have the colour of its first lamp.
-  const [name, colour] = [face.lamps.get(lamp), face.colours.get(lampsOfGroup[0])];
+  const [name, colour] = [face.lamps.get(lamp), face.colours.get(groupLamps[0])];
   const fields = [
     textField("name", name ? name.text : "", (value) => ({ kind: "name", part, name: value })),
-    choiceField("colour", colour ? colour.text : "red", [...COLOURS], (value) => ({ kind: "colour", lamp: lampsOfGroup[0], colour: value })),
+    choiceField("colour", colour ? colour.text : "red", [...COLOURS], (value) => ({ kind: "colour", lamp: groupLamps[0], colour: value })),
     lineField(board, part, "lamp"),
   ];
-  const copyButtons = findDisplayAt(face, lampsOfGroup[0]) ? [{ ...createCopyButton(`lamp ${lampsOfGroup[0]}`), label: say.COPY_DISPLAY }] : [];
-  const groupButtons = [...copyButtons, createDeleteButton(part, say.deleteLamps(lampsOfGroup.length))];
+  const copyButtons = findDisplayAt(face, groupLamps[0]) ? [{ ...createCopyButton(`lamp ${groupLamps[0]}`), label: say.COPY_DISPLAY }] : [];
+  const groupButtons = [...copyButtons, createDeleteButton(part, say.deleteLamps(groupLamps.length))];
   const buttons = isSingle ? [createCopyButton(part), createDeleteButton(part)] : groupButtons;
   return { title: say.lampTitle(lamp), part, fields, buttons };
 }
