@@ -319,17 +319,17 @@ test("the values of places are those that `trace` reports", () => {
       .map((name) => `poke ${name} ${Math.floor(16 * random())}\n`).join("");
     engine.serve(file, `${poke}poke cy ${round % 2}\npress 0 ${round % 4}\nrun ${1 + Math.floor(90 * random())}\n`, file);
     const { answers } = engine.ask(file, `${reader.lines}${queries.formatLines(1)}seq\n`);
-    const values = new PlaceAnswers(answers);
-    const row = reader.takeRow(values);
-    assert.equal(row, values.takeRow(queries));
-    assert.match(values.take(), /^seq /);
+    const placeAnswers = new PlaceAnswers(answers);
+    const row = reader.takeRow(placeAnswers);
+    assert.equal(row, placeAnswers.takeRow(queries));
+    assert.match(placeAnswers.take(), /^seq /);
   }
 });
 
 test("a rejected count has no results", () => {
-  const values = new PlaceAnswers(["no 11", "count ran 2 end lines 1", "00F 2", "seq 4"]);
-  assert.deepEqual([values.takeCountsIfAny(), values.takeCountsIfAny()], [[], [{ address: 15, startCount: 2, jumpCount: -1 }]]);
-  assert.equal(values.take(), "seq 4");
+  const placeAnswers = new PlaceAnswers(["no 11", "count ran 2 end lines 1", "00F 2", "seq 4"]);
+  assert.deepEqual([placeAnswers.takeCountsIfAny(), placeAnswers.takeCountsIfAny()], [[], [{ address: 15, startCount: 2, jumpCount: -1 }]]);
+  assert.equal(placeAnswers.take(), "seq 4");
 });
 
 test("a counted walk ends in the same state as a watched walk", () => {

@@ -66,8 +66,8 @@ function listAllLines(engine, file) {
     const listingLines = readListing(engine.ask(file, `list ${address} ${MAX_LISTING_LINES}\n`).answers);
     if (listingLines.length === 0) throw new BenchRefusal(OUT_OF_MEMORY);
     lines.push(...listingLines);
-    const last = listingLines[listingLines.length - 1];
-    address = last.address + (hasTwoBytes(last.line) ? 2 : 1);
+    const lastLine = listingLines[listingLines.length - 1];
+    address = lastLine.address + (hasTwoBytes(lastLine.line) ? 2 : 1);
   }
   return lines;
 }

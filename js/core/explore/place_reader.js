@@ -123,20 +123,20 @@ export class PlaceReader {
 
   /**
    * Returns the values of all `trace` places, separated by blanks, from the answers to the query lines.
-   * @param {PlaceAnswers} values
+   * @param {PlaceAnswers} placeAnswers
    */
-  takeRow(values) {
+  takeRow(placeAnswers) {
     const { positions, answerIndexes, remainingPlaces: tracedPlaces } = this;
-    const first = values.nextIndex;
+    const first = placeAnswers.nextIndex;
     let row = "";
     for (let index = 0; index < positions.length; index++) {
       const { precedingWord, start, length } = positions[index];
-      const answer = values.answers[first + answerIndexes[index]];
+      const answer = placeAnswers.answers[first + answerIndexes[index]];
       const valueStart = precedingWord === "" ? start : answer.indexOf(precedingWord) + precedingWord.length + start;
       row += `${index === 0 ? "" : " "}${length === 0 ? answer.slice(valueStart) : answer.substr(valueStart, length)}`;
     }
-    values.skip(this.answerCount);
+    placeAnswers.skip(this.answerCount);
     if (tracedPlaces.names.length === 0) return row;
-    return row === "" ? values.takeRow(tracedPlaces) : `${row} ${values.takeRow(tracedPlaces)}`;
+    return row === "" ? placeAnswers.takeRow(tracedPlaces) : `${row} ${placeAnswers.takeRow(tracedPlaces)}`;
   }
 }

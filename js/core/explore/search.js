@@ -267,18 +267,18 @@ export class Search {
     const lines = steps.map((step) => (
       `${needsCounts ? `count ${step.wait}\n` : ""}run ${step.wait}\n${formatChangeLine(campaign, step)}${places.lines}`)).join("");
     const breakLines = stopAddresses.map((address) => `break ${address}\n`).join("");
-    const values = new PlaceAnswers(this.subject.engine.ask(file, breakLines + lines).answers);
-    values.skip(stopAddresses.length);
+    const placeAnswers = new PlaceAnswers(this.subject.engine.ask(file, breakLines + lines).answers);
+    placeAnswers.skip(stopAddresses.length);
     /** @type {number[]} */
     const newSteps = [];
     /** @type {Snapshot[]} */
     const snapshots = [];
     const estimatedState = new EstimatedState(this, state);
     for (const [at, step] of steps.entries()) {
-      const instructionCounts = needsCounts ? values.takeCountsIfAny() : [];
-      if (values.takeRun().end !== "end") return { newSteps, isSuspect: true, snapshots };
-      if (step.kind !== "none") values.skip(1);
-      const snapshot = this.getSnapshot(places.takeRow(values));
+      const instructionCounts = needsCounts ? placeAnswers.takeCountsIfAny() : [];
+      if (placeAnswers.takeRun().end !== "end") return { newSteps, isSuspect: true, snapshots };
+      if (step.kind !== "none") placeAnswers.skip(1);
+      const snapshot = this.getSnapshot(places.takeRow(placeAnswers));
       snapshots.push(snapshot);
       if (estimatedState.canStepViolate(step, snapshot, instructionCounts)) return { newSteps, isSuspect: true, snapshots };
       if (this.coverage.add(instructionCounts)) newSteps.push(at);

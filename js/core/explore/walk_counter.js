@@ -52,11 +52,11 @@ function updateMemory({ form }, memory, { kind }, openedCalls) {
  */
 export function countWalk({ subject: { engine, codes }, campaign, coverage }, start, steps) {
   const lines = steps.map((step) => `count ${step.wait}\nrun ${step.wait}\n${formatChangeLine(campaign, step)}`).join("");
-  const values = new PlaceAnswers(engine.ask(start.file, lines).answers);
+  const placeAnswers = new PlaceAnswers(engine.ask(start.file, lines).answers);
   let { time, downInputs, memories } = start;
   return steps.map((step) => {
-    const counts = values.takeCountsIfAny();
-    values.skip(step.kind === "none" ? 1 : 2);
+    const counts = placeAnswers.takeCountsIfAny();
+    placeAnswers.skip(step.kind === "none" ? 1 : 2);
     let openedCalls = 0;
     for (const { address, startCount } of counts) {
       if (isCall(codes[address])) openedCalls += startCount;

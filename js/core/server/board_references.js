@@ -78,7 +78,7 @@ export class BoardReferences {
   }
 
   /**
-   * Returns the table of a chip or chain that contains a line; null if there is none.
+   * Returns the chip table or chain table that contains a line; null if there is none.
    * @param {number} line the line number from 1
    */
   findEntryAtLine(line) {
