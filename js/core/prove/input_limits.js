@@ -86,9 +86,9 @@ const listProofKeys = (campaign, board) => (campaign.inputWords.length > 0 ? lis
 const pressesSingleKeys = ({ inputs, maxKeysDown }) => Math.min(maxKeysDown, inputs.length) <= 1 && inputs.every(({ isKey }) => isKey);
 
 /**
- * Returns why a proof cannot use the line `wait` of the properties text, as text; "" if a proof can use it. Because of a line `held`, a key
- * might have to be released before the shortest wait is over. This cannot happen if only one key is down at a time, and if a press can last
- * for the shortest wait.
+ * Returns why a proof cannot use the line `wait` of the properties text, as text; "" if a proof can use it. A line `held` can force the
+ * release of a key before the shortest wait is over. This cannot happen if only one key is down at a time, and if a press can last for the
+ * shortest wait.
  * @param {Campaign} campaign
  * @param {Board} board
  */
@@ -147,7 +147,7 @@ function findMaxPressTime({ limit }, campaign) {
 
 /**
  * Returns the limits for successive attempts to prove a property. For a `no press` property, adds an attempt with a limit on the time for
- * which a key stays down, unless the last attempt already has such a limit that is at least as strict.
+ * which a key stays down. Does not add it if the last attempt already has such a limit that is at least as strict.
  * @param {Property} property
  * @param {Campaign} campaign
  * @param {InputLimits[]} inputLimits the limits that the properties text sets

@@ -278,8 +278,8 @@ const LEVEL_DEMANDS = [isRead, (step, isPin) => !isPin || isRead(step, true), ()
 
 /**
  * Returns the changes that give the inputs their levels in all steps in which `isDemanded` demands them. Also returns the releases of the
- * keys that are down after the last step. A change can happen at any moment from `first`, which is after the last step that demands an old
- * level, to `last`, which is the step that demands the new levels.
+ * keys that are down after the last step. A change can happen at any moment from `first` to `last`. `first` is after the last step that
+ * demands an old level, and `last` is the step that demands the new levels.
  * @param {LevelStep[]} levelSteps
  * @param {Input[]} inputs
  * @param {(step: LevelStep, isPin: boolean) => boolean} isDemanded

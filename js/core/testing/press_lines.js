@@ -10,8 +10,8 @@ import { listNamedKeys } from "./test_text.js";
  * The times in cycles for which each key stays down (`down`) and then up (`up`).
  * @typedef {{ down: number, up: number }} Pace
  *
- * The result of `createPressLines`. If all names are keys, `lines` are the bench lines, of which the last queries the lamps, and
- * `unknownName` is null. Otherwise, `lines` is empty, and `unknownName` is the first name that is not a key.
+ * The result of `createPressLines`. If all names are keys, `lines` are the bench lines, and `unknownName` is null. The last line then
+ * queries the lamps. Otherwise, `lines` is empty, and `unknownName` is the first name that is not a key.
  * @typedef {{ lines: string[], unknownName: string | null }} PressLines
  */
 
