@@ -24,7 +24,7 @@ async function createPresser() {
     changesInTransit.push([word, pendingKeys.addInTransit({ word, key: KEY.key })]);
   };
   const presser = new KeyPresser({
-    isRunning: () => true,
+    queuesKeyChanges: () => true,
     isDown: (key) => pendingKeys.willBeDown(key, isDown),
     press: () => send("press"),
     release: () => send("release"),
