@@ -184,7 +184,7 @@ def check_buzzer(browser):
     browser.click("#shelf-buzzer")
     eventually(browser, "the buzzer is added with the parts that it needs", GET_DRAWING_STATUS, "The buzzer was added, with ROM 0.")
     verdict("the comment of the buzzer in the text", board_text(browser).split("\n")[0], "# buzzer rom0.0: buzzer")
-    verdict("the shelf disables a second buzzer, with the reason", browser.script(GET_DISABLED_BUTTONS), ["Buzzer: A board can have only one buzzer: delete it first."])
+    verdict("the shelf disables a second buzzer, with the reason", browser.script(GET_DISABLED_BUTTONS), ["Buzzer: A board can have only one buzzer: delete the present one first."])
     drag(browser, f"{pin_selector('ROM 0 · 4001, out 3')} circle", f"{pin_selector('Buzzer, buzzer')} circle")
     eventually(browser, "dragging draws a wire to the buzzer", GET_DRAWING_STATUS, "Line rom0.3 is wired to the buzzer.")
     eventually(browser, "the picture has the wire to the buzzer", GET_WIRING_LINES, re.compile("buzzer sounds at each edge of rom0.3"))

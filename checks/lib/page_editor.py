@@ -281,7 +281,7 @@ def check_running(browser):
     set_text(browser, PROGRAM_EDITOR, "\tLDM 7\nstop:\tJUN stop\n")
     browser.click("#assemble-only")
     eventually(browser, "the message of \"assemble only\" says what stays unchanged", GET_STATUS_OF.format(PROGRAM_EDITOR), re.compile(
-        r"^3 bytes assembled\. \d+ bytes of the previous program stay in ROM, from 0x0..?\. The counter stays at ..., nothing was reset\.$".replace(", n", "; n")))
+        r"^3 bytes assembled\. \d+ bytes that the program does not replace stay in ROM, from 0x0..?\. The counter stays at ..., nothing was reset\.$".replace(", n", "; n")))
     browser.script(SET_CARET, PROGRAM_EDITOR, 0, 0)
     browser.press_chord(CONTROL, ENTER)
     eventually(browser, "Ctrl+Enter assembles and runs the source", GET_STATUS_OF.format(PROGRAM_EDITOR), "Assembled 3 bytes; running from 000.")

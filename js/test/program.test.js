@@ -179,7 +179,7 @@ test("a program is loaded into ROM with zeros elsewhere, in one text if possible
 
 test("the message about assembled bytes names the bytes that stay in ROM", () => {
   assert.equal(describeAssembledProgram({ size: 3, remainingAddresses: [0x41, 0x42] }, "012"),
-    "3 bytes assembled. 2 bytes of the previous program stay in ROM, from 0x041. The counter stays at 012; nothing was reset.");
+    "3 bytes assembled. 2 bytes that the program does not replace stay in ROM, from 0x041. The counter stays at 012; nothing was reset.");
   assert.deepEqual(
     [formatQuantity(1, "byte"), formatQuantity(0, "byte"), formatQuantity(1543, "cycle"),
       formatQuantity(2, "property is", "properties are")],

@@ -178,7 +178,7 @@ test("breakpoints with conditions, hit counts and log messages; watches", async 
   await ask("delete");
   assert.deepEqual(await ask("continue"), ["refused: nothing would stop it: set a breakpoint, or run for a time, as in run 100 ms"]);
   assert.deepEqual(await ask("watch r4", "info watches"),
-    ["r4 is watched, but only continue stops at its changes.", "r4, for continue only"]);
+    ["r4 is watched: continue and reverse-continue stop at its changes.", "r4, for continue and reverse-continue"]);
   assert.match((await ask("continue")).join(), /after r4 changed/);
   assert.match((await ask("watch acc"))[0], /^refused: r4 is watched/);
   assert.deepEqual(await ask("watch ram.0.0x01", "delete r4", "info watches"), ["ram.0.0x01 is watched.", "ram.0.0x01"]);

@@ -79,7 +79,7 @@ export const noBitForRowMessage = (chain) => `Chain ${chain} has no bit for anot
 export const tooManyColumnsMessage = (maximum) => `A key matrix has at most ${maximum} columns.`;
 /** @type {(maximum: number, count: number) => string} */
 export const tooManyLampsMessage = (maximum, count) => `A board has at most ${maximum} lamps; it has ${count}.`;
-export const ONE_BUZZER = "A board can have only one buzzer: delete it first.";
+export const ONE_BUZZER = "A board can have only one buzzer: delete the present one first.";
 export const TOO_FEW_DIGITS = "A display has a whole number of digits, at least 1.";
 /** @type {(maximum: number) => string} */
 export const multiplexedDigitsMessage = (maximum) => `A multiplexed display has 1 to ${maximum} digits.`;

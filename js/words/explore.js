@@ -55,7 +55,7 @@ export const ONLY_AFTER_SYNTAX = "write `CONDITION only after press KEY, press K
 /** @type {(word: string, firstWords: string) => string} */
 export const unknownFirstWord = (word, firstWords) => `a line cannot begin with \`${word}\`; it can begin with ${firstWords}`;
 export const NO_INPUT_MAY_CHANGE =
-  "no input may change: the board's text names no keys and no TEST; `test` lets TEST change, `reset` cycles the power";
+  "no input may change: the board's text names no keys and no TEST; `test` allows changes of TEST, `reset` power cycles";
 export const MODEL_NEEDS_KEYS = "a model gets keys, but no key may go down";
 
 // --- explore/explore_tab.js ---

@@ -14,11 +14,11 @@ export const placeIsWatchedMessage = (place) => `${place} is watched.`;
 export const onlyOneWatchAllowed = (watched) => (
   `${watched} is watched, and only one place other than RAM characters can be watched: delete ${watched} first`);
 /** @type {(place: string) => string} */
-export const watchedByContinue = (place) => `${place} is watched, but only continue stops at its changes.`;
+export const watchedByContinue = (place) => `${place} is watched: continue and reverse-continue stop at its changes.`;
 /** @type {(place: string) => string} */
 export const notWatchedMessage = (place) => `${place} is not watched`;
 /** @type {(place: string) => string} */
-export const continueOnlyWatch = (place) => `${place}, for continue only`;
+export const watchOfContinue = (place) => `${place}, for continue and reverse-continue`;
 export const NOTHING_WATCHED = "nothing is watched";
 
 // --- prompt/stop_commands.js ---
@@ -86,7 +86,7 @@ export const noKeyMessage = (word, names) => `the board has no key ${word}; it h
 export const NO_LAMPS = "the board has no lamps";
 export const PRINT_SYNTAX = "write print WHAT, as in print r4";
 export const VIEW_SYNTAX = "write view, view on or view off";
-export const VIEW_NEEDS_TERMINAL = "the view needs a terminal: it is drawn above the commands that are typed there";
+export const VIEW_NEEDS_TERMINAL = "the view needs a terminal, where it is drawn above the typed commands";
 export const NO_SUCH_DISPLAY = "there is no such display; info display shows their numbers";
 /** @type {(place: string) => string} */
 export const noPlaceOfMemoryMessage = (place) => (

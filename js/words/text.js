@@ -9,7 +9,7 @@ export const didYouMean = (similarWords, end = "") => (
 // --- text/asm_texts.js ---
 /** @type {(bytes: string, isOne: boolean, first: string) => string} */
 export const bytesRemainingMessage = (bytes, isOne, first) =>
-  `${bytes} of the previous program ${isOne ? "stays" : "stay"} in ROM, from ${first}.`;
+  `${bytes} that the program does not replace ${isOne ? "stays" : "stay"} in ROM, from ${first}.`;
 /** @type {(bytes: string, remaining: string, counter: string) => string} */
 export const bytesAssembledMessage = (bytes, remaining, counter) => (
   `${bytes} assembled.${remaining} The counter stays at ${counter}; nothing was reset.`);
@@ -40,7 +40,7 @@ export const equalsMissing = (name) => `= is missing after ${name}`;
 /** @type {(key: string) => string} */
 export const valueMissing = (key) => `the value of ${key} is missing`;
 /** @type {(text: string) => string} */
-export const noValueMessage = (text) => `a value must be here, not ${text}`;
+export const noValueMessage = (text) => `a value is needed here, not ${text}`;
 /** @type {(text: string) => string} */
 export const leadingZeroMessage = (text) => `a number has no leading zero; write a text in quotes: "${text}"`;
 /** @type {(text: string) => string} */
@@ -231,7 +231,7 @@ export const ORG_ADDRESS = "an address, 0 to 4095";
 /** @type {(name: string, operands: string, extra: string) => string} */
 export const wrongOperandMessage = (name, operands, extra) => `${name} takes ${operands}${extra}`;
 /** @type {(operand: string) => string} */
-export const extraOperandNote = (operand) => `; ${operand} is one too many`;
+export const valueTooLargeNote = (operand) => `; the value of ${operand} is larger`;
 /** @type {(name: string, suggestion: string) => string} */
 export const notDefinedMessage = (name, suggestion) => `${name} is not defined${suggestion}`;
 /** @type {(name: string, line: number|undefined) => string} */

@@ -104,7 +104,7 @@ line 13: no 25, line 3 of the text: the board has no line ram3.0.0: no [[ram]] h
         { line = "rom0.3" }, { line = "ram3.0.0" },
 line 34: no 24, line 10 of the text: chip 1 is already on line 1
     chip = 1
-line 49: no 20, line 3 of the text: a value must be here, not =
+line 49: no 20, line 3 of the text: a value is needed here, not =
     chips = = 4
 line 55: no 33, line 2 of the text: LDM takes a value, 0 to 15
      LDM 16

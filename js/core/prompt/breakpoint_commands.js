@@ -178,7 +178,7 @@ export class BreakpointCommands {
 
   /** The text of `info watches`. */
   get watchesText() {
-    const places = this.watchedPlaces.map((place) => (place === this.watchedPlace ? say.continueOnlyWatch(place) : place));
+    const places = this.watchedPlaces.map((place) => (place === this.watchedPlace ? say.watchOfContinue(place) : place));
     return places.join("\n") || say.NOTHING_WATCHED;
   }
 

@@ -259,7 +259,7 @@ function findValueError({ head, operands, defines, label }, { instructions }) {
   const wrongOperand = tooLargeOperand || namedOperand;
   if (!wrongOperand) return null;
   const description = upperCaseWord === "ORG" ? say.ORG_ADDRESS : wrongOperand.kind.description;
-  const note = tooLargeOperand ? "" : say.extraOperandNote(wrongOperand.word.text);
+  const note = tooLargeOperand ? "" : say.valueTooLargeNote(wrongOperand.word.text);
   return { word: wrongOperand.word, message: say.wrongOperandMessage(upperCaseWord, description, note) };
 }
 
