@@ -71,7 +71,7 @@ function highlightAsTextMate() {
 
 // --- Kate: the first rule of the context that matches at each position. A rule can change the context.
 
-const LETTERS_OF_KATE = { Comment: "c", Face: "c", Label: "l", Constant: "k", Instruction: "i", Directive: "d", Register: "r", Number: "n", Name: "v",
+const KATE_LETTERS = { Comment: "c", Face: "c", Label: "l", Constant: "k", Instruction: "i", Directive: "d", Register: "r", Number: "n", Name: "v",
   Table: "t", Key: "p", String: "s", Normal: "." };
 const unescapeXml = (escaped) => escaped.replace(/&lt;/g, "<").replace(/&gt;/g, ">").replace(/&quot;/g, "\"").replace(/&amp;/g, "&");
 
@@ -89,7 +89,7 @@ function highlightAsKate() {
         candidate.pattern.lastIndex = start;
         return { ...candidate, match: candidate.pattern.exec(line) };
       }).find(({ match }) => match);
-      if (rule) ranges.push({ from: start, to: start + rule.match[0].length, letter: LETTERS_OF_KATE[rule.attribute] });
+      if (rule) ranges.push({ from: start, to: start + rule.match[0].length, letter: KATE_LETTERS[rule.attribute] });
       if (rule && !rule.next.startsWith("#")) context = rule.next;
       start += rule ? Math.max(1, rule.match[0].length) : 1;
     }

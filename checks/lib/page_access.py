@@ -210,14 +210,14 @@ def check_properties(browser):
 
 
 def check_dialogs(browser):
-    """Checks that the help, the dialog of sessions, and a question have names and enough contrast."""
+    """Checks that the help, the sessions dialog, and a confirmation dialog have accessible names and enough contrast."""
     browser.click("#help-button")
     browser.script(EXPAND_ALL, "#help")
     check_view(browser, "the help")
     browser.click("#help-close")
     browser.click("#sessions-button")
     eventually(browser, "the sessions dialog is open", "return document.getElementById('sessions').open", True)
-    nodes = check_view(browser, "the dialog of sessions")
+    nodes = check_view(browser, "the sessions dialog")
     verdict("the sessions dialog is modal", [properties.get("modal") for role, _, properties in nodes if role == "dialog"], [True])
     browser.click("#close-sessions")
     browser.click("#from-rom")

@@ -49,7 +49,7 @@ test("several sessions can be deleted at once, and restored unchanged", async ()
   const messages = [];
   const trash = new Trash(store, AVAILABLE_LOCKS, (message) => messages.push(message));
   const [firstRecord, secondRecord] = await store.getAll();
-  assert.deepEqual(await trash.remove([firstRecord, secondRecord]), [firstRecord, secondRecord]);
+  assert.deepEqual(await trash.deleteSessions([firstRecord, secondRecord]), [firstRecord, secondRecord]);
   assert.deepEqual((await store.getAll()).map(({ name }) => name), ["three"]);
   assert.deepEqual(trash.deletedRecords, [firstRecord, secondRecord]);
   await trash.restoreSessions([firstRecord, secondRecord]);
@@ -67,7 +67,7 @@ test("a session that is open in another tab is not deleted; a failed restoration
   const messages = [];
   const locks = { acquire: async (id) => (id === secondRecord.id ? null : () => {}) };
   const trash = new Trash(store, locks, (message) => messages.push(message));
-  assert.deepEqual(await trash.remove([firstRecord, secondRecord]), [firstRecord]);
+  assert.deepEqual(await trash.deleteSessions([firstRecord, secondRecord]), [firstRecord]);
   store.put = async () => { throw new DOMException("", "QuotaExceededError"); };
   await trash.restoreSessions([firstRecord]);
   assert.deepEqual(trash.deletedRecords, [firstRecord]);

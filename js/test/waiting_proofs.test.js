@@ -46,8 +46,8 @@ test("a proof uses the shortest wait of a text last", () => {
   ]);
   assert.deepEqual(limitsOf("wait 5 to 9\ntogether 1").map(({ maxKeysDown, words }) => [maxKeysDown, words]),
     [[1, ["together 1"]], [1, ["together 1", "wait"]]]);
-  // There are no limits without a `wait` (its default is only for searches), with `held`, which shortens waits, or from a saved state,
-  // which other inputs precede.
+  // A proof cannot use the default of `wait`, which is only for searches, nor a `wait` of one cycle, which allows all inputs. It cannot use
+  // any `wait` if a `held` shortens the waits, or if the runs begin in a saved state, before which other inputs came.
   for (const text of ["", "wait 1 to 9", "wait 2 to 9\nheld at most 1 s", "wait 2 to 9\nfrom saved"]) assert.deepEqual(limitsOf(text), []);
 });
 

@@ -104,7 +104,7 @@ is_other_system() {
     reason="$other_system_text x86-64, and this is $(uname -s) on $(uname -m)"
 }
 
-# Succeeds if no program runs on this system, as `reason` says, and none can be built here. Commands then run on the proved module.
+# Succeeds if the program cannot run on this system (`reason` says why), and cannot be built here. Commands then use the WebAssembly module.
 is_without_program() {
     case $reason in
     "$other_system_text"*) ;;

@@ -155,7 +155,7 @@ export class BreakpointManager {
     const newAddresses = addresses.filter((address) => !wantedAddresses.has(address) && !previousAddresses.has(address));
     for (const address of newAddresses) this.addFromBench(address);
     const missingAddresses = [...wantedAddresses].filter((address) => previousAddresses.has(address) && !addresses.includes(address));
-    for (const address of missingAddresses) this.removeMissing(address);
+    for (const address of missingAddresses) this.removeBreakpointAt(address);
     this.sendIfChanged();
   }
 
@@ -186,7 +186,7 @@ export class BreakpointManager {
    * Removes from the list a breakpoint that the bench no longer has.
    * @param {number} address
    */
-  removeMissing(address) {
+  removeBreakpointAt(address) {
     const breakpoint = this.list.findByAddress(address);
     if (breakpoint) this.list.remove(breakpoint.id);
   }

@@ -82,7 +82,7 @@ export function plannedCycles({ line, change }) {
 }
 
 /**
- * Returns the number of cycles until the next lines reach the goal; -1 if they stop before the goal or do not reach it.
+ * Returns the number of cycles until the next lines reach the goal; -1 if a run stops earlier, or if the lines end without reaching it.
  * @param {Engine} engine
  * @param {Uint8Array} file the session file; not changed
  * @param {PlannedLine[]} plannedLines the next lines

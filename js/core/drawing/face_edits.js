@@ -189,7 +189,8 @@ function renumberList(draft, line, deletedLamps, toNewNumber) {
 }
 
 /**
- * Returns the edits that renumber the lamps in a line with a colour range. The edits remove the line if no lamps remain.
+ * Returns the edits that renumber the lamps in a line that gives a colour to a range of lamps. The edits remove the line if no lamps
+ * remain.
  * @param {BoardDraft} draft
  * @param {FaceLine} line
  * @param {Set<number>} deletedLamps

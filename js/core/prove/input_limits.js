@@ -124,11 +124,11 @@ export function listInputLimits(campaign, board) {
     words: [...(limitsKeys ? inputWords : []), ...(usesCount ? [say.togetherLine(maxKeysDown)] : []), ...(usesWait ? [say.WAIT_WORD] : []),
       ...(usesHeld ? [say.HELD_WORD] : [])],
   });
-  const limitsKeyCountWithWait = maxKeysDown < proofKeys.length;
+  const isKeyCountLimited = maxKeysDown < proofKeys.length;
   return [
     ...(limitsKeys || limitsKeyCount ? [createLimits(limitsKeyCount, false, false)] : []),
-    ...(limitsWait ? [createLimits(limitsKeyCountWithWait, true, false)] : []),
-    ...(limitsWait && proofKeys.length > 0 && maxHoldTime <= MAX_PRESS_TIME ? [createLimits(limitsKeyCountWithWait, true, true)] : []),
+    ...(limitsWait ? [createLimits(isKeyCountLimited, true, false)] : []),
+    ...(limitsWait && proofKeys.length > 0 && maxHoldTime <= MAX_PRESS_TIME ? [createLimits(isKeyCountLimited, true, true)] : []),
   ];
 }
 

@@ -41,7 +41,7 @@ const lacksRom = (board, address) => findPortMarks(board, address >> 8) === "";
 
 /**
  * The functions that check whether the next instruction makes a mistake. The mistakes that are not listed here have property forms
- * (SEARCH_FORMS), so a search detects them.
+ * (PROPERTY_FORMS), so a search detects them.
  * @type {Partial<Record<keyof typeof say.MISTAKES, (state: MachineState) => boolean>>}
  */
 const MISTAKE_CHECKS = {
@@ -104,7 +104,7 @@ export function countCyclesToMistake(subject, file, word, cycles) {
 }
 
 /** The property forms of those mistakes that a search also detects, by the word for the mistake. */
-const SEARCH_FORMS = { code: "code", call: "calls", return: "returns" };
+const PROPERTY_FORMS = { code: "code", call: "calls", return: "returns" };
 
 /**
  * Returns all common mistakes, in the order in which they are reported.
@@ -113,7 +113,7 @@ const SEARCH_FORMS = { code: "code", call: "calls", return: "returns" };
 export function listMistakes() {
   const properties = standardProperties();
   return Object.entries(say.MISTAKES).map(([word, text]) => {
-    const property = properties.find(({ form }) => form === SEARCH_FORMS[/** @type {keyof typeof SEARCH_FORMS} */ (word)]);
+    const property = properties.find(({ form }) => form === PROPERTY_FORMS[/** @type {keyof typeof PROPERTY_FORMS} */ (word)]);
     return /** @type {Mistake} */ ({ word, property: { ...(property || properties[0]), ...(property ? {} : { form: "mistake" }), text } });
   });
 }

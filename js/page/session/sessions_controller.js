@@ -156,7 +156,7 @@ export class SessionsController {
    * @param {SessionRecord[]} records
    */
   async remove(records) {
-    const deletedRecords = await this.trash.remove(records);
+    const deletedRecords = await this.trash.deleteSessions(records);
     if (deletedRecords.length === 0) return;
     for (const { id } of deletedRecords) this.openingGuard.clearFlag(id);
     this.notice.show(say.sessionsDeleted(formatNames(deletedRecords)), "undo",

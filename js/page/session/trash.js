@@ -35,9 +35,9 @@ export class Trash {
    * deleting the session.
    * @param {SessionRecord[]} records
    */
-  async remove(records) {
+  async deleteSessions(records) {
     const deletedRecords = [];
-    for (const record of records) if (await this.removeSession(record)) deletedRecords.push(record);
+    for (const record of records) if (await this.deleteSession(record)) deletedRecords.push(record);
     this.deletedRecords = [...deletedRecords, ...this.deletedRecords];
     return deletedRecords;
   }
@@ -46,7 +46,7 @@ export class Trash {
    * Deletes a session. Resolves to true if it was deleted. Otherwise, reports the reason to the user and resolves to false.
    * @param {SessionRecord} record
    */
-  async removeSession(record) {
+  async deleteSession(record) {
     const release = await this.locks.acquire(record.id);
     if (!release) {
       this.showNotice(say.openElsewhere(record.name));
