@@ -2,8 +2,8 @@
 # proved here. A script reads this file with `.`, after tools/lib/sums.sh.
 # shellcheck shell=sh
 
-# Prints the name of the file that records the libraries on which a crate depends, as they were built here. For each library, it has the checksum of
-# the library's file `format`, with which the other files of the library are verified.
+# Prints the name of the file that lists the libraries on which a crate depends, as they were built here. Each has the checksum of its file `format`,
+# with which the library's other files are verified.
 libraries_of() {
     echo "$top/crates/$1/out/libraries"
 }
@@ -15,7 +15,7 @@ record_libraries() {
     record_built "$(sum_of_crate "$1")" "$(libraries_of "$1")"
 }
 
-# Succeeds if this user has proved and built here, from the present sources, all libraries on which a crate depends.
+# Succeeds if the libraries on which a crate depends are those that this user has proved and built here from the present sources.
 has_libraries() {
     is_own_record && [ -f "$(libraries_of "$1")" ] && grep -qxF -- "$(sum_of_crate "$1") $(sum_of_input < "$(libraries_of "$1")")" "$build_record" &&
         (cd "$top" && sha256sum --status -c "$(libraries_of "$1")")
