@@ -102,7 +102,7 @@ function pageResult(engine, file, input, call = "bench_serve") {
     const { status, openingAnswer, answers } = engine.callForAnswers(call, file || engine.begin(), input);
     const { instance } = engine;
     const size = file ? file.length : engine.size;
-    return { output: [openingAnswer, ...answers, ""].join("\n"), status, file: instance.view(instance.fileBuffer, size).slice() };
+    return { output: [openingAnswer, ...answers, ""].join("\n"), status, file: instance.viewBytes(instance.fileBuffer, size).slice() };
   } catch (error) {
     return { output: `${error.message}\n`, status: 3, file };
   }
@@ -112,7 +112,7 @@ function settle(engine, file) {
   const { instance } = engine;
   instance.copyFile(file);
   if (!engine.call((calls) => calls.bench_settle(instance.fileBuffer.offset, BigInt(file.length)))) return file;
-  return instance.view(instance.fileBuffer, file.length).slice();
+  return instance.viewBytes(instance.fileBuffer, file.length).slice();
 }
 
 // Patterns for the beginning of an answer, by the kind of input that it answers.
